@@ -1,0 +1,44 @@
+-- UTF-8 as the table of byte sequences in RFC 3629, section 4, has it. Definitions only.
+-- A byte past the end reads as 0, which is no tail byte, so a character that is cut needs no case of its own.
+use mathlib.Core.Bool.{Bool, true, false, cond, _&&_, _||_}
+use mathlib.Core.List.{List}
+use Prim.Native.Nat.{ℕ}
+use lib.Dec.{leb, eqb}
+use lib.ListN.{length, drop, getD}
+use Rattle.lists.specs.Recur.{recur}
+
+abbrev pub within : ℕ → ℕ → ℕ → Bool
+within lo hi b = leb lo b && leb b hi
+
+-- UTF8-tail = %x80-BF
+abbrev pub utf8Tail : ℕ → Bool
+utf8Tail b = within 0x80 0xBF b
+
+-- the first byte of UTF8-2 = %xC2-DF UTF8-tail
+abbrev pub lead2 : ℕ → Bool
+lead2 a = within 0xC2 0xDF a
+
+-- the first two bytes of UTF8-3 = %xE0 %xA0-BF UTF8-tail / %xE1-EC 2( UTF8-tail ) / %xED %x80-9F UTF8-tail / %xEE-EF 2( UTF8-tail )
+abbrev pub lead3 : ℕ → ℕ → Bool
+lead3 a b =
+    (eqb a 0xE0 && within 0xA0 0xBF b) || (within 0xE1 0xEC a && utf8Tail b)
+    || (eqb a 0xED && within 0x80 0x9F b) || (within 0xEE 0xEF a && utf8Tail b)
+
+-- the first two bytes of UTF8-4 = %xF0 %x90-BF 2( UTF8-tail ) / %xF1-F3 3( UTF8-tail ) / %xF4 %x80-8F 2( UTF8-tail )
+abbrev pub lead4 : ℕ → ℕ → Bool
+lead4 a b = (eqb a 0xF0 && within 0x90 0xBF b) || (within 0xF1 0xF3 a && utf8Tail b) || (eqb a 0xF4 && within 0x80 0x8F b)
+
+-- how many bytes the character at the front takes, 0 where there is none
+unfoldable pub charLen : List ℕ → ℕ
+charLen s =
+    cond (leb (getD s 0 0) 0x7F) 1
+    (cond (lead2 (getD s 0 0) && utf8Tail (getD s 1 0)) 2
+    (cond (lead3 (getD s 0 0) (getD s 1 0) && utf8Tail (getD s 2 0)) 3
+    (cond (lead4 (getD s 0 0) (getD s 1 0) && utf8Tail (getD s 2 0) && utf8Tail (getD s 3 0)) 4 0)))
+
+-- UTF8-octets = *( UTF8-char )
+unfoldable pub utf8Step : (List ℕ → Bool) → List ℕ → Bool
+utf8Step rest s = cond (eqb (length s) 0) true (cond (eqb (charLen s) 0) false (rest (drop (charLen s) s)))
+
+unfoldable pub utf8 : List ℕ → Bool
+utf8 = recur false utf8Step

@@ -1,0 +1,93 @@
+-- Texts as lists of bytes: what the definitions of the other crates are written with. Definitions only.
+use mathlib.Core.Bool.{Bool, true, false, cond, not, _&&_, _||_}
+use mathlib.Core.List.{List, [], _∷_, _++_}
+use Prim.Native.Nat.{ℕ, suc, _+_, _-_}
+use Prim.Native.Char.{code}
+use Prim.Native.String.{String, [] as end, _∷_ as _▹_}
+use lib.Dec.{leb, eqb}
+use lib.ListN.{length, take, drop, getD}
+
+-- the bytes of a quoted ASCII text
+abbrev pub bytes : String → List ℕ
+bytes end = []
+bytes (c ▹ s) = code c ∷ bytes s
+
+-- every byte passes p
+unfoldable pub all : (ℕ → Bool) → List ℕ → Bool
+all p [] = true
+all p (b ∷ s) = p b && all p s
+
+-- how many bytes at the front pass p
+unfoldable pub span : (ℕ → Bool) → List ℕ → ℕ
+span p [] = 0
+span p (b ∷ s) = cond (p b) (suc (span p s)) 0
+
+-- the place after the last byte that passes p, 0 where none does
+unfoldable pub afterLast : (ℕ → Bool) → List ℕ → ℕ
+afterLast p [] = 0
+afterLast p (b ∷ s) = cond (eqb (afterLast p s) 0) (cond (p b) 1 0) (suc (afterLast p s))
+
+-- c is one of the bytes
+unfoldable pub has : ℕ → List ℕ → Bool
+has c [] = false
+has c (b ∷ s) = eqb b c || has c s
+
+-- the second text is the first with f applied to each byte
+unfoldable pub sameBy : (ℕ → ℕ) → List ℕ → List ℕ → Bool
+sameBy f [] [] = true
+sameBy f [] (c ∷ t) = false
+sameBy f (b ∷ s) [] = false
+sameBy f (b ∷ s) (c ∷ t) = eqb (f b) c && sameBy f s t
+
+-- the two texts are the same bytes
+abbrev pub same : List ℕ → List ℕ → Bool
+same = sameBy (λ b. b)
+
+-- A to Z lowered, any other byte as it is
+abbrev pub lower : ℕ → ℕ
+lower b = cond (leb 65 b && leb b 90) (b + 32) b
+
+-- the text starts with the byte c
+abbrev pub starts : ℕ → List ℕ → Bool
+starts c s = not (eqb (length s) 0) && eqb (getD s 0 0) c
+
+-- the text ends with the byte c
+abbrev pub ends : ℕ → List ℕ → Bool
+ends c s = not (eqb (length s) 0) && eqb (getD s (length s - 1) 0) c
+
+-- the text without the byte c at its front, where it stands there
+abbrev pub stripPrefix : ℕ → List ℕ → List ℕ
+stripPrefix c s = cond (starts c s) (drop 1 s) s
+
+-- the text without the byte c at its end, where it stands there
+abbrev pub stripSuffix : ℕ → List ℕ → List ℕ
+stripSuffix c s = cond (ends c s) (take (length s - 1) s) s
+
+-- the text ends with t, once f is applied to each of its bytes
+abbrev pub endsBy : (ℕ → ℕ) → List ℕ → List ℕ → Bool
+endsBy f t s = leb (length t) (length s) && sameBy f (drop (length s - length t) s) t
+
+-- a byte more at the front of the first part
+unfoldable pub onto : ℕ → List (List ℕ) → List (List ℕ)
+onto b [] = (b ∷ []) ∷ []
+onto b (p ∷ ps) = (b ∷ p) ∷ ps
+
+-- the parts between the bytes c: a text without c is one part
+unfoldable pub split : ℕ → List ℕ → List (List ℕ)
+split c [] = [] ∷ []
+split c (b ∷ s) = cond (eqb b c) ([] ∷ split c s) (onto b (split c s))
+
+-- every part passes p
+unfoldable pub allParts : (List ℕ → Bool) → List (List ℕ) → Bool
+allParts p [] = true
+allParts p (s ∷ ss) = p s && allParts p ss
+
+-- the parts that are not empty
+unfoldable pub filled : List (List ℕ) → List (List ℕ)
+filled [] = []
+filled ([] ∷ ss) = filled ss
+filled ((b ∷ s) ∷ ss) = (b ∷ s) ∷ filled ss
+
+-- the new bytes, and what stood past them
+abbrev pub over : List ℕ → List ℕ → List ℕ
+over new old = new ++ drop (length new) old

@@ -1,0 +1,251 @@
+// Bytes of a text: reads and parts that are total, scans, comparisons and the clipped copy. Nothing here demands
+// anything of its caller, and each contract is one equation.
+ghost use mathlib.Core.Path.{_≡_};
+ghost use mathlib.Core.Bool.{cond, not, _&&_, _||_};
+ghost use Prim.Native.Nat.{_+_, _-_, _*_, min};
+ghost use lib.Dec.{eqb};
+ghost use lib.ListN.{length, take, drop, getD};
+ghost use lib.Seq.{sets};
+ghost use Rattle.lists.specs.Bytes.{all, span, afterLast, sameBy, lower, starts, ends, stripPrefix, stripSuffix, endsBy};
+ghost use Rattle.lists.specs.Classes.{digit, letter, inClass, folded};
+ghost use Rattle.lists.specs.Packed.{packedRow};
+
+// A class of bytes.
+pub enum Class {
+    Digit,
+    Letter,
+    DigitOrComma,
+    DigitOrDash,
+    RomanTail,
+    ColonNorPoint,
+    Only(u8),
+    Not(u8),
+}
+
+// What a comparison does to each byte of its first text.
+pub enum Fold {
+    Exact,
+    Lower,
+}
+
+// The byte at i, or 0 past the end.
+pub fn byte_at(s: &[u8], i: usize) -> u8
+    ensures { λ r. ⌜ r ≡ getD (now (s .entry)) i 0 ⌝ }
+{
+    if i < s.len() { s[i] } else { 0 }
+}
+
+// The first k bytes, or all of them where there are fewer.
+pub fn front(s: &[u8], k: usize) -> &[u8]
+    ensures { λ r. ⌜ now r ≡ take k (now (s .entry)) ⌝ }
+{
+    if k <= s.len() {
+        return &s[..k];
+    }
+    s
+}
+
+// What follows the first k bytes, nothing where there are fewer.
+pub fn tail(s: &[u8], k: usize) -> &[u8]
+    ensures { λ r. ⌜ now r ≡ drop k (now (s .entry)) ⌝ }
+{
+    if k <= s.len() {
+        return &s[k..];
+    }
+    &s[..0]
+}
+
+// The last k bytes, or all of them where there are fewer.
+pub fn back(s: &[u8], k: usize) -> &[u8]
+    ensures { λ r. ⌜ now r ≡ drop (length (now (s .entry)) - k) (now (s .entry)) ⌝ }
+{
+    if k <= s.len() {
+        return tail(s, s.len() - k);
+    }
+    s
+}
+
+// All but the last k bytes, nothing where there are fewer.
+pub fn without_back(s: &[u8], k: usize) -> &[u8]
+    ensures { λ r. ⌜ now r ≡ take (length (now (s .entry)) - k) (now (s .entry)) ⌝ }
+{
+    if k <= s.len() {
+        return front(s, s.len() - k);
+    }
+    &s[..0]
+}
+
+pub fn starts_with(s: &[u8], c: u8) -> bool
+    ensures { λ r. ⌜ r ≡ starts c (now (s .entry)) ⌝ }
+{
+    (s.len() != 0) & (byte_at(s, 0) == c)
+}
+
+pub fn strip_prefix(s: &[u8], c: u8) -> &[u8]
+    ensures { λ r. ⌜ now r ≡ stripPrefix c (now (s .entry)) ⌝ }
+{
+    if starts_with(s, c) {
+        return tail(s, 1);
+    }
+    s
+}
+
+pub fn ends_with(s: &[u8], c: u8) -> bool
+    ensures { λ r. ⌜ r ≡ ends c (now (s .entry)) ⌝ }
+{
+    starts_with(back(s, 1), c)
+}
+
+pub fn strip_suffix(s: &[u8], c: u8) -> &[u8]
+    ensures { λ r. ⌜ now r ≡ stripSuffix c (now (s .entry)) ⌝ }
+{
+    if ends_with(s, c) {
+        return without_back(s, 1);
+    }
+    s
+}
+
+pub fn is_digit(b: u8) -> bool
+    ensures { λ r. ⌜ r ≡ digit b ⌝ }
+{
+    (48 <= b) & (b <= 57)
+}
+
+pub fn is_letter(b: u8) -> bool
+    ensures { λ r. ⌜ r ≡ letter b ⌝ }
+{
+    ((65 <= b) & (b <= 90)) | ((97 <= b) & (b <= 122))
+}
+
+pub fn to_lower(b: u8) -> u8
+    ensures { λ r. ⌜ r ≡ lower b ⌝ }
+{
+    if (65 <= b) & (b <= 90) { b + 32 } else { b }
+}
+
+// Whether b is of the class k.
+pub fn in_class(k: Class, b: u8) -> bool
+    ensures { λ r. ⌜ r ≡ inClass k b ⌝ }
+{
+    match k {
+        Class::Digit => is_digit(b),
+        Class::Letter => is_letter(b),
+        Class::DigitOrComma => ((48 <= b) & (b <= 57)) | (b == 44),
+        Class::DigitOrDash => ((48 <= b) & (b <= 57)) | (b == 45),
+        Class::RomanTail => (b == 86) | (b == 73) | (b == 88),
+        Class::ColonNorPoint => !((b == 58) | (b == 46)),
+        Class::Only(c) => b == c,
+        Class::Not(c) => b != c,
+    }
+}
+
+// Whether every byte is of the class k.
+pub fn all_of(k: Class, s: &[u8]) -> bool
+    ensures { λ r. ⌜ r ≡ all (inClass k) (now (s .entry)) ⌝ }
+{
+    let mut i = 0;
+    while i < s.len() {
+        if !in_class(k, s[i]) {
+            return false;
+        }
+        i += 1;
+    }
+    true
+}
+
+// How many bytes at the front are of the class k.
+pub fn span_of(k: Class, s: &[u8]) -> usize
+    ensures { λ r. ⌜ r ≡ span (inClass k) (now (s .entry)) ⌝ }
+{
+    let mut i = 0;
+    while i < s.len() {
+        if !in_class(k, s[i]) {
+            return i;
+        }
+        i += 1;
+    }
+    i
+}
+
+// The place after the last byte of the class k, 0 where there is none.
+pub fn after_last(k: Class, s: &[u8]) -> usize
+    ensures { λ r. ⌜ r ≡ afterLast (inClass k) (now (s .entry)) ⌝ }
+{
+    let mut i = s.len();
+    while 0 < i {
+        if in_class(k, s[i - 1]) {
+            return i;
+        }
+        i -= 1;
+    }
+    0
+}
+
+pub fn fold_byte(f: Fold, b: u8) -> u8
+    ensures { λ r. ⌜ r ≡ folded f b ⌝ }
+{
+    match f {
+        Fold::Exact => b,
+        Fold::Lower => to_lower(b),
+    }
+}
+
+// Whether t is s with f applied to each byte.
+pub fn same(f: Fold, s: &[u8], t: &[u8]) -> bool
+    ensures { λ r. ⌜ r ≡ sameBy (folded f) (now (s .entry)) (now (t .entry)) ⌝ }
+{
+    if s.len() != t.len() {
+        return false;
+    }
+    let mut i = 0;
+    while i < s.len() {
+        if fold_byte(f, s[i]) != t[i] {
+            return false;
+        }
+        i += 1;
+    }
+    true
+}
+
+// Whether s, with f applied to each byte, ends with t.
+pub fn ends_same(f: Fold, s: &[u8], t: &[u8]) -> bool
+    ensures { λ r. ⌜ r ≡ endsBy (folded f) (now (t .entry)) (now (s .entry)) ⌝ }
+{
+    if t.len() <= s.len() {
+        return same(f, back(s, t.len()), t);
+    }
+    false
+}
+
+// The text in row k of a table whose rows are w bytes wide.
+pub fn packed_row(t: &[u8], w: u8, k: u8) -> &[u8]
+    ensures { λ r. ⌜ now r ≡ packedRow w (now (t .entry)) k ⌝ }
+{
+    let at = (w as usize) * (k as usize);
+    front(tail(t, at + 1), byte_at(t, at) as usize)
+}
+
+// How many of n bytes from index `at` on fall within len bytes.
+fn clip(len: usize, at: usize, n: usize) -> usize
+    ensures { λ r. ⌜ r ≡ min n (len - at) ⌝ }
+{
+    if len <= at {
+        return 0;
+    }
+    if n <= len - at {
+        return n;
+    }
+    len - at
+}
+
+// Stores src from index `at` on, as far as it falls within out.
+pub fn put(out: &mut [u8], at: usize, src: &[u8])
+    ensures { λ _. ⌜ now (out .exit) ≡ sets (now (out .entry)) at (now (src .entry)) ⌝ }
+{
+    let n = clip(out.len(), at, src.len());
+    let mut i = 0;
+    while i < n {
+        out[at + i] = src[i];
+        i += 1;
+    }
+}

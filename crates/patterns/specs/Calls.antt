@@ -1,0 +1,67 @@
+-- What the public calls of patterns.rs' functions answer. Definitions only.
+use mathlib.Core.Bool.{Bool, false, cond}
+use mathlib.Core.List.{List}
+use Prim.Native.Nat.{ℕ}
+use lib.Dec.{ltb}
+use lib.ListN.{length}
+use Rattle.admit.specs.Refusals.{answerNumber, refusal, textLimit, textDue, textRefusal, Call, call}
+use Rattle.lists.specs.Bytes.{over}
+use Rattle.units.specs.Units.{isUnit, unitWord}
+use Rattle.shapes.specs.Shapes.{unitAt, hasUnit, unitPart}
+use Rattle.shapes.specs.Times.{timeSplit}
+use Rattle.shapes.specs.declared.TimeSplit.{TimeSplit}
+use Rattle.shapes.specs.declared.TimeSplit.the-variants.{Nothing}
+use Rattle.patterns.specs.declared.Verdict.{Verdict}
+use Rattle.patterns.specs.declared.SplitTime.{SplitTime}
+use Rattle.patterns.specs.declared.SplitUnit.{SplitUnit}
+use Rattle.patterns.specs.declared.UnitWord.{UnitWord}
+
+-- a verdict as a call's answer: document 01's number for the enum, and the verdict
+abbrev pub asVerdict : Verdict → Call Bool
+asVerdict r = record { refusal = answerNumber (r .answer); value = r .yes }
+
+-- "every verdict no": a call that gives the verdict v of the text s
+abbrev pub verdictCall : List ℕ → Bool → Call Bool
+verdictCall s v = call false (textRefusal textLimit s) v
+
+abbrev pub asTime : SplitTime → Call TimeSplit
+asTime r = record { refusal = answerNumber (r .answer); value = r .split }
+
+-- split_time_meridiem: "hour, minute and meridiem, or none", and "no part" where it is refused
+abbrev pub timeCall : List ℕ → Call TimeSplit
+timeCall s = call Nothing (textRefusal textLimit s) (timeSplit s)
+
+-- a part of the lent name, or none: no, at 0, of 0 bytes
+pub record FoundPart : Type 0 where
+  pub found : Bool
+  pub offset : ℕ
+  pub size : ℕ
+
+abbrev pub noPart : FoundPart
+noPart = record { found = false; offset = 0; size = 0 }
+
+abbrev pub asUnit : SplitUnit → Call FoundPart
+asUnit r = record { refusal = answerNumber (r .answer); value = record { found = r .yes; offset = r .offset; size = r .len } }
+
+-- split_unit: the unit's place in the name
+abbrev pub unitFound : List ℕ → FoundPart
+unitFound s = cond (hasUnit s) (record { found = hasUnit s; offset = unitAt s; size = length (unitPart s) }) noPart
+
+abbrev pub unitCall : List ℕ → Call FoundPart
+unitCall s = call noPart (textRefusal textLimit s) (unitFound s)
+
+-- a word in a lent store: whether there is one, its length, and the store's bytes as the call leaves them
+pub record Stored : Type 0 where
+  pub found : Bool
+  pub size : ℕ
+  pub store : List ℕ
+
+abbrev pub asWord : UnitWord → List ℕ → Call Stored
+asWord r store = record { refusal = answerNumber (r .answer); value = record { found = r .yes; size = r .len; store = store } }
+
+-- unit_word: "a lent output buffer is smaller than the whole result" where the word does not fit
+abbrev pub wordCall : List ℕ → List ℕ → Call Stored
+wordCall s store =
+    call (record { found = false; size = 0; store = store })
+    (refusal (textDue textLimit s (ltb (length store) (length (unitWord s)))))
+    (record { found = isUnit s; size = length (unitWord s); store = over (unitWord s) store })

@@ -1,0 +1,203 @@
+// The public functions of patterns.rs, in its order and under its names: each takes all bytes, and answers its verdict or
+// the one refusal that is due.
+use admit::Answer;
+use admit::Refusal;
+use admit::TEXT_LIMIT;
+use admit::admit;
+use lists::byte_at;
+use lists::put;
+use shapes::Shape;
+use shapes::TimeSplit;
+use shapes::has_shape;
+ghost use mathlib.Core.Path.{_≡_};
+ghost use Rattle.shapes.specs.Kinds.{hasShape};
+ghost use Rattle.shapes.specs.Shapes.{isDigits, isAlpha, isDouble, isCommaInt, isOrdinal, isUsMoney, isIllion, isRoman, isDrOrSt, isNumberS, isLeadingZeroDigits, isSevenDigitPhone, isNDigits, isTime, isDottedAbbrev, isDigitsSlashDigits, isDigitsDashDigits};
+ghost use Rattle.patterns.specs.Calls.{asVerdict, verdictCall, asTime, timeCall, asUnit, unitCall, asWord, wordCall};
+
+// A shape's verdict; no where the call is refused.
+pub struct Verdict {
+    pub answer: Answer,
+    pub yes: bool,
+}
+
+// The offsets of hour, minute and meridiem, or none.
+pub struct SplitTime {
+    pub answer: Answer,
+    pub split: TimeSplit,
+}
+
+// The unit's place in the name; no, 0 and 0 where there is none.
+pub struct SplitUnit {
+    pub answer: Answer,
+    pub yes: bool,
+    pub offset: usize,
+    pub len: usize,
+}
+
+// Whether there is a word, and its length in the store.
+pub struct UnitWord {
+    pub answer: Answer,
+    pub yes: bool,
+    pub len: usize,
+}
+
+// The verdict of a shape by its kind: what every verdict shares.
+pub fn verdict(shape: Shape, s: &[u8]) -> Verdict
+    ensures { λ r. ⌜ asVerdict r ≡ verdictCall (now (s .entry)) (hasShape shape (now (s .entry))) ⌝ }
+{
+    let answer = admit(TEXT_LIMIT, s);
+    let Answer::Accepted = answer else {
+        return Verdict { answer, yes: false };
+    };
+    Verdict {
+        answer: Answer::Accepted,
+        yes: has_shape(shape, s),
+    }
+}
+
+pub fn is_digits(s: &[u8]) -> Verdict
+    ensures { λ r. ⌜ asVerdict r ≡ verdictCall (now (s .entry)) (isDigits (now (s .entry))) ⌝ }
+{
+    verdict(Shape::Digits, s)
+}
+
+pub fn is_alpha(s: &[u8]) -> Verdict
+    ensures { λ r. ⌜ asVerdict r ≡ verdictCall (now (s .entry)) (isAlpha (now (s .entry))) ⌝ }
+{
+    verdict(Shape::Alpha, s)
+}
+
+pub fn is_double(s: &[u8]) -> Verdict
+    ensures { λ r. ⌜ asVerdict r ≡ verdictCall (now (s .entry)) (isDouble (now (s .entry))) ⌝ }
+{
+    verdict(Shape::Double, s)
+}
+
+pub fn is_comma_int(s: &[u8]) -> Verdict
+    ensures { λ r. ⌜ asVerdict r ≡ verdictCall (now (s .entry)) (isCommaInt (now (s .entry))) ⌝ }
+{
+    verdict(Shape::CommaInt, s)
+}
+
+pub fn is_ordinal(s: &[u8]) -> Verdict
+    ensures { λ r. ⌜ asVerdict r ≡ verdictCall (now (s .entry)) (isOrdinal (now (s .entry))) ⌝ }
+{
+    verdict(Shape::Ordinal, s)
+}
+
+pub fn is_us_money(s: &[u8]) -> Verdict
+    ensures { λ r. ⌜ asVerdict r ≡ verdictCall (now (s .entry)) (isUsMoney (now (s .entry))) ⌝ }
+{
+    verdict(Shape::UsMoney, s)
+}
+
+pub fn is_illion(s: &[u8]) -> Verdict
+    ensures { λ r. ⌜ asVerdict r ≡ verdictCall (now (s .entry)) (isIllion (now (s .entry))) ⌝ }
+{
+    verdict(Shape::Illion, s)
+}
+
+pub fn is_roman(s: &[u8]) -> Verdict
+    ensures { λ r. ⌜ asVerdict r ≡ verdictCall (now (s .entry)) (isRoman (now (s .entry))) ⌝ }
+{
+    verdict(Shape::Roman, s)
+}
+
+pub fn is_dr_or_st(s: &[u8]) -> Verdict
+    ensures { λ r. ⌜ asVerdict r ≡ verdictCall (now (s .entry)) (isDrOrSt (now (s .entry))) ⌝ }
+{
+    verdict(Shape::DrOrSt, s)
+}
+
+pub fn is_number_s(s: &[u8]) -> Verdict
+    ensures { λ r. ⌜ asVerdict r ≡ verdictCall (now (s .entry)) (isNumberS (now (s .entry))) ⌝ }
+{
+    verdict(Shape::NumberS, s)
+}
+
+pub fn is_leading_zero_digits(s: &[u8]) -> Verdict
+    ensures { λ r. ⌜ asVerdict r ≡ verdictCall (now (s .entry)) (isLeadingZeroDigits (now (s .entry))) ⌝ }
+{
+    verdict(Shape::LeadingZeroDigits, s)
+}
+
+pub fn is_seven_digit_phone(s: &[u8]) -> Verdict
+    ensures { λ r. ⌜ asVerdict r ≡ verdictCall (now (s .entry)) (isSevenDigitPhone (now (s .entry))) ⌝ }
+{
+    verdict(Shape::SevenDigitPhone, s)
+}
+
+pub fn is_n_digits(s: &[u8], n: usize) -> Verdict
+    ensures { λ r. ⌜ asVerdict r ≡ verdictCall (now (s .entry)) (isNDigits n (now (s .entry))) ⌝ }
+{
+    verdict(Shape::NDigits(n), s)
+}
+
+pub fn is_time(s: &[u8]) -> Verdict
+    ensures { λ r. ⌜ asVerdict r ≡ verdictCall (now (s .entry)) (isTime (now (s .entry))) ⌝ }
+{
+    verdict(Shape::Time, s)
+}
+
+pub fn split_time_meridiem(s: &[u8]) -> SplitTime
+    ensures { λ r. ⌜ asTime r ≡ timeCall (now (s .entry)) ⌝ }
+{
+    let answer = admit(TEXT_LIMIT, s);
+    let Answer::Accepted = answer else {
+        return SplitTime {
+            answer,
+            split: TimeSplit::Nothing,
+        };
+    };
+    SplitTime {
+        answer: Answer::Accepted,
+        split: shapes::split_time_meridiem(s),
+    }
+}
+
+pub fn is_dotted_abbrev(s: &[u8]) -> Verdict
+    ensures { λ r. ⌜ asVerdict r ≡ verdictCall (now (s .entry)) (isDottedAbbrev (now (s .entry))) ⌝ }
+{
+    verdict(Shape::DottedAbbrev, s)
+}
+
+pub fn is_digits_slash_digits(s: &[u8]) -> Verdict
+    ensures { λ r. ⌜ asVerdict r ≡ verdictCall (now (s .entry)) (isDigitsSlashDigits (now (s .entry))) ⌝ }
+{
+    verdict(Shape::DigitsSlashDigits, s)
+}
+
+pub fn is_digits_dash_digits(s: &[u8]) -> Verdict
+    ensures { λ r. ⌜ asVerdict r ≡ verdictCall (now (s .entry)) (isDigitsDashDigits (now (s .entry))) ⌝ }
+{
+    verdict(Shape::DigitsDashDigits, s)
+}
+
+pub fn split_unit(s: &[u8]) -> SplitUnit
+    ensures { λ r. ⌜ asUnit r ≡ unitCall (now (s .entry)) ⌝ }
+{
+    let answer = admit(TEXT_LIMIT, s);
+    let Answer::Accepted = answer else {
+        return SplitUnit {
+            answer,
+            yes: false,
+            offset: 0,
+            len: 0,
+        };
+    };
+    let unit = shapes::split_unit(s);
+    if unit.len() == 0 {
+        return SplitUnit {
+            answer: Answer::Accepted,
+            yes: false,
+            offset: 0,
+            len: 0,
+        };
+    }
+    SplitUnit {
+        answer: Answer::Accepted,
+        yes: true,
+        offset: s.len() - unit.len(),
+        len: unit.len(),
+    }
+}

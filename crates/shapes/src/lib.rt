@@ -1,0 +1,388 @@
+// The shapes of patterns.rs on names that are admitted already, in that file's order and under its names. Each is total
+// on all bytes, so nothing is demanded; the public calls of the crate patterns put admission in front of them.
+use lists::Class;
+use lists::Fold;
+use lists::after_last;
+use lists::all_of;
+use lists::byte_at;
+use lists::back;
+use lists::ends_same;
+use lists::ends_with;
+use lists::front;
+use lists::is_digit;
+use lists::same;
+use lists::span_of;
+use lists::starts_with;
+use lists::strip_prefix;
+use lists::strip_suffix;
+use lists::tail;
+use lists::without_back;
+ghost use mathlib.Core.Path.{_≡_};
+ghost use lib.ListN.{length, take, drop};
+ghost use Rattle.lists.specs.Bytes.{split, allParts};
+ghost use Rattle.shapes.specs.Shapes.{isDigits, isAlpha, stripSign, isExponent, isUnsigned, isDouble, isCommaInt, isOrdinalSuffix, isOrdinal, isAmount, isUsMoney, isIllion, isSmallRoman, isRoman, isDrOrSt, isNumberS, isLeadingZeroDigits, isSevenDigitPhone, isNDigits, splitOnce, isHourMinute, isTime, isDottedAbbrev, isDigitsSlashDigits, isDigitsDashDigits, hasUnit, unitPart};
+ghost use Rattle.shapes.specs.Times.{endsInMeridiem, timeSplit};
+ghost use Rattle.shapes.specs.Kinds.{hasShape, passes, bothPass};
+
+// The verdicts.
+pub enum Shape {
+    Digits,
+    Alpha,
+    Double,
+    CommaInt,
+    Ordinal,
+    UsMoney,
+    Illion,
+    Roman,
+    DrOrSt,
+    NumberS,
+    LeadingZeroDigits,
+    SevenDigitPhone,
+    NDigits(usize),
+    Time,
+    DottedAbbrev,
+    DigitsSlashDigits,
+    DigitsDashDigits,
+}
+
+// The tests of a part between separators.
+pub enum PartTest {
+    ThreeDigits,
+    OneLetter,
+}
+
+// The tests of the two parts at a first separator.
+pub enum PairTest {
+    Phone,
+    HourMinute,
+    TwoNumbers,
+}
+
+// What split_time_meridiem finds: where the hour ends, where the minute starts, and where it ends and the meridiem starts.
+pub enum TimeSplit {
+    At {
+        hour: usize,
+        minute: usize,
+        meridiem: usize,
+    },
+    Nothing,
+}
+
+pub fn is_digits(s: &[u8]) -> bool
+    ensures { λ r. ⌜ r ≡ isDigits (now (s .entry)) ⌝ }
+{
+    (s.len() != 0) & all_of(Class::Digit, s)
+}
+
+pub fn is_alpha(s: &[u8]) -> bool
+    ensures { λ r. ⌜ r ≡ isAlpha (now (s .entry)) ⌝ }
+{
+    (s.len() != 0) & all_of(Class::Letter, s)
+}
+
+fn strip_sign(s: &[u8]) -> &[u8]
+    ensures { λ r. ⌜ now r ≡ stripSign (now (s .entry)) ⌝ }
+{
+    if starts_with(s, 43) | starts_with(s, 45) {
+        return tail(s, 1);
+    }
+    s
+}
+
+fn is_exponent(s: &[u8]) -> bool
+    ensures { λ r. ⌜ r ≡ isExponent (now (s .entry)) ⌝ }
+{
+    if starts_with(s, 101) | starts_with(s, 69) {
+        return is_digits(strip_sign(tail(s, 1)));
+    }
+    s.len() == 0
+}
+
+fn is_unsigned(s: &[u8]) -> bool
+    ensures { λ r. ⌜ r ≡ isUnsigned (now (s .entry)) ⌝ }
+{
+    let int = span_of(Class::Digit, s);
+    let rest = tail(s, int);
+    if starts_with(rest, 46) {
+        let after = tail(rest, 1);
+        let frac = span_of(Class::Digit, after);
+        return !((int == 0) & (frac == 0)) & is_exponent(tail(after, frac));
+    }
+    (int != 0) & is_exponent(rest)
+}
+
+pub fn is_double(s: &[u8]) -> bool
+    ensures { λ r. ⌜ r ≡ isDouble (now (s .entry)) ⌝ }
+{
+    is_unsigned(strip_prefix(s, 45))
+}
+
+// Whether a part between separators passes.
+fn part_passes(test: PartTest, s: &[u8]) -> bool
+    ensures { λ r. ⌜ r ≡ passes test (now (s .entry)) ⌝ }
+{
+    match test {
+        PartTest::ThreeDigits => is_n_digits(s, 3),
+        PartTest::OneLetter => (s.len() == 1) & is_alpha(s),
+    }
+}
+
+// Whether every part between the bytes c passes.
+fn all_parts(test: PartTest, c: u8, s: &[u8]) -> bool
+    ensures { λ r. ⌜ r ≡ allParts (passes test) (split c (now (s .entry))) ⌝ }
+{
+    let mut i = 0;
+    loop {
+        let rest = tail(s, i);
+        let n = span_of(Class::Not(c), rest);
+        if !part_passes(test, front(rest, n)) {
+            return false;
+        }
+        if rest.len() <= n {
+            return true;
+        }
+        i += n + 1;
+    }
+}
+
+pub fn is_comma_int(s: &[u8]) -> bool
+    ensures { λ r. ⌜ r ≡ isCommaInt (now (s .entry)) ⌝ }
+{
+    let n = span_of(Class::Not(44), s);
+    if s.len() <= n {
+        return false;
+    }
+    let first = front(s, n);
+    is_digits(first) & (first.len() <= 3) & all_parts(PartTest::ThreeDigits, 44, tail(s, n + 1))
+}
+
+fn is_ordinal_suffix(s: &[u8]) -> bool
+    ensures { λ r. ⌜ r ≡ isOrdinalSuffix (now (s .entry)) ⌝ }
+{
+    same(Fold::Lower, s, b"th")
+        | same(Fold::Lower, s, b"st")
+        | same(Fold::Lower, s, b"nd")
+        | same(Fold::Lower, s, b"rd")
+}
+
+pub fn is_ordinal(s: &[u8]) -> bool
+    ensures { λ r. ⌜ r ≡ isOrdinal (now (s .entry)) ⌝ }
+{
+    let num = without_back(s, 2);
+    let suffix = back(s, 2);
+    let b = byte_at(suffix, 0);
+    (3 <= s.len())
+        & ((b < 0x80) | (0xC0 <= b))
+        & is_ordinal_suffix(suffix)
+        & is_digit(byte_at(num, 0))
+        & all_of(Class::DigitOrComma, num)
+}
+
+fn is_amount(s: &[u8]) -> bool
+    ensures { λ r. ⌜ r ≡ isAmount (now (s .entry)) ⌝ }
+{
+    let whole = span_of(Class::DigitOrComma, s);
+    let rest = tail(s, whole);
+    if starts_with(rest, 46) {
+        return (whole != 0) & is_digits(tail(rest, 1));
+    }
+    (whole != 0) & (rest.len() == 0)
+}
+
+pub fn is_us_money(s: &[u8]) -> bool
+    ensures { λ r. ⌜ r ≡ isUsMoney (now (s .entry)) ⌝ }
+{
+    starts_with(s, 36) & is_amount(tail(s, 1))
+}
+
+pub fn is_illion(s: &[u8]) -> bool
+    ensures { λ r. ⌜ r ≡ isIllion (now (s .entry)) ⌝ }
+{
+    ends_same(Fold::Exact, s, b"illion")
+}
+
+fn is_small_roman(s: &[u8]) -> bool
+    ensures { λ r. ⌜ r ≡ isSmallRoman (now (s .entry)) ⌝ }
+{
+    same(Fold::Exact, s, b"I")
+        | same(Fold::Exact, s, b"II")
+        | same(Fold::Exact, s, b"III")
+        | same(Fold::Exact, s, b"IV")
+        | same(Fold::Exact, s, b"V")
+        | same(Fold::Exact, s, b"VI")
+        | same(Fold::Exact, s, b"VII")
+        | same(Fold::Exact, s, b"VIII")
+        | same(Fold::Exact, s, b"IX")
+}
+
+pub fn is_roman(s: &[u8]) -> bool
+    ensures { λ r. ⌜ r ≡ isRoman (now (s .entry)) ⌝ }
+{
+    is_small_roman(s) | (starts_with(s, 88) & all_of(Class::RomanTail, tail(s, 1)))
+}
+
+pub fn is_dr_or_st(s: &[u8]) -> bool
+    ensures { λ r. ⌜ r ≡ isDrOrSt (now (s .entry)) ⌝ }
+{
+    same(Fold::Lower, s, b"dr") | same(Fold::Lower, s, b"st")
+}
+
+pub fn is_number_s(s: &[u8]) -> bool
+    ensures { λ r. ⌜ r ≡ isNumberS (now (s .entry)) ⌝ }
+{
+    (2 <= s.len()) & ends_with(s, 115) & is_digits(without_back(s, 1))
+}
+
+pub fn is_leading_zero_digits(s: &[u8]) -> bool
+    ensures { λ r. ⌜ r ≡ isLeadingZeroDigits (now (s .entry)) ⌝ }
+{
+    (1 < s.len()) & starts_with(s, 48) & is_digits(s)
+}
+
+pub fn is_n_digits(s: &[u8], n: usize) -> bool
+    ensures { λ r. ⌜ r ≡ isNDigits n (now (s .entry)) ⌝ }
+{
+    (s.len() == n) & is_digits(s)
+}
+
+fn is_hour_minute(h: &[u8], m: &[u8]) -> bool
+    ensures { λ r. ⌜ r ≡ isHourMinute (now (h .entry)) (now (m .entry)) ⌝ }
+{
+    (1 <= h.len())
+        & (h.len() <= 2)
+        & is_digits(h)
+        & is_n_digits(m, 2)
+        & (byte_at(m, 0) <= 53)
+}
+
+// Whether the two parts at a first separator pass.
+fn pair_passes(test: PairTest, a: &[u8], b: &[u8]) -> bool
+    ensures { λ r. ⌜ r ≡ bothPass test (now (a .entry)) (now (b .entry)) ⌝ }
+{
+    match test {
+        PairTest::Phone => is_n_digits(a, 3) & is_n_digits(b, 4),
+        PairTest::HourMinute => is_hour_minute(a, b),
+        PairTest::TwoNumbers => is_digits(a) & is_digits(b),
+    }
+}
+
+// Whether c stands in the text and the parts before and after the first c pass.
+fn split_once(test: PairTest, c: u8, s: &[u8]) -> bool
+    ensures { λ r. ⌜ r ≡ splitOnce c (bothPass test) (now (s .entry)) ⌝ }
+{
+    let at = span_of(Class::Not(c), s);
+    if s.len() <= at {
+        return false;
+    }
+    pair_passes(test, front(s, at), tail(s, at + 1))
+}
+
+pub fn is_seven_digit_phone(s: &[u8]) -> bool
+    ensures { λ r. ⌜ r ≡ isSevenDigitPhone (now (s .entry)) ⌝ }
+{
+    split_once(PairTest::Phone, 45, s)
+}
+
+pub fn is_time(s: &[u8]) -> bool
+    ensures { λ r. ⌜ r ≡ isTime (now (s .entry)) ⌝ }
+{
+    split_once(PairTest::HourMinute, 58, s)
+}
+
+fn ends_in_meridiem(s: &[u8]) -> bool
+    ensures { λ r. ⌜ r ≡ endsInMeridiem (now (s .entry)) ⌝ }
+{
+    ends_same(Fold::Lower, s, b"am") | ends_same(Fold::Lower, s, b"pm")
+}
+
+pub fn split_time_meridiem(s: &[u8]) -> TimeSplit
+    ensures { λ r. ⌜ r ≡ timeSplit (now (s .entry)) ⌝ }
+{
+    if !ends_in_meridiem(s) {
+        return TimeSplit::Nothing;
+    }
+    let time = without_back(s, 2);
+    let sep = span_of(Class::ColonNorPoint, time);
+    if time.len() <= sep {
+        return TimeSplit::Nothing;
+    }
+    if is_hour_minute(front(time, sep), tail(time, sep + 1)) {
+        return TimeSplit::At {
+            hour: sep,
+            minute: sep + 1,
+            meridiem: s.len() - 2,
+        };
+    }
+    TimeSplit::Nothing
+}
+
+pub fn is_dotted_abbrev(s: &[u8]) -> bool
+    ensures { λ r. ⌜ r ≡ isDottedAbbrev (now (s .entry)) ⌝ }
+{
+    let core = strip_suffix(s, 46);
+    (span_of(Class::Not(46), core) < core.len()) & all_parts(PartTest::OneLetter, 46, core)
+}
+
+pub fn is_digits_slash_digits(s: &[u8]) -> bool
+    ensures { λ r. ⌜ r ≡ isDigitsSlashDigits (now (s .entry)) ⌝ }
+{
+    split_once(PairTest::TwoNumbers, 47, s)
+}
+
+// Two parts are not empty where something follows the dashes that follow the first such part.
+pub fn is_digits_dash_digits(s: &[u8]) -> bool
+    ensures { λ r. ⌜ r ≡ isDigitsDashDigits (now (s .entry)) ⌝ }
+{
+    let from = tail(s, span_of(Class::Only(45), s));
+    let past = tail(from, span_of(Class::Not(45), from));
+    (span_of(Class::Only(45), past) < past.len()) & all_of(Class::DigitOrDash, s)
+}
+
+fn has_unit(s: &[u8]) -> bool
+    ensures { λ r. ⌜ r ≡ hasUnit (now (s .entry)) ⌝ }
+{
+    let at = after_last(Class::Digit, s);
+    if at == 0 {
+        return false;
+    }
+    if !all_of(Class::DigitOrComma, front(s, at)) {
+        return false;
+    }
+    let table = units::unit_abbreviations();
+    units::unit_index(&table, tail(s, at)) < units::UNITS
+}
+
+// The unit, a part of the name; an empty part where there is none.
+pub fn split_unit(s: &[u8]) -> &[u8]
+    ensures { λ r. ⌜ now r ≡ unitPart (now (s .entry)) ⌝ }
+{
+    if has_unit(s) {
+        return tail(s, after_last(Class::Digit, s));
+    }
+    &s[..0]
+}
+
+// A verdict by its kind.
+pub fn has_shape(shape: Shape, s: &[u8]) -> bool
+    ensures { λ r. ⌜ r ≡ hasShape shape (now (s .entry)) ⌝ }
+{
+    match shape {
+        Shape::Digits => is_digits(s),
+        Shape::Alpha => is_alpha(s),
+        Shape::Double => is_double(s),
+        Shape::CommaInt => is_comma_int(s),
+        Shape::Ordinal => is_ordinal(s),
+        Shape::UsMoney => is_us_money(s),
+        Shape::Illion => is_illion(s),
+        Shape::Roman => is_roman(s),
+        Shape::DrOrSt => is_dr_or_st(s),
+        Shape::NumberS => is_number_s(s),
+        Shape::LeadingZeroDigits => is_leading_zero_digits(s),
+        Shape::SevenDigitPhone => is_seven_digit_phone(s),
+        Shape::NDigits(n) => is_n_digits(s, n),
+        Shape::Time => is_time(s),
+        Shape::DottedAbbrev => is_dotted_abbrev(s),
+        Shape::DigitsSlashDigits => is_digits_slash_digits(s),
+        Shape::DigitsDashDigits => is_digits_dash_digits(s),
+    }
+}

@@ -1,0 +1,48 @@
+-- patterns.rs, UNIT_ABBREVIATIONS, and its two look-ups. Definitions only.
+use mathlib.Core.Bool.{Bool, cond}
+use mathlib.Core.List.{List, [], _∷_}
+use Prim.Native.Nat.{ℕ, suc}
+use Prim.Native.String.{String}
+use lib.Dec.{ltb}
+use lib.ListN.{length, getD}
+use Rattle.lists.specs.Bytes.{bytes, same}
+
+-- a row of the table
+pub record UnitRow : Type 0 where
+  pub abbreviation : List ℕ
+  pub word : List ℕ
+
+abbrev pub unit : String → String → UnitRow
+unit a w = record { abbreviation = bytes a; word = bytes w }
+
+unfoldable pub unitAbbreviations : List UnitRow
+unitAbbreviations =
+    unit "LB" "pounds" ∷ unit "LBS" "pounds" ∷ unit "lb" "pounds" ∷ unit "lbs" "pounds"
+    ∷ unit "ft" "feet" ∷ unit "FT" "feet" ∷ unit "kg" "kilograms" ∷ unit "km" "kilometers"
+    ∷ unit "cm" "centimeters" ∷ unit "mm" "millimeters" ∷ unit "ml" "milliliters" ∷ unit "oz" "ounces"
+    ∷ unit "hz" "hertz" ∷ unit "Hz" "hertz" ∷ unit "HZ" "hertz" ∷ unit "KHz" "kilohertz"
+    ∷ unit "MHz" "megahertz" ∷ unit "GHz" "gigahertz" ∷ unit "KB" "kilobytes" ∷ unit "GB" "gigabytes"
+    ∷ unit "MB" "megabytes" ∷ unit "TB" "terabytes" ∷ []
+
+-- how many rows stand before the first whose abbreviation is u
+unfoldable pub rowsBefore : List ℕ → List UnitRow → ℕ
+rowsBefore u [] = 0
+rowsBefore u (r ∷ rs) = cond (same (r .abbreviation) u) 0 (suc (rowsBefore u rs))
+
+-- the number of the first row whose abbreviation is u, the table's length where there is none
+abbrev pub unitIndex : List ℕ → ℕ
+unitIndex u = rowsBefore u unitAbbreviations
+
+-- some row's abbreviation is u
+abbrev pub isUnit : List ℕ → Bool
+isUnit u = ltb (unitIndex u) (length unitAbbreviations)
+
+-- unit_word: the word of the first row whose abbreviation is u, nothing where there is none
+abbrev pub unitWord : List ℕ → List ℕ
+unitWord u = getD unitAbbreviations (unitIndex u) (unit "" "") .word
+
+-- the table as the code holds it: rows of 5 bytes, the abbreviation's length, its letters, padding, and its word's number in the lexicon
+unfoldable pub packedUnits : List ℕ
+packedUnits =
+    bytes
+    "\x02LB.\x00\x03LBS\x00\x02lb.\x00\x03lbs\x00\x02ft.\x01\x02FT.\x01\x02kg.\x02\x02km.\x03\x02cm.\x04\x02mm.\x05\x02ml.\x06\x02oz.\x07\x02hz.\x08\x02Hz.\x08\x02HZ.\x08\x03KHz\x09\x03MHz\x0a\x03GHz\x0b\x02KB.\x0c\x02GB.\x0d\x02MB.\x0e\x02TB.\x0f"

@@ -1,0 +1,165 @@
+// Every function that C calls, thin over the library. include/howhakiru.h is the same list for C.
+use patterns::SplitTime;
+use patterns::SplitUnit;
+use patterns::UnitWord;
+use patterns::Verdict;
+use shapes::Shape;
+use shapes::TimeSplit;
+ghost use mathlib.Core.Path.{_≡_};
+ghost use Rattle.shapes.specs.Kinds.{hasShape};
+ghost use Rattle.shapes.specs.Shapes.{isDigits, isAlpha, isDouble, isCommaInt, isOrdinal, isUsMoney, isIllion, isRoman, isDrOrSt, isNumberS, isLeadingZeroDigits, isSevenDigitPhone, isNDigits, isTime, isDottedAbbrev, isDigitsSlashDigits, isDigitsDashDigits};
+ghost use Rattle.patterns.specs.Calls.{asVerdict, verdictCall, asTime, timeCall, asUnit, unitCall, asWord, wordCall};
+ghost use Rattle.voice.specs.AtC.{verdictAtC, timeAtC, unitAtC, wordAtC};
+
+#[repr(C)]
+pub struct HwkVerdict {
+    pub refusal: u32,
+    pub yes: u32,
+}
+
+#[repr(C)]
+pub struct HwkTime {
+    pub refusal: u32,
+    pub yes: u32,
+    pub hour_at: usize,
+    pub hour_len: usize,
+    pub minute_at: usize,
+    pub minute_len: usize,
+    pub meridiem_at: usize,
+    pub meridiem_len: usize,
+}
+
+#[repr(C)]
+pub struct HwkPart {
+    pub refusal: u32,
+    pub yes: u32,
+    pub offset: usize,
+    pub len: usize,
+}
+
+#[repr(C)]
+pub struct HwkWord {
+    pub refusal: u32,
+    pub yes: u32,
+    pub len: usize,
+}
+
+#[no_mangle]
+pub extern "C" fn hwk_is_digits(s: &[u8]) -> HwkVerdict
+    ensures { λ r. ⌜ r ≡ verdictAtC (verdictCall (now (s .entry)) (isDigits (now (s .entry)))) ⌝ }
+{
+    verdict(Shape::Digits, s)
+}
+
+#[no_mangle]
+pub extern "C" fn hwk_is_alpha(s: &[u8]) -> HwkVerdict
+    ensures { λ r. ⌜ r ≡ verdictAtC (verdictCall (now (s .entry)) (isAlpha (now (s .entry)))) ⌝ }
+{
+    verdict(Shape::Alpha, s)
+}
+
+#[no_mangle]
+pub extern "C" fn hwk_is_double(s: &[u8]) -> HwkVerdict
+    ensures { λ r. ⌜ r ≡ verdictAtC (verdictCall (now (s .entry)) (isDouble (now (s .entry)))) ⌝ }
+{
+    verdict(Shape::Double, s)
+}
+
+#[no_mangle]
+pub extern "C" fn hwk_is_comma_int(s: &[u8]) -> HwkVerdict
+    ensures { λ r. ⌜ r ≡ verdictAtC (verdictCall (now (s .entry)) (isCommaInt (now (s .entry)))) ⌝ }
+{
+    verdict(Shape::CommaInt, s)
+}
+
+#[no_mangle]
+pub extern "C" fn hwk_is_ordinal(s: &[u8]) -> HwkVerdict
+    ensures { λ r. ⌜ r ≡ verdictAtC (verdictCall (now (s .entry)) (isOrdinal (now (s .entry)))) ⌝ }
+{
+    verdict(Shape::Ordinal, s)
+}
+
+#[no_mangle]
+pub extern "C" fn hwk_is_us_money(s: &[u8]) -> HwkVerdict
+    ensures { λ r. ⌜ r ≡ verdictAtC (verdictCall (now (s .entry)) (isUsMoney (now (s .entry)))) ⌝ }
+{
+    verdict(Shape::UsMoney, s)
+}
+
+#[no_mangle]
+pub extern "C" fn hwk_is_illion(s: &[u8]) -> HwkVerdict
+    ensures { λ r. ⌜ r ≡ verdictAtC (verdictCall (now (s .entry)) (isIllion (now (s .entry)))) ⌝ }
+{
+    verdict(Shape::Illion, s)
+}
+
+#[no_mangle]
+pub extern "C" fn hwk_is_roman(s: &[u8]) -> HwkVerdict
+    ensures { λ r. ⌜ r ≡ verdictAtC (verdictCall (now (s .entry)) (isRoman (now (s .entry)))) ⌝ }
+{
+    verdict(Shape::Roman, s)
+}
+
+#[no_mangle]
+pub extern "C" fn hwk_is_dr_or_st(s: &[u8]) -> HwkVerdict
+    ensures { λ r. ⌜ r ≡ verdictAtC (verdictCall (now (s .entry)) (isDrOrSt (now (s .entry)))) ⌝ }
+{
+    verdict(Shape::DrOrSt, s)
+}
+
+#[no_mangle]
+pub extern "C" fn hwk_is_number_s(s: &[u8]) -> HwkVerdict
+    ensures { λ r. ⌜ r ≡ verdictAtC (verdictCall (now (s .entry)) (isNumberS (now (s .entry)))) ⌝ }
+{
+    verdict(Shape::NumberS, s)
+}
+
+#[no_mangle]
+pub extern "C" fn hwk_is_leading_zero_digits(s: &[u8]) -> HwkVerdict
+    ensures { λ r. ⌜ r ≡ verdictAtC (verdictCall (now (s .entry)) (isLeadingZeroDigits (now (s .entry)))) ⌝ }
+{
+    verdict(Shape::LeadingZeroDigits, s)
+}
+
+#[no_mangle]
+pub extern "C" fn hwk_is_seven_digit_phone(s: &[u8]) -> HwkVerdict
+    ensures { λ r. ⌜ r ≡ verdictAtC (verdictCall (now (s .entry)) (isSevenDigitPhone (now (s .entry)))) ⌝ }
+{
+    verdict(Shape::SevenDigitPhone, s)
+}
+
+#[no_mangle]
+pub extern "C" fn hwk_is_n_digits(s: &[u8], n: usize) -> HwkVerdict
+    ensures { λ r. ⌜ r ≡ verdictAtC (verdictCall (now (s .entry)) (isNDigits n (now (s .entry)))) ⌝ }
+{
+    verdict(Shape::NDigits(n), s)
+}
+
+#[no_mangle]
+pub extern "C" fn hwk_is_time(s: &[u8]) -> HwkVerdict
+    ensures { λ r. ⌜ r ≡ verdictAtC (verdictCall (now (s .entry)) (isTime (now (s .entry)))) ⌝ }
+{
+    verdict(Shape::Time, s)
+}
+
+#[no_mangle]
+pub extern "C" fn hwk_is_dotted_abbrev(s: &[u8]) -> HwkVerdict
+    ensures { λ r. ⌜ r ≡ verdictAtC (verdictCall (now (s .entry)) (isDottedAbbrev (now (s .entry)))) ⌝ }
+{
+    verdict(Shape::DottedAbbrev, s)
+}
+
+#[no_mangle]
+pub extern "C" fn hwk_is_digits_slash_digits(s: &[u8]) -> HwkVerdict
+    ensures { λ r. ⌜ r ≡ verdictAtC (verdictCall (now (s .entry)) (isDigitsSlashDigits (now (s .entry)))) ⌝ }
+{
+    verdict(Shape::DigitsSlashDigits, s)
+}
+
+#[no_mangle]
+pub extern "C" fn hwk_is_digits_dash_digits(s: &[u8]) -> HwkVerdict
+    ensures { λ r. ⌜ r ≡ verdictAtC (verdictCall (now (s .entry)) (isDigitsDashDigits (now (s .entry)))) ⌝ }
+{
+    verdict(Shape::DigitsDashDigits, s)
+}
+
