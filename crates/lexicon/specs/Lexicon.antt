@@ -18,4 +18,4 @@ wordOf k = getD words k []
 unfoldable pub packed : List ℕ
 packed =
     bytes
-    "\x06pounds.........\x04feet...........\x09kilograms......\x0akilometers.....\x0bcentimeters....\x0bmillimeters....\x0bmilliliters....\x06ounces.........\x05hertz..........\x09kilohertz......\x09megahertz......\x09gigahertz......\x09kilobytes......\x09gigabytes......\x09megabytes......\x09terabytes......"
+    "\u{6}pounds.........\u{4}feet...........\tkilograms......\nkilometers.....\u{b}centimeters....\u{b}millimeters....\u{b}milliliters....\u{6}ounces.........\u{5}hertz..........\tkilohertz......\tmegahertz......\tgigahertz......\tkilobytes......\tgigabytes......\tmegabytes......\tterabytes......"

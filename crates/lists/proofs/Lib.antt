@@ -1,0 +1,5 @@
+pub mod Scan
+pub mod Parts
+pub mod Sets
+pub mod Table
+pub mod Recursion

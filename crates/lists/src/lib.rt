@@ -93,7 +93,10 @@ pub fn strip_prefix(s: &[u8], c: u8) -> &[u8]
 pub fn ends_with(s: &[u8], c: u8) -> bool
     ensures { λ r. ⌜ r ≡ ends c (now (s .entry)) ⌝ }
 {
-    starts_with(back(s, 1), c)
+    if s.len() == 0 {
+        return false;
+    }
+    byte_at(s, s.len() - 1) == c
 }
 
 pub fn strip_suffix(s: &[u8], c: u8) -> &[u8]
@@ -120,7 +123,13 @@ pub fn is_letter(b: u8) -> bool
 pub fn to_lower(b: u8) -> u8
     ensures { λ r. ⌜ r ≡ lower b ⌝ }
 {
-    if (65 <= b) & (b <= 90) { b + 32 } else { b }
+    if b < 65 {
+        return b;
+    }
+    if 90 < b {
+        return b;
+    }
+    b + 32
 }
 
 // Whether b is of the class k.

@@ -4,8 +4,8 @@ use lists::Class;
 use lists::Fold;
 use lists::after_last;
 use lists::all_of;
-use lists::byte_at;
 use lists::back;
+use lists::byte_at;
 use lists::ends_same;
 use lists::ends_with;
 use lists::front;
@@ -248,11 +248,7 @@ pub fn is_n_digits(s: &[u8], n: usize) -> bool
 fn is_hour_minute(h: &[u8], m: &[u8]) -> bool
     ensures { λ r. ⌜ r ≡ isHourMinute (now (h .entry)) (now (m .entry)) ⌝ }
 {
-    (1 <= h.len())
-        & (h.len() <= 2)
-        & is_digits(h)
-        & is_n_digits(m, 2)
-        & (byte_at(m, 0) <= 53)
+    (1 <= h.len()) & (h.len() <= 2) & is_digits(h) & is_n_digits(m, 2) & (byte_at(m, 0) <= 53)
 }
 
 // Whether the two parts at a first separator pass.

@@ -45,4 +45,4 @@ unitWord u = getD unitAbbreviations (unitIndex u) (unit "" "") .word
 unfoldable pub packedUnits : List ℕ
 packedUnits =
     bytes
-    "\x02LB.\x00\x03LBS\x00\x02lb.\x00\x03lbs\x00\x02ft.\x01\x02FT.\x01\x02kg.\x02\x02km.\x03\x02cm.\x04\x02mm.\x05\x02ml.\x06\x02oz.\x07\x02hz.\x08\x02Hz.\x08\x02HZ.\x08\x03KHz\x09\x03MHz\x0a\x03GHz\x0b\x02KB.\x0c\x02GB.\x0d\x02MB.\x0e\x02TB.\x0f"
+    "\u{2}LB.\0\u{3}LBS\0\u{2}lb.\0\u{3}lbs\0\u{2}ft.\u{1}\u{2}FT.\u{1}\u{2}kg.\u{2}\u{2}km.\u{3}\u{2}cm.\u{4}\u{2}mm.\u{5}\u{2}ml.\u{6}\u{2}oz.\u{7}\u{2}hz.\u{8}\u{2}Hz.\u{8}\u{2}HZ.\u{8}\u{3}KHz\t\u{3}MHz\n\u{3}GHz\u{b}\u{2}KB.\u{c}\u{2}GB.\r\u{2}MB.\u{e}\u{2}TB.\u{f}"

@@ -162,4 +162,3 @@ pub extern "C" fn hwk_is_digits_dash_digits(s: &[u8]) -> HwkVerdict
 {
     verdict(Shape::DigitsDashDigits, s)
 }
-

@@ -1,50 +1,24 @@
+use borrow.Author.Needs.{needs}
+use native.Mathlib.Omega.{arith}
+use mathlib.Core.Path.{_≡_, sym, _∙_}
+use Prim.Native.Nat.{_-_, _≤_}
+use lib.ListN.{length, take}
+use lib.Seq.{take-length}
+use Rattle.lists.specs.Bytes.{afterLast}
+use Rattle.lists.specs.Classes.{inClass}
+use Rattle.lists.proofs.Scan.{last-more}
 use Rattle.lists.proofs.after_last.Statement.{statement}
 use Rattle.lists.proofs.after_last.Tie as tie
-use Rattle.lists.proofs.after_last.Reads as reads
-use Rattle.lists.proofs.after_last.Lts as lts
-use Rattle.lists.proofs.in_class.Reads as in-class-reads
 
 abbrev Inv-loop : tie.InvT-loop
-Inv-loop k s i₀ i = ?
+Inv-loop k s i₀ i = (i ≤ length s) × (afterLast (inClass k) s ≡ afterLast (inClass k) (take i s))
 
 abbrev μ-loop : tie.MeasureT-loop
-μ-loop k s i₀ i = ?
+μ-loop k s i₀ i = i
 
--- src/lib.rt:175:5
-loop-holds : tie.Need-loop-holds Inv-loop μ-loop
-loop-holds c = ?
-
--- src/lib.rt:176:26
-sub-in-class : tie.Need-sub-in-class Inv-loop μ-loop
-sub-in-class c = ?
-
--- src/lib.rt:176:24
-shared-slice-read-in-class : tie.Need-shared-slice-read-in-class Inv-loop μ-loop
-shared-slice-read-in-class c = ?
-
--- src/lib.rt:176:12
-in-class-requires : tie.Need-in-class-requires Inv-loop μ-loop
-in-class-requires c κs = ?
-
--- src/lib.rt:177:13
-returns : tie.Need-returns Inv-loop μ-loop
-returns c = ?
-
--- src/lib.rt:179:9
-sub-i : tie.Need-sub-i Inv-loop μ-loop
-sub-i c = ?
-
--- src/lib.rt:175:5
-loop-less : tie.Need-loop-less Inv-loop μ-loop
-loop-less c = ?
-
--- src/lib.rt:175:5
-loop-again : tie.Need-loop-again Inv-loop μ-loop
-loop-again c = ?
-
--- src/lib.rt:171:1
 returns-2 : tie.Need-returns-2 Inv-loop μ-loop
-returns-2 c = ?
+unfolding afterLast
+returns-2 c = let z : c .before .loop .i ≡ 0 = omega arith in sym (c .before .loop .inv .1 ∙ rw z)
 
 pub after-last-spec : {M : Type 1} → statement M
 after-last-spec =
@@ -52,12 +26,12 @@ after-last-spec =
     (tie.spec
     Inv-loop
     μ-loop
-    loop-holds
-    sub-in-class
-    shared-slice-read-in-class
-    in-class-requires
-    returns
-    sub-i
-    loop-less
-    loop-again
+    (λ c. (omega arith, rw take-length))
+    (λ c. search needs)
+    (λ c. search needs)
+    (λ c κs. search needs)
+    (λ c. sym (c .before .before .before .before .loop .inv .1 ∙ (last-more _ (c .before .before .before .before .before .before .args .s .now) (c .before .before .before .before .loop .i) (omega arith) (omega arith) ∙ rw (← c .before .in-class .ensures, c .if1 .taken))))
+    (λ c. search needs)
+    (λ c. search needs)
+    (λ c. (omega arith, c .before .before .before .before .loop .inv .1 ∙ (last-more _ (c .before .before .before .before .before .before .args .s .now) (c .before .before .before .before .loop .i) (omega arith) (omega arith) ∙ rw (← c .before .in-class .ensures, c .if1 .left))))
     returns-2)

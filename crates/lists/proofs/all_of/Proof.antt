@@ -1,46 +1,19 @@
+-- The loop keeps that every byte passed is of the class. Assumes nothing.
+use borrow.Author.Needs.{needs}
+use mathlib.Core.Path.{refl, sym, _∙_}
+use borrow.Author.Tests.{not-true, not-false}
+use Prim.Native.Nat.{_-_}
+use lib.ListN.{length}
+use Rattle.lists.specs.Classes.{inClass}
+use Rattle.lists.proofs.Scan.{Kept, all-fails, all-end, all-next}
 use Rattle.lists.proofs.all_of.Statement.{statement}
 use Rattle.lists.proofs.all_of.Tie as tie
-use Rattle.lists.proofs.all_of.Reads as reads
-use Rattle.lists.proofs.all_of.Lts as lts
-use Rattle.lists.proofs.in_class.Reads as in-class-reads
 
 abbrev Inv-loop : tie.InvT-loop
-Inv-loop k s i₀ i = ?
+Inv-loop k s i₀ i = Kept (inClass k) s i
 
 abbrev μ-loop : tie.MeasureT-loop
-μ-loop k s i₀ i = ?
-
--- src/lib.rt:147:5
-loop-holds : tie.Need-loop-holds Inv-loop μ-loop
-loop-holds c = ?
-
--- src/lib.rt:148:25
-shared-slice-read-in-class : tie.Need-shared-slice-read-in-class Inv-loop μ-loop
-shared-slice-read-in-class c = ?
-
--- src/lib.rt:148:13
-in-class-requires : tie.Need-in-class-requires Inv-loop μ-loop
-in-class-requires c κs = ?
-
--- src/lib.rt:149:13
-returns : tie.Need-returns Inv-loop μ-loop
-returns c = ?
-
--- src/lib.rt:151:9
-add-i : tie.Need-add-i Inv-loop μ-loop
-add-i c = ?
-
--- src/lib.rt:147:5
-loop-less : tie.Need-loop-less Inv-loop μ-loop
-loop-less c = ?
-
--- src/lib.rt:147:5
-loop-again : tie.Need-loop-again Inv-loop μ-loop
-loop-again c = ?
-
--- src/lib.rt:143:1
-returns-2 : tie.Need-returns-2 Inv-loop μ-loop
-returns-2 c = ?
+μ-loop k s i₀ i = length s - i
 
 pub all-of-spec : {M : Type 1} → statement M
 all-of-spec =
@@ -48,11 +21,15 @@ all-of-spec =
     (tie.spec
     Inv-loop
     μ-loop
-    loop-holds
-    shared-slice-read-in-class
-    in-class-requires
-    returns
-    add-i
-    loop-less
-    loop-again
-    returns-2)
+    (λ c. (search needs, refl))
+    (λ c. search needs)
+    (λ c κs. search needs)
+    (λ c.
+    all-fails _ _ _ (c .before .before .before .before .loop .inv) (search needs)
+    (sym (c .before .in-class .ensures) ∙ not-true _ (c .if1 .taken)))
+    (λ c. search needs)
+    (λ c. search needs)
+    (λ c.
+    all-next _ _ _ (c .before .before .before .before .loop .inv) (search needs)
+    (sym (c .before .in-class .ensures) ∙ not-false _ (c .if1 .left)))
+    (λ c. all-end _ _ _ (c .before .loop .inv) (search needs)))

@@ -1,54 +1,19 @@
+use borrow.Author.Needs.{needs}
+use native.Mathlib.Omega.{arith}
+use mathlib.Core.Path.{_≡_, refl, _∙_}
+use Prim.Native.Nat.{_-_, _≤_, _<_}
+use lib.ListN.{length, take, length-take, length-set}
+use lib.Seq.{sets, length-take-le}
+use Rattle.lists.proofs.Sets.{sets-take-suc, sets-min}
+use Prim.Native.Nat.{zero-le}
 use Rattle.lists.proofs.put.Statement.{statement}
 use Rattle.lists.proofs.put.Tie as tie
-use Rattle.lists.proofs.put.Reads as reads
-use Rattle.lists.proofs.put.Lts as lts
-use Rattle.lists.proofs.clip.Reads as clip-reads
 
 abbrev Inv-loop : tie.InvT-loop
-Inv-loop out₀ at src n i₀ out i = ?
+Inv-loop out₀ at src n i₀ out i = (i ≤ n) × (out ≡ sets out₀ at (take i src)) × (length out ≡ length out₀)
 
 abbrev μ-loop : tie.MeasureT-loop
-μ-loop out₀ at src n i₀ out i = ?
-
--- src/lib.rt:245:9
-clip-requires : tie.Need-clip-requires Inv-loop μ-loop
-clip-requires c κs = ?
-
--- src/lib.rt:247:5
-loop-holds : tie.Need-loop-holds Inv-loop μ-loop
-loop-holds c = ?
-
--- src/lib.rt:248:23
-shared-slice-read-out : tie.Need-shared-slice-read-out Inv-loop μ-loop
-shared-slice-read-out c = ?
-
--- src/lib.rt:248:13
-add-out : tie.Need-add-out Inv-loop μ-loop
-add-out c = ?
-
--- src/lib.rt:248:9
-slice-write-out : tie.Need-slice-write-out Inv-loop μ-loop
-slice-write-out c = ?
-
--- src/lib.rt:249:9
-add-i : tie.Need-add-i Inv-loop μ-loop
-add-i c = ?
-
--- src/lib.rt:247:5
-loop-less : tie.Need-loop-less Inv-loop μ-loop
-loop-less c = ?
-
--- src/lib.rt:247:5
-loop-again : tie.Need-loop-again Inv-loop μ-loop
-loop-again c = ?
-
--- src/lib.rt:242:1
-same-length : tie.Need-same-length Inv-loop μ-loop
-same-length c = ?
-
--- src/lib.rt:242:1
-returns : tie.Need-returns Inv-loop μ-loop
-returns c = ?
+μ-loop out₀ at src n i₀ out i = n - i
 
 pub put-spec : {M : Type 1} → statement M
 put-spec =
@@ -56,13 +21,20 @@ put-spec =
     (tie.spec
     Inv-loop
     μ-loop
-    clip-requires
-    loop-holds
-    shared-slice-read-out
-    add-out
-    slice-write-out
-    add-i
-    loop-less
-    loop-again
-    same-length
-    returns)
+    (λ c κs. search needs)
+    (λ c. (zero-le, refl, refl))
+    (λ c. search needs)
+    (λ c. search needs)
+    (λ c. search needs)
+    (λ c. search needs)
+    (λ c. search needs)
+    (λ c.
+    let l = c .before .before .loop in
+    let a = c .before .before .before .before .before .before .args in
+    let h : l .i < length (a .src .now) = omega arith in (
+      omega arith,
+      rw (l .inv .1) (sets-take-suc (a .out .now) (a .at) (a .src .now) (l .i) h (length-take-le (l .i) (a .src .now) (omega arith))),
+      simp length-set (l .inv .2),
+    ))
+    (λ c. c .before .loop .inv .2)
+    (λ c. c .before .loop .inv .1 ∙ sets-min (c .before .before .before .before .before .args .out .now) (c .before .before .before .before .before .args .at) (c .before .before .before .before .before .args .src .now) (c .before .loop .i) (omega arith)))

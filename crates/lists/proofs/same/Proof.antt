@@ -1,54 +1,21 @@
+-- The loop keeps that the two texts agree so far. Assumes nothing.
+use borrow.Author.Needs.{needs}
+use native.Mathlib.Omega.{arith}
+use mathlib.Core.Path.{_≡_, refl, sym, _∙_}
+use Prim.Native.Nat.{_-_, _≤_}
+use lib.ListN.{length, drop}
+use borrow.Author.Tests.{eq-eqb, ne-eqb}
+use Rattle.lists.specs.Bytes.{sameBy}
+use Rattle.lists.specs.Classes.{folded}
+use Rattle.lists.proofs.Scan.{same-more, same-end, same-long}
 use Rattle.lists.proofs.same.Statement.{statement}
 use Rattle.lists.proofs.same.Tie as tie
-use Rattle.lists.proofs.same.Reads as reads
-use Rattle.lists.proofs.same.Lts as lts
-use Rattle.lists.proofs.fold_byte.Reads as fold-byte-reads
 
 abbrev Inv-loop : tie.InvT-loop
-Inv-loop f s t i₀ i = ?
+Inv-loop f s t i₀ i = (i ≤ length s) × (sameBy (folded f) s t ≡ sameBy (folded f) (drop i s) (drop i t))
 
 abbrev μ-loop : tie.MeasureT-loop
-μ-loop f s t i₀ i = ?
-
--- src/lib.rt:198:9
-returns : tie.Need-returns Inv-loop μ-loop
-returns c = ?
-
--- src/lib.rt:201:5
-loop-holds : tie.Need-loop-holds Inv-loop μ-loop
-loop-holds c = ?
-
--- src/lib.rt:202:25
-shared-slice-read-fold-byte : tie.Need-shared-slice-read-fold-byte Inv-loop μ-loop
-shared-slice-read-fold-byte c = ?
-
--- src/lib.rt:202:12
-fold-byte-requires : tie.Need-fold-byte-requires Inv-loop μ-loop
-fold-byte-requires c κs = ?
-
--- src/lib.rt:202:34
-shared-slice-read-if2 : tie.Need-shared-slice-read-if2 Inv-loop μ-loop
-shared-slice-read-if2 c = ?
-
--- src/lib.rt:203:13
-returns-2 : tie.Need-returns-2 Inv-loop μ-loop
-returns-2 c = ?
-
--- src/lib.rt:205:9
-add-i : tie.Need-add-i Inv-loop μ-loop
-add-i c = ?
-
--- src/lib.rt:201:5
-loop-less : tie.Need-loop-less Inv-loop μ-loop
-loop-less c = ?
-
--- src/lib.rt:201:5
-loop-again : tie.Need-loop-again Inv-loop μ-loop
-loop-again c = ?
-
--- src/lib.rt:194:1
-returns-3 : tie.Need-returns-3 Inv-loop μ-loop
-returns-3 c = ?
+μ-loop f s t i₀ i = length s - i
 
 pub same-spec : {M : Type 1} → statement M
 same-spec =
@@ -56,13 +23,13 @@ same-spec =
     (tie.spec
     Inv-loop
     μ-loop
-    returns
-    loop-holds
-    shared-slice-read-fold-byte
-    fold-byte-requires
-    shared-slice-read-if2
-    returns-2
-    add-i
-    loop-less
-    loop-again
-    returns-3)
+    (λ c. sym (same-long _ _ _ (c .if1 .taken)))
+    (λ c. (search needs, refl))
+    (λ c. omega arith)
+    (λ c κs. search needs)
+    (λ c. omega arith)
+    (λ c. rw (c .before .before .before .before .before .loop .inv .1, same-more _ (c .before .before .before .before .before .before .before .before .before .args .s .now) (c .before .before .before .before .before .before .before .before .before .args .t .now) (c .before .before .before .before .before .loop .i) (omega arith) (omega arith), ← c .before .before .fold-byte .ensures, ne-eqb _ _ (c .if2 .taken)))
+    (λ c. omega arith)
+    (λ c. omega arith)
+    (λ c. (omega arith, c .before .before .before .before .before .loop .inv .1 ∙ rw (same-more _ (c .before .before .before .before .before .before .before .before .before .args .s .now) (c .before .before .before .before .before .before .before .before .before .args .t .now) (c .before .before .before .before .before .loop .i) (omega arith) (omega arith), ← c .before .before .fold-byte .ensures, eq-eqb _ _ (c .if2 .left))))
+    (λ c. sym (c .before .loop .inv .1 ∙ same-end _ _ _ _ (c .loop-test .left) (omega arith))))

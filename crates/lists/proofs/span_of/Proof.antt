@@ -1,46 +1,21 @@
+-- The loop keeps that the scan of the whole text is i and the scan of what is left. Assumes nothing.
+use borrow.Author.Needs.{needs}
+use mathlib.Core.Path.{_≡_, refl, sym, _∙_}
+use borrow.Author.Tests.{not-true, not-false}
+use Prim.Native.Nat.{_-_, _+_}
+use native.Mathlib.Nat.{zero-add}
+use lib.ListN.{length, drop}
+use Rattle.lists.specs.Bytes.{span}
+use Rattle.lists.specs.Classes.{inClass}
+use Rattle.lists.proofs.Scan.{span-more, span-stop, span-end}
 use Rattle.lists.proofs.span_of.Statement.{statement}
 use Rattle.lists.proofs.span_of.Tie as tie
-use Rattle.lists.proofs.span_of.Reads as reads
-use Rattle.lists.proofs.span_of.Lts as lts
-use Rattle.lists.proofs.in_class.Reads as in-class-reads
 
 abbrev Inv-loop : tie.InvT-loop
-Inv-loop k s i₀ i = ?
+Inv-loop k s i₀ i = span (inClass k) s ≡ i + span (inClass k) (drop i s)
 
 abbrev μ-loop : tie.MeasureT-loop
-μ-loop k s i₀ i = ?
-
--- src/lib.rt:161:5
-loop-holds : tie.Need-loop-holds Inv-loop μ-loop
-loop-holds c = ?
-
--- src/lib.rt:162:25
-shared-slice-read-in-class : tie.Need-shared-slice-read-in-class Inv-loop μ-loop
-shared-slice-read-in-class c = ?
-
--- src/lib.rt:162:13
-in-class-requires : tie.Need-in-class-requires Inv-loop μ-loop
-in-class-requires c κs = ?
-
--- src/lib.rt:163:13
-returns : tie.Need-returns Inv-loop μ-loop
-returns c = ?
-
--- src/lib.rt:165:9
-add-i : tie.Need-add-i Inv-loop μ-loop
-add-i c = ?
-
--- src/lib.rt:161:5
-loop-less : tie.Need-loop-less Inv-loop μ-loop
-loop-less c = ?
-
--- src/lib.rt:161:5
-loop-again : tie.Need-loop-again Inv-loop μ-loop
-loop-again c = ?
-
--- src/lib.rt:157:1
-returns-2 : tie.Need-returns-2 Inv-loop μ-loop
-returns-2 c = ?
+μ-loop k s i₀ i = length s - i
 
 pub span-of-spec : {M : Type 1} → statement M
 span-of-spec =
@@ -48,11 +23,15 @@ span-of-spec =
     (tie.spec
     Inv-loop
     μ-loop
-    loop-holds
-    shared-slice-read-in-class
-    in-class-requires
-    returns
-    add-i
-    loop-less
-    loop-again
-    returns-2)
+    (λ c. sym (zero-add _))
+    (λ c. search needs)
+    (λ c κs. search needs)
+    (λ c.
+    sym (c .before .before .before .before .loop .inv
+    ∙ span-stop _ _ _ (search needs) (sym (c .before .in-class .ensures) ∙ not-true _ (c .if1 .taken))))
+    (λ c. search needs)
+    (λ c. search needs)
+    (λ c.
+    c .before .before .before .before .loop .inv
+    ∙ span-more _ _ _ (search needs) (sym (c .before .in-class .ensures) ∙ not-false _ (c .if1 .left)))
+    (λ c. sym (c .before .loop .inv ∙ span-end _ _ _ (search needs))))

@@ -1,0 +1,76 @@
+-- How the parts of a text between separators go on, over the separator and the test of a part. Assumes nothing.
+use mathlib.Core.Path.{_≡_, refl, sym, ap, _∙_}
+use mathlib.Core.Bool.{Bool, true, false, cond, not, _&&_}
+use mathlib.Core.List.{List, [], _∷_}
+use Prim.Native.Nat.{ℕ, zero, suc, _+_, _≤_, _<_}
+use native.Mathlib.Numerals.{add-one}
+use native.Mathlib.Omega.{arith}
+use lib.Dec.{eqb, leb, ltb}
+use lib.ListN.{length, take, drop}
+use lib.Seq.{take-all}
+use borrow.Author.Tests.{ltb-true, ltb-false, le-leb}
+use Rattle.lists.specs.Bytes.{span, split, onto, allParts}
+use Rattle.lists.specs.Classes.{except}
+
+-- there is always a part
+pub split-some : (c : ℕ) (s : List ℕ) → 0 < length (split c s)
+unfolding split onto
+split-some c [] = omega arith
+split-some c (b ∷ s) = go (eqb b c) (split c s)
+  where
+    go : (t : Bool) (ps : List (List ℕ)) → 0 < length (cond t ([] ∷ ps) (onto b ps))
+    go true ps = omega arith
+    go false [] = omega arith
+    go false (p ∷ ps) = omega arith
+
+-- a separator after the first n bytes
+pub split-more : (c : ℕ) (s : List ℕ) → span (except c) s < length s → split c s ≡ take (span (except c) s) s ∷ split c (drop (span (except c) s + 1) s)
+unfolding split span onto
+split-more c [] h = absurd (omega arith)
+split-more c (b ∷ s) h = go (eqb b c) h (split-more c s)
+  where
+    go : (t : Bool) → cond (not t) (suc (span (except c) s)) 0 < suc (length s)
+        → (span (except c) s < length s → split c s ≡ take (span (except c) s) s ∷ split c (drop (span (except c) s + 1) s))
+        → cond t ([] ∷ split c s) (onto b (split c s))
+        ≡ take (cond (not t) (suc (span (except c) s)) 0) (b ∷ s) ∷ split c (drop (cond (not t) (suc (span (except c) s)) 0 + 1) (b ∷ s))
+    go true h i = refl
+    go false h i = rw (i (omega arith)) (simp add-one)
+
+-- no separator
+pub split-last : (c : ℕ) (s : List ℕ) → length s ≤ span (except c) s → split c s ≡ s ∷ []
+unfolding split span onto
+split-last c [] h = refl
+split-last c (b ∷ s) h = go (eqb b c) h (split-last c s)
+  where
+    go : (t : Bool) → suc (length s) ≤ cond (not t) (suc (span (except c) s)) 0
+        → (length s ≤ span (except c) s → split c s ≡ s ∷ [])
+        → cond t ([] ∷ split c s) (onto b (split c s)) ≡ (b ∷ s) ∷ []
+    go true h i = absurd (omega arith)
+    go false h i = rw (i (omega arith))
+
+-- there is more than one part where there is a separator
+pub split-two : (c : ℕ) (s : List ℕ) → leb 2 (length (split c s)) ≡ ltb (span (except c) s) (length s)
+split-two c s = go (ltb (span (except c) s) (length s)) refl
+  where
+    go : (t : Bool) → ltb (span (except c) s) (length s) ≡ t → leb 2 (length (split c s)) ≡ t
+    go true e = rw (split-more c s (ltb-true _ _ e)) (le-leb 2 (suc (length (split c (drop (span (except c) s + 1) s)))) (omega (arith, split-some c (drop (span (except c) s + 1) s))))
+    go false e = rw (split-last c s (ltb-false _ _ e))
+
+-- the first part fails
+pub parts-fail : (p : List ℕ → Bool) (c : ℕ) (s : List ℕ) → p (take (span (except c) s) s) ≡ false → allParts p (split c s) ≡ false
+unfolding allParts
+parts-fail p c s f = go (ltb (span (except c) s) (length s)) refl
+  where
+    go : (t : Bool) → ltb (span (except c) s) (length s) ≡ t → allParts p (split c s) ≡ false
+    go true e = rw (split-more c s (ltb-true _ _ e), f)
+    go false e = rw (split-last c s (ltb-false _ _ e), ← take-all (span (except c) s) s (ltb-false _ _ e), f)
+
+-- the first part is the last
+pub parts-end : (p : List ℕ → Bool) (c : ℕ) (s : List ℕ) → p (take (span (except c) s) s) ≡ true → length s ≤ span (except c) s → allParts p (split c s) ≡ true
+unfolding allParts
+parts-end p c s f h = let q : p s ≡ true = rw (take-all (span (except c) s) s h) at f in rw (split-last c s h, q)
+
+-- the first part passes, and the others decide
+pub parts-more : (p : List ℕ → Bool) (c : ℕ) (s : List ℕ) → p (take (span (except c) s) s) ≡ true → span (except c) s < length s → allParts p (split c s) ≡ allParts p (split c (drop (span (except c) s + 1) s))
+unfolding allParts
+parts-more p c s f h = rw (split-more c s h, f)

@@ -1,0 +1,27 @@
+-- `recur` is its own step where the step reads only shorter texts again. Assumes nothing.
+use mathlib.Core.Path.{_≡_, refl}
+use mathlib.Core.Bool.{Bool, true, false, cond}
+use mathlib.Core.List.{List}
+use Prim.Native.Nat.{ℕ, zero, suc, _<_}
+use native.Mathlib.Omega.{arith}
+use lib.ListN.{length}
+use Rattle.lists.specs.Recur.{recurAt, recur}
+
+-- the step asks the reader for shorter texts alone
+abbrev pub Local : {A : Type 0} → ((List ℕ → A) → List ℕ → A) → Type 0
+Local {A} step = (f g : List ℕ → A) (s : List ℕ) → ((t : List ℕ) → length t < length s → f t ≡ g t) → step f s ≡ step g s
+
+enough : {A : Type 0} (b : A) (step : (List ℕ → A) → List ℕ → A) → Local step → (m n : ℕ) (s : List ℕ) → length s < m → length s < n → recurAt b step m s ≡ recurAt b step n s
+unfolding recurAt
+enough b step l zero n s h k = absurd (omega arith)
+enough b step l (suc m) zero s h k = absurd (omega arith)
+enough b step l (suc m) (suc n) s h k = l (recurAt b step m) (recurAt b step n) s (λ t q. enough b step l m n t (omega arith) (omega arith))
+
+pub recur-eq : {A : Type 0} (b : A) (step : (List ℕ → A) → List ℕ → A) → Local step → (s : List ℕ) → recur b step s ≡ step (recur b step) s
+unfolding recurAt recur
+recur-eq b step l s = l (recurAt b step (length s)) (recur b step) s (λ t q. enough b step l (length s) (suc (length t)) t q (omega arith))
+
+-- two branches are equal where each is, under its own test
+pub cond-cong : {A : Type 0} (b : Bool) {x x′ y y′ : A} → (b ≡ true → x ≡ x′) → (b ≡ false → y ≡ y′) → cond b x y ≡ cond b x′ y′
+cond-cong true f g = f refl
+cond-cong false f g = g refl

@@ -1,0 +1,99 @@
+-- Laws of `all`, `span`, `afterLast` and `sameBy` along a list, over the test, for loops that count. Assumes nothing.
+use mathlib.Core.Path.{_≡_, refl, sym, ap, _∙_}
+use mathlib.Core.Bool.{Bool, true, false, cond, _&&_, and-false}
+use mathlib.Core.List.{List, [], _∷_, _++_}
+use Prim.Native.Nat.{ℕ, zero, suc, _+_, _-_, _*_, _≤_, _<_}
+use native.Mathlib.Nat.{mul-le-mul-left}
+use native.Mathlib.Numerals.{add-one}
+use native.Mathlib.Omega.{arith}
+use lib.Dec.{eqb}
+use lib.ListN.{length, take, drop, getD, length-drop, drop-of-length-le, List·getD-eq-default}
+use lib.Seq.{drop-cons, take-all, take-suc, length-take-le}
+use borrow.Author.Tests.{ne-eqb}
+use Rattle.lists.specs.Bytes.{all, span, afterLast, sameBy}
+
+module _ (p : ℕ → Bool) (s : List ℕ) (i : ℕ) where
+  -- what a loop keeps: the bytes before i passed
+  abbrev pub Kept : Type 0
+  Kept = (i ≤ length s) × (all p s ≡ all p (drop i s))
+
+  pub all-more : i < length s → all p (drop i s) ≡ p (getD s i 0) && all p (drop (i + 1) s)
+  unfolding all
+  all-more h = rw (add-one, drop-cons s i 0)
+
+  pub all-fails : Kept → i < length s → p (getD s i 0) ≡ false → false ≡ all p s
+  all-fails k h e = rw (k .1, all-more h, e)
+
+  pub all-end : Kept → length s ≤ i → true ≡ all p s
+  unfolding all
+  all-end k h = rw (k .1, drop-of-length-le s)
+
+pub all-next : (p : ℕ → Bool) (s : List ℕ) (i : ℕ) → Kept p s i → i < length s → p (getD s i 0) ≡ true → Kept p s (i + 1)
+all-next p s i k h e = (omega arith, k .1 ∙ rw (all-more p s i h, e))
+
+-- what a scan keeps: from the next place on it answers the same
+pub span-more : (p : ℕ → Bool) (s : List ℕ) (i : ℕ) → i < length s → p (getD s i 0) ≡ true → i + span p (drop i s) ≡ (i + 1) + span p (drop (i + 1) s)
+unfolding span
+span-more p s i h e = rw (add-one, drop-cons s i 0, e) (omega arith)
+
+pub span-stop : (p : ℕ → Bool) (s : List ℕ) (i : ℕ) → i < length s → p (getD s i 0) ≡ false → i + span p (drop i s) ≡ i
+unfolding span
+span-stop p s i h e = rw (drop-cons s i 0, e) (omega arith)
+
+pub span-end : (p : ℕ → Bool) (s : List ℕ) (i : ℕ) → length s ≤ i → i + span p (drop i s) ≡ i
+unfolding span
+span-end p s i h = rw (drop-of-length-le s) (omega arith)
+
+pub span-le : (p : ℕ → Bool) (s : List ℕ) → span p s ≤ length s
+unfolding span
+span-le p [] = omega arith
+span-le p (b ∷ s) = go (p b) (span-le p s)
+  where
+    go : (t : Bool) → span p s ≤ length s → cond t (suc (span p s)) 0 ≤ suc (length s)
+    go true h = omega arith
+    go false h = omega arith
+
+-- one byte more at the end
+last-snoc : (p : ℕ → Bool) (s : List ℕ) (x : ℕ) → afterLast p (s ++ (x ∷ [])) ≡ cond (p x) (suc (length s)) (afterLast p s)
+unfolding afterLast
+last-snoc p [] x = refl
+last-snoc p (y ∷ s) x = rw (last-snoc p s x) (go (p x))
+  where
+    go : (b : Bool) → cond (eqb (cond b (suc (length s)) (afterLast p s)) 0) (cond (p y) 1 0) (suc (cond b (suc (length s)) (afterLast p s))) ≡ cond b (suc (suc (length s))) (cond (eqb (afterLast p s) 0) (cond (p y) 1 0) (suc (afterLast p s)))
+    go true = rw (ne-eqb (suc (length s)) 0 (omega arith))
+    go false = refl
+
+-- what a scan from the end keeps: the first i bytes and the byte before i
+pub last-more : (p : ℕ → Bool) (s : List ℕ) (i : ℕ) → 0 < i → i ≤ length s → afterLast p (take i s) ≡ cond (p (getD s (i - 1) 0)) i (afterLast p (take (i - 1) s))
+last-more p s zero z h = absurd (omega arith)
+last-more p s (suc i) z h =
+    let e : length (take i s) ≡ i = length-take-le i s (omega arith) in
+    let d : suc i - 1 ≡ i = omega arith in
+    rw (d, take-suc s i 0) (rw e at (last-snoc p (take i s) (getD s i 0)))
+
+pub same-more : (f : ℕ → ℕ) (x y : List ℕ) (i : ℕ) → i < length x → i < length y → sameBy f (drop i x) (drop i y) ≡ eqb (f (getD x i 0)) (getD y i 0) && sameBy f (drop (i + 1) x) (drop (i + 1) y)
+unfolding sameBy
+same-more f x y i h k = rw (add-one, drop-cons x i 0, drop-cons y i 0)
+
+pub same-end : (f : ℕ → ℕ) (x y : List ℕ) (i : ℕ) → length x ≤ i → length y ≤ i → sameBy f (drop i x) (drop i y) ≡ true
+unfolding sameBy
+same-end f x y i h k = rw (drop-of-length-le x h, drop-of-length-le y k)
+
+pub same-long : (f : ℕ → ℕ) (x y : List ℕ) → (length x ≡ length y → ⊥) → sameBy f x y ≡ false
+unfolding sameBy
+same-long f [] [] n = absurd (n refl)
+same-long f [] (y ∷ ys) n = refl
+same-long f (x ∷ xs) [] n = refl
+same-long f (x ∷ xs) (y ∷ ys) n = rw (same-long f xs ys (λ e. n (ap suc e))) (and-false (eqb (f x) y))
+
+-- a read past the end
+pub past : (s : List ℕ) (i : ℕ) → length s ≤ i → 0 ≡ getD s i 0
+past s i h = sym (List·getD-eq-default s 0 h)
+
+-- a part that runs to the end, as the borrow checker states `&s[n..]`
+pub rest : (s : List ℕ) (n : ℕ) → take (length s - n) (drop n s) ≡ drop n s
+rest s n = take-all (length s - n) (drop n s) (simp length-drop (omega arith))
+
+-- where a row of a packed table starts
+pub product : (w k : ℕ) → w < 256 → k < 256 → w * k < 65536
+product w k h g = let m : w * k ≤ w * 255 = mul-le-mul-left w (omega arith) in omega arith

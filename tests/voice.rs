@@ -1,0 +1,49 @@
+//! The calls of include/howhakiru.h, as Rust sees them.
+
+use crate::answers::{Part, Time, Verdict, Word};
+
+/// A call that takes the text alone and answers a verdict.
+pub type VerdictCall = unsafe extern "C" fn(*const u8, usize) -> Verdict;
+
+extern "C" {
+    pub fn hwk_is_digits(s: *const u8, s_len: usize) -> Verdict;
+    pub fn hwk_is_alpha(s: *const u8, s_len: usize) -> Verdict;
+    pub fn hwk_is_double(s: *const u8, s_len: usize) -> Verdict;
+    pub fn hwk_is_comma_int(s: *const u8, s_len: usize) -> Verdict;
+    pub fn hwk_is_ordinal(s: *const u8, s_len: usize) -> Verdict;
+    pub fn hwk_is_us_money(s: *const u8, s_len: usize) -> Verdict;
+    pub fn hwk_is_illion(s: *const u8, s_len: usize) -> Verdict;
+    pub fn hwk_is_roman(s: *const u8, s_len: usize) -> Verdict;
+    pub fn hwk_is_dr_or_st(s: *const u8, s_len: usize) -> Verdict;
+    pub fn hwk_is_number_s(s: *const u8, s_len: usize) -> Verdict;
+    pub fn hwk_is_leading_zero_digits(s: *const u8, s_len: usize) -> Verdict;
+    pub fn hwk_is_seven_digit_phone(s: *const u8, s_len: usize) -> Verdict;
+    pub fn hwk_is_n_digits(s: *const u8, s_len: usize, n: usize) -> Verdict;
+    pub fn hwk_is_time(s: *const u8, s_len: usize) -> Verdict;
+    pub fn hwk_is_dotted_abbrev(s: *const u8, s_len: usize) -> Verdict;
+    pub fn hwk_is_digits_slash_digits(s: *const u8, s_len: usize) -> Verdict;
+    pub fn hwk_is_digits_dash_digits(s: *const u8, s_len: usize) -> Verdict;
+    pub fn hwk_split_time_meridiem(s: *const u8, s_len: usize) -> Time;
+    pub fn hwk_split_unit(s: *const u8, s_len: usize) -> Part;
+    pub fn hwk_unit_word(s: *const u8, s_len: usize, store: *mut u8, store_len: usize) -> Word;
+}
+
+/// The same order as `answers::SHAPES`.
+pub const VERDICTS: [VerdictCall; 16] = [
+    hwk_is_digits,
+    hwk_is_alpha,
+    hwk_is_double,
+    hwk_is_comma_int,
+    hwk_is_ordinal,
+    hwk_is_us_money,
+    hwk_is_illion,
+    hwk_is_roman,
+    hwk_is_dr_or_st,
+    hwk_is_number_s,
+    hwk_is_leading_zero_digits,
+    hwk_is_seven_digit_phone,
+    hwk_is_time,
+    hwk_is_dotted_abbrev,
+    hwk_is_digits_slash_digits,
+    hwk_is_digits_dash_digits,
+];
