@@ -1,14 +1,19 @@
 -- UTF-8 as the table of byte sequences in RFC 3629, section 4, has it. Definitions only.
 -- A byte past the end reads as 0, which is no tail byte, so a character that is cut needs no case of its own.
+use mathlib.Core.Path.{_≡_}
 use mathlib.Core.Bool.{Bool, true, false, cond, _&&_, _||_}
 use mathlib.Core.List.{List}
-use Prim.Native.Nat.{ℕ}
-use lib.Dec.{leb, eqb}
+use Prim.Native.Nat.{ℕ, _≤_, _<_}
+use lib.Dec.{leb, ltb, eqb}
 use lib.ListN.{length, drop, getD}
 use Rattle.lists.specs.Recur.{recur}
 
 abbrev pub within : ℕ → ℕ → ℕ → Bool
 within lo hi b = leb lo b && leb b hi
+
+-- UTF8-1 = %x00-7F
+abbrev pub ascii : ℕ → Bool
+ascii a = ltb a 0x80
 
 -- UTF8-tail = %x80-BF
 abbrev pub utf8Tail : ℕ → Bool
@@ -28,13 +33,17 @@ lead3 a b =
 abbrev pub lead4 : ℕ → ℕ → Bool
 lead4 a b = (eqb a 0xF0 && within 0x90 0xBF b) || (within 0xF1 0xF3 a && utf8Tail b) || (eqb a 0xF4 && within 0x80 0x8F b)
 
+-- how many bytes the character takes that starts with a, where b, c and d follow; 0 where there is none
+unfoldable pub charBytes : ℕ → ℕ → ℕ → ℕ → ℕ
+charBytes a b c d =
+    cond (ascii a) 1
+    (cond (lead2 a && utf8Tail b) 2
+    (cond (lead3 a b && utf8Tail c) 3
+    (cond (lead4 a b && utf8Tail c && utf8Tail d) 4 0)))
+
 -- how many bytes the character at the front takes, 0 where there is none
-unfoldable pub charLen : List ℕ → ℕ
-charLen s =
-    cond (leb (getD s 0 0) 0x7F) 1
-    (cond (lead2 (getD s 0 0) && utf8Tail (getD s 1 0)) 2
-    (cond (lead3 (getD s 0 0) (getD s 1 0) && utf8Tail (getD s 2 0)) 3
-    (cond (lead4 (getD s 0 0) (getD s 1 0) && utf8Tail (getD s 2 0) && utf8Tail (getD s 3 0)) 4 0)))
+abbrev pub charLen : List ℕ → ℕ
+charLen s = charBytes (getD s 0 0) (getD s 1 0) (getD s 2 0) (getD s 3 0)
 
 -- UTF8-octets = *( UTF8-char )
 unfoldable pub utf8Step : (List ℕ → Bool) → List ℕ → Bool
@@ -42,3 +51,8 @@ utf8Step rest s = cond (eqb (length s) 0) true (cond (eqb (charLen s) 0) false (
 
 unfoldable pub utf8 : List ℕ → Bool
 utf8 = recur false utf8Step
+
+-- what a step at the front of s answers: n bytes that the test of the rest decides for, or 0 where s is not UTF-8
+pub record Passed (s : List ℕ) (n : ℕ) : Type 0 where
+  pub few : n ≤ 32
+  pub decides : 0 < length s → utf8 s ≡ cond (eqb n 0) false (utf8 (drop n s))

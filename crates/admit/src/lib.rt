@@ -1,5 +1,6 @@
 // Admission: the refusals of document 01, and the two that every text is tested for.
 use lists::byte_at;
+use lists::front;
 use lists::tail;
 ghost use mathlib.Core.Path.{_≡_};
 ghost use mathlib.Core.Bool.{cond, false};
@@ -7,11 +8,14 @@ ghost use Prim.Native.Nat.{_≤_, _<_};
 ghost use lib.Dec.{leb, ltb, eqb};
 ghost use lib.ListN.{length, drop};
 ghost use Rattle.lists.specs.Bytes.{all};
-ghost use Rattle.admit.specs.Utf8.{utf8Tail, lead2, lead3, lead4, charLen, utf8};
+ghost use Rattle.admit.specs.Utf8.{ascii, utf8Tail, lead2, lead3, lead4, charBytes, charLen, utf8, Passed};
 ghost use Rattle.admit.specs.Refusals.{answerNumber, textRefusal};
 
 // The most bytes of a text.
 pub const TEXT_LIMIT: usize = 65536;
+
+// The bytes of a block that is passed at once where they are all ASCII.
+const BLOCK: usize = 32;
 
 // Why a call is held back (document 01, "Calls held back").
 pub enum Refusal {
@@ -82,25 +86,84 @@ fn is_lead4(a: u8, b: u8) -> bool
         | ((a == 0xF4) & ((0x80 <= b) & (b <= 0x8F)))
 }
 
-// How many bytes the character at the front takes, 0 where there is none.
-fn char_len(s: &[u8]) -> usize
-    ensures { λ r. ⌜ r ≡ charLen (now (s .entry)) ⌝ }
+// How many bytes the character takes that starts with a, where b, c and d follow; 0 where there is none.
+fn char_bytes(a: u8, b: u8, c: u8, d: u8) -> usize
+    ensures { λ r. ⌜ (r ≡ charBytes a b c d) × (r ≤ 4) ⌝ }
 {
-    let a = byte_at(s, 0);
-    if a <= 0x7F {
+    if a < 0x80 {
         return 1;
     }
-    let b = byte_at(s, 1);
     if is_lead2(a) & is_utf8_tail(b) {
         return 2;
     }
-    let c = byte_at(s, 2);
     if is_lead3(a, b) & is_utf8_tail(c) {
         return 3;
     }
-    let d = byte_at(s, 3);
     if is_lead4(a, b) & is_utf8_tail(c) & is_utf8_tail(d) {
         return 4;
     }
     0
+}
+
+// How many bytes the character at the front takes, 0 where there is none.
+fn char_len(s: &[u8]) -> usize
+    ensures { λ r. ⌜ (r ≡ charLen (now (s .entry))) × (r ≤ 4) ⌝ }
+{
+    char_bytes(byte_at(s, 0), byte_at(s, 1), byte_at(s, 2), byte_at(s, 3))
+}
+
+// Whether every byte is ASCII: the whole of s, with no early exit, so that the compiler can take many bytes at once.
+fn is_ascii(s: &[u8]) -> bool
+    ensures { λ r. ⌜ r ≡ all ascii (now (s .entry)) ⌝ }
+{
+    let mut ok = true;
+    let mut i = 0;
+    while i < s.len() {
+        ok = ok & (s[i] < 0x80);
+        i += 1;
+    }
+    ok
+}
+
+// How many bytes at the front can be passed: a block of ASCII, else one character, else 0.
+fn step(s: &[u8]) -> usize
+    ensures { λ r. ⌜ Passed (now (s .entry)) r ⌝ }
+{
+    if BLOCK <= s.len() {
+        if is_ascii(front(s, BLOCK)) {
+            return BLOCK;
+        }
+    }
+    char_len(s)
+}
+
+// Whether s is UTF-8.
+pub fn is_utf8(s: &[u8]) -> bool
+    ensures { λ r. ⌜ r ≡ utf8 (now (s .entry)) ⌝ }
+{
+    if is_ascii(s) {
+        return true;
+    }
+    let mut i = 0;
+    while i < s.len() {
+        let n = step(tail(s, i));
+        if n == 0 {
+            return false;
+        }
+        i += n;
+    }
+    true
+}
+
+// The tests of one text, in their order: its length, and then its bytes.
+pub fn admit(limit: usize, s: &[u8]) -> Answer
+    ensures { λ r. ⌜ answerNumber r ≡ textRefusal limit (now (s .entry)) ⌝ }
+{
+    if limit < s.len() {
+        return Answer::Refused(Refusal::TextTooLong);
+    }
+    if is_utf8(s) {
+        return Answer::Accepted;
+    }
+    Answer::Refused(Refusal::NotUtf8)
 }

@@ -1,10 +1,11 @@
 -- What the public calls of patterns.rs' functions answer. Definitions only.
-use mathlib.Core.Bool.{Bool, false, cond}
+use mathlib.Core.Bool.{Bool, true, false, cond}
 use mathlib.Core.List.{List}
 use Prim.Native.Nat.{ℕ}
 use lib.Dec.{ltb}
 use lib.ListN.{length}
-use Rattle.admit.specs.Refusals.{answerNumber, refusal, textLimit, textDue, textRefusal, Call, call}
+use Rattle.admit.specs.Refusals.{number, answerNumber, refusal, textLimit, textDue, textRefusal, Call, call}
+use Rattle.admit.specs.declared.Refusal.the-variants.{BufferTooShort}
 use Rattle.lists.specs.Bytes.{over}
 use Rattle.units.specs.Units.{isUnit, unitWord}
 use Rattle.shapes.specs.Shapes.{unitAt, hasUnit, unitPart}
@@ -58,6 +59,13 @@ pub record Stored : Type 0 where
 
 abbrev pub asWord : UnitWord → List ℕ → Call Stored
 asWord r store = record { refusal = answerNumber (r .answer); value = record { found = r .yes; size = r .len; store = store } }
+
+-- an accepted text's word goes to the store, or it is too short
+abbrev pub storeCall : List ℕ → List ℕ → Call Stored
+storeCall word store =
+    call (record { found = false; size = 0; store = store })
+    (cond (ltb (length store) (length word)) (number BufferTooShort) 0)
+    (record { found = true; size = length word; store = over word store })
 
 -- unit_word: "a lent output buffer is smaller than the whole result" where the word does not fit
 abbrev pub wordCall : List ℕ → List ℕ → Call Stored

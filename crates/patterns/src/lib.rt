@@ -4,7 +4,6 @@ use admit::Answer;
 use admit::Refusal;
 use admit::TEXT_LIMIT;
 use admit::admit;
-use lists::byte_at;
 use lists::put;
 use shapes::Shape;
 use shapes::TimeSplit;
@@ -12,7 +11,7 @@ use shapes::has_shape;
 ghost use mathlib.Core.Path.{_≡_};
 ghost use Rattle.shapes.specs.Kinds.{hasShape};
 ghost use Rattle.shapes.specs.Shapes.{isDigits, isAlpha, isDouble, isCommaInt, isOrdinal, isUsMoney, isIllion, isRoman, isDrOrSt, isNumberS, isLeadingZeroDigits, isSevenDigitPhone, isNDigits, isTime, isDottedAbbrev, isDigitsSlashDigits, isDigitsDashDigits};
-ghost use Rattle.patterns.specs.Calls.{asVerdict, verdictCall, asTime, timeCall, asUnit, unitCall, asWord, wordCall};
+ghost use Rattle.patterns.specs.Calls.{asVerdict, verdictCall, asTime, timeCall, asUnit, unitCall, asWord, storeCall, wordCall};
 
 // A shape's verdict; no where the call is refused.
 pub struct Verdict {
@@ -39,6 +38,25 @@ pub struct UnitWord {
     pub answer: Answer,
     pub yes: bool,
     pub len: usize,
+}
+
+// Writes the word to the front of the store where it fits.
+fn store_word(word: &[u8], store: &mut [u8]) -> UnitWord
+    ensures { λ r. ⌜ asWord r (now (store .exit)) ≡ storeCall (now (word .entry)) (now (store .entry)) ⌝ }
+{
+    if store.len() < word.len() {
+        return UnitWord {
+            answer: Answer::Refused(Refusal::BufferTooShort),
+            yes: false,
+            len: 0,
+        };
+    }
+    put(store, 0, word);
+    UnitWord {
+        answer: Answer::Accepted,
+        yes: true,
+        len: word.len(),
+    }
 }
 
 // The verdict of a shape by its kind: what every verdict shares.
@@ -200,4 +218,28 @@ pub fn split_unit(s: &[u8]) -> SplitUnit
         offset: s.len() - unit.len(),
         len: unit.len(),
     }
+}
+
+pub fn unit_word(unit: &[u8], store: &mut [u8]) -> UnitWord
+    ensures { λ r. ⌜ asWord r (now (store .exit)) ≡ wordCall (now (unit .entry)) (now (store .entry)) ⌝ }
+{
+    let answer = admit(TEXT_LIMIT, unit);
+    let Answer::Accepted = answer else {
+        return UnitWord {
+            answer,
+            yes: false,
+            len: 0,
+        };
+    };
+    let table = units::unit_abbreviations();
+    let k = units::unit_index(&table, unit);
+    if units::UNITS <= k {
+        return UnitWord {
+            answer: Answer::Accepted,
+            yes: false,
+            len: 0,
+        };
+    }
+    let lex = lexicon::lexicon();
+    store_word(lexicon::word(&lex, units::word_number(&table, k)), store)
 }

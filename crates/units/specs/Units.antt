@@ -15,6 +15,10 @@ pub record UnitRow : Type 0 where
 abbrev pub unit : String → String → UnitRow
 unit a w = record { abbreviation = bytes a; word = bytes w }
 
+-- what stands for no row
+abbrev pub noUnit : UnitRow
+noUnit = unit "" ""
+
 unfoldable pub unitAbbreviations : List UnitRow
 unitAbbreviations =
     unit "LB" "pounds" ∷ unit "LBS" "pounds" ∷ unit "lb" "pounds" ∷ unit "lbs" "pounds"
@@ -39,7 +43,7 @@ isUnit u = ltb (unitIndex u) (length unitAbbreviations)
 
 -- unit_word: the word of the first row whose abbreviation is u, nothing where there is none
 abbrev pub unitWord : List ℕ → List ℕ
-unitWord u = getD unitAbbreviations (unitIndex u) (unit "" "") .word
+unitWord u = (getD unitAbbreviations (unitIndex u) noUnit) .word
 
 -- the table as the code holds it: rows of 5 bytes, the abbreviation's length, its letters, padding, and its word's number in the lexicon
 unfoldable pub packedUnits : List ℕ

@@ -1,8 +1,11 @@
 // The table UNIT_ABBREVIATIONS of patterns.rs and its look-up.
 use lists::Fold;
+use lists::byte_at;
 use lists::packed_row;
 use lists::same;
 ghost use mathlib.Core.Path.{_≡_};
+ghost use Prim.Native.Nat.{_+_, _*_};
+ghost use lib.ListN.{getD};
 ghost use Rattle.units.specs.Units.{packedUnits, unitIndex};
 
 // The bytes of a row of the table.
@@ -31,4 +34,11 @@ pub fn unit_index(table: &[u8], u: &[u8]) -> u8
         k += 1;
     }
     UNITS
+}
+
+// The number, in the lexicon, of row k's word.
+pub fn word_number(table: &[u8], k: u8) -> u8
+    ensures { λ r. ⌜ r ≡ getD (now (table .entry)) (5 * k + 4) 0 ⌝ }
+{
+    byte_at(table, 5 * (k as usize) + 4)
 }

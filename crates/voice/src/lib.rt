@@ -162,3 +162,24 @@ pub extern "C" fn hwk_is_digits_dash_digits(s: &[u8]) -> HwkVerdict
 {
     verdict(Shape::DigitsDashDigits, s)
 }
+
+#[no_mangle]
+pub extern "C" fn hwk_split_time_meridiem(s: &[u8]) -> HwkTime
+    ensures { λ r. ⌜ r ≡ timeAtC (length (now (s .entry))) (timeCall (now (s .entry))) ⌝ }
+{
+    time_at_c(patterns::split_time_meridiem(s), s.len())
+}
+
+#[no_mangle]
+pub extern "C" fn hwk_split_unit(s: &[u8]) -> HwkPart
+    ensures { λ r. ⌜ r ≡ unitAtC (unitCall (now (s .entry))) ⌝ }
+{
+    unit_at_c(patterns::split_unit(s))
+}
+
+#[no_mangle]
+pub extern "C" fn hwk_unit_word(s: &[u8], store: &mut [u8]) -> HwkWord
+    ensures { λ r. ⌜ wordSeen r (now (store .exit)) ≡ wordCall (now (s .entry)) (now (store .entry)) ⌝ }
+{
+    word_at_c(patterns::unit_word(s, store))
+}

@@ -1,0 +1,68 @@
+-- How the test of UTF-8 goes on, a character at a time or over a run of ASCII. Assumes nothing.
+use mathlib.Core.Path.{_≡_, refl, sym, ap, _∙_}
+use mathlib.Core.Bool.{Bool, true, false, cond, _&&_, and-assoc, and-true}
+use mathlib.Core.List.{List, [], _∷_}
+use Prim.Native.Nat.{ℕ, zero, suc, _+_, _≤_, _<_}
+use native.Mathlib.Omega.{arith}
+use lib.Dec.{ltb, eqb}
+use lib.ListN.{length, take, drop, getD, length-drop, drop-of-length-le}
+use lib.Seq.{drop-drop, take-length, drop-length}
+use borrow.Author.Tests.{eq-eqb, ne-eqb, eqb-false}
+use Rattle.lists.specs.Bytes.{all}
+use Rattle.lists.proofs.Recursion.{Local, recur-eq, cond-cong}
+use Rattle.lists.proofs.Scan.{all-more}
+use Rattle.admit.specs.Utf8.{ascii, charBytes, charLen, utf8Step, utf8, Passed}
+
+utf8-local : Local utf8Step
+unfolding utf8Step
+utf8-local f g s h =
+    cond-cong (eqb (length s) 0) (λ e. refl) (λ n.
+    cond-cong (eqb (charLen s) 0) (λ e. refl) (λ m.
+    h (drop (charLen s) s) (simp length-drop (omega (arith, eqb-false (length s) 0 n, eqb-false (charLen s) 0 m)))))
+
+utf8-eq : (s : List ℕ) → utf8 s ≡ utf8Step utf8 s
+unfolding utf8
+utf8-eq s = recur-eq false utf8Step utf8-local s
+
+pub utf8-end : (s : List ℕ) (i : ℕ) → length s ≤ i → utf8 (drop i s) ≡ true
+unfolding utf8Step
+utf8-end s i h =
+    let e : length (drop i s) ≡ 0 = simp length-drop (omega arith) in
+    utf8-eq (drop i s) ∙ rw e
+
+-- one character
+pub utf8-char : (s : List ℕ) (n : ℕ) → n ≡ charLen s → 0 < length s → utf8 s ≡ cond (eqb n 0) false (utf8 (drop n s))
+unfolding utf8Step
+utf8-char s n e h =
+    let k : length s ≡ 0 → ⊥ = λ z. omega arith in
+    utf8-eq s ∙ rw (ne-eqb (length s) 0 k, ← e)
+
+utf8-ascii : (a : ℕ) (s : List ℕ) → ascii a ≡ true → utf8 (a ∷ s) ≡ utf8 s
+unfolding charBytes
+utf8-ascii a s h = utf8-char (a ∷ s) 1 (rw h) (omega arith)
+
+-- a run of ASCII
+pub utf8-run : (n : ℕ) (s : List ℕ) → all ascii (take n s) ≡ true → utf8 s ≡ utf8 (drop n s)
+unfolding all
+utf8-run zero s h = refl
+utf8-run (suc n) [] h = refl
+utf8-run (suc n) (a ∷ s) h = go (ascii a) refl h (utf8-run n s)
+  where
+    go : (t : Bool) → ascii a ≡ t → (t && all ascii (take n s)) ≡ true → (all ascii (take n s) ≡ true → utf8 s ≡ utf8 (drop n s)) → utf8 (a ∷ s) ≡ utf8 (drop n s)
+    go true e h i = utf8-ascii a s e ∙ i h
+    go false e h i = cc
+
+pub utf8-all : (s : List ℕ) → all ascii s ≡ true → utf8 s ≡ true
+utf8-all s h = utf8-run (length s) s (rw take-length h) ∙ utf8-end s (length s) (omega arith)
+
+-- what the test of a whole run keeps: what was found so far, and the bytes left
+pub ascii-more : (ok : Bool) (s : List ℕ) (i : ℕ) → i < length s → (ok && all ascii (drop i s)) ≡ ((ok && ascii (getD s i 0)) && all ascii (drop (i + 1) s))
+ascii-more ok s i h = rw (all-more ascii s i h, and-assoc ok (ascii (getD s i 0)) (all ascii (drop (i + 1) s)))
+
+pub ascii-end : (ok : Bool) (s : List ℕ) (i : ℕ) → length s ≤ i → (ok && all ascii (drop i s)) ≡ ok
+unfolding all
+ascii-end ok s i h = rw (drop-of-length-le s {i = i} h) (and-true ok)
+
+-- a step from the place i
+pub utf8-on : (s : List ℕ) (i n : ℕ) → i < length s → Passed (drop i s) n → utf8 (drop i s) ≡ cond (eqb n 0) false (utf8 (drop (i + n) s))
+utf8-on s i n h p = p .decides (simp length-drop (omega arith)) ∙ rw drop-drop

@@ -1,0 +1,45 @@
+use native.Mathlib.Omega.{arith}
+use mathlib.Core.Path.{refl}
+use Prim.Native.Nat.{_-_}
+use borrow.Author.Tests.{lt-ltb, le-ltb}
+use Rattle.admit.specs.Utf8.{charBytes}
+use borrow.Author.Needs.{needs}
+use Rattle.admit.proofs.char_bytes.Statement.{statement}
+use Rattle.admit.proofs.char_bytes.Tie as tie
+
+returns : tie.Need-returns
+unfolding charBytes
+returns c = rw (lt-ltb _ _ (c .if1 .taken)) (refl, omega arith)
+
+returns-2 : tie.Need-returns-2
+unfolding charBytes
+returns-2 c = rw (le-ltb _ _ (c .before .before .before .if1 .left), rw (c .before .before .is-lead2 .ensures, c .before .is-utf8-tail .ensures) at (c .if2 .taken)) (refl, omega arith)
+
+returns-3 : tie.Need-returns-3
+unfolding charBytes
+returns-3 c = rw (le-ltb _ _ (c .before .before .before .before .before .before .if1 .left), rw (c .before .before .before .before .before .is-lead2 .ensures, c .before .before .before .before .is-utf8-tail .ensures) at (c .before .before .before .if2 .left), rw (c .before .before .is-lead3 .ensures, c .before .is-utf8-tail2 .ensures) at (c .if3 .taken)) (refl, omega arith)
+
+returns-4 : tie.Need-returns-4
+unfolding charBytes
+returns-4 c = rw (le-ltb _ _ (c .before .before .before .before .before .before .before .before .before .before .if1 .left), rw (c .before .before .before .before .before .before .before .before .before .is-lead2 .ensures, c .before .before .before .before .before .before .before .before .is-utf8-tail .ensures) at (c .before .before .before .before .before .before .before .if2 .left), rw (c .before .before .before .before .before .before .is-lead3 .ensures, c .before .before .before .before .before .is-utf8-tail2 .ensures) at (c .before .before .before .before .if3 .left), rw (c .before .before .before .is-lead4 .ensures, c .before .before .is-utf8-tail3 .ensures, c .before .is-utf8-tail4 .ensures) at (c .if4 .taken)) (refl, omega arith)
+
+returns-5 : tie.Need-returns-5
+unfolding charBytes
+returns-5 c = rw (le-ltb _ _ (c .before .before .before .before .before .before .before .before .before .before .if1 .left), rw (c .before .before .before .before .before .before .before .before .before .is-lead2 .ensures, c .before .before .before .before .before .before .before .before .is-utf8-tail .ensures) at (c .before .before .before .before .before .before .before .if2 .left), rw (c .before .before .before .before .before .before .is-lead3 .ensures, c .before .before .before .before .before .is-utf8-tail2 .ensures) at (c .before .before .before .before .if3 .left), rw (c .before .before .before .is-lead4 .ensures, c .before .before .is-utf8-tail3 .ensures, c .before .is-utf8-tail4 .ensures) at (c .if4 .left)) (refl, omega arith)
+
+pub char-bytes-spec : {M : Type 1} → statement M
+char-bytes-spec =
+    tie.close
+    (tie.spec
+    returns
+    (λ c κs. search needs)
+    (λ c κs. search needs)
+    returns-2
+    (λ c κs. search needs)
+    (λ c κs. search needs)
+    returns-3
+    (λ c κs. search needs)
+    (λ c κs. search needs)
+    (λ c κs. search needs)
+    returns-4
+    returns-5)

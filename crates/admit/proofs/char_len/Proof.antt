@@ -1,0 +1,15 @@
+use Prim.Native.Nat.{_-_}
+use borrow.Author.Needs.{needs}
+use Rattle.admit.proofs.char_len.Statement.{statement}
+use Rattle.admit.proofs.char_len.Tie as tie
+
+pub char-len-spec : {M : Type 1} → statement M
+char-len-spec =
+    tie.close
+    (tie.spec
+    (λ c κs. search needs)
+    (λ c κs. search needs)
+    (λ c κs. search needs)
+    (λ c κs. search needs)
+    (λ c κs. search needs)
+    (λ c. rw (← c .before .before .before .before .byte-at .ensures, ← c .before .before .before .byte-at2 .ensures, ← c .before .before .byte-at3 .ensures, ← c .before .byte-at4 .ensures) (c .char-bytes .ensures)))

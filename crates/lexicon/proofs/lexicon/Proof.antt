@@ -1,0 +1,12 @@
+-- The code's table is the definition's. Assumes nothing.
+use mathlib.Core.Path.{refl}
+use Rattle.lexicon.specs.Lexicon.{packed}
+use Rattle.lexicon.proofs.lexicon.Statement.{statement}
+use Rattle.lexicon.proofs.lexicon.Tie as tie
+
+returns : tie.Need-returns
+unfolding packed
+returns c = refl
+
+pub lexicon-spec : {M : Type 1} → statement M
+lexicon-spec = tie.close (tie.spec returns)

@@ -1,0 +1,36 @@
+use borrow.Author.Needs.{needs}
+use native.Mathlib.Omega.{arith}
+use mathlib.Core.Path.{_≡_, sym, _∙_}
+use Prim.Native.Nat.{_-_, _+_, _≤_}
+use lib.ListN.{drop}
+use Rattle.units.specs.Units.{unitIndex, rowsBefore, unitAbbreviations}
+use Rattle.units.proofs.Laws.{index-more, index-end}
+use Rattle.units.proofs.unit_index.Statement.{statement}
+use Rattle.units.proofs.unit_index.Tie as tie
+
+abbrev Inv-loop : tie.InvT-loop
+Inv-loop table u k₀ k = (k ≤ 22) × (unitIndex u ≡ k + rowsBefore u (drop k unitAbbreviations))
+
+abbrev μ-loop : tie.MeasureT-loop
+μ-loop table u k₀ k = 22 - k
+
+pub unit-index-spec : {M : Type 1} → statement M
+unit-index-spec =
+    tie.close
+    (tie.spec
+    Inv-loop
+    μ-loop
+    (λ c. (omega arith, omega arith))
+    (λ c κs. search needs)
+    (λ c κs. search needs)
+    (λ c.
+    let s = rw (c .before .before .packed-row .ensures, c .before .before .before .before .before .before .before .pre) at (c .before .same .ensures) in
+    sym (c .before .before .before .before .loop .inv .1 ∙ rw (index-more (c .before .before .before .before .before .before .before .args .u .now) (c .before .before .before .before .loop .k) (omega arith), ← s, c .if1 .taken) (omega arith)))
+    (λ c. search needs)
+    (λ c. search needs)
+    (λ c.
+    let s = rw (c .before .before .packed-row .ensures, c .before .before .before .before .before .before .before .pre) at (c .before .same .ensures) in
+    (omega arith, c .before .before .before .before .loop .inv .1 ∙ rw (index-more (c .before .before .before .before .before .before .before .args .u .now) (c .before .before .before .before .loop .k) (omega arith), ← s, c .if1 .left) (omega arith)))
+    (λ c.
+    let z : c .before .loop .k ≡ 22 = omega arith in
+    sym (c .before .loop .inv .1 ∙ rw (index-end (c .before .before .before .before .args .u .now) (c .before .loop .k) (omega arith)) (omega arith))))

@@ -1,0 +1,68 @@
+//! Compares every call of the static library with the Rust reference.
+//!
+//! harness SECONDS SEED: the fixed groups run whole, the random ones for what is left of the time, once at least.
+
+use std::process;
+use std::time::{Duration, Instant};
+
+mod answers;
+mod comparison;
+mod corners;
+mod exhaustive;
+mod lent;
+mod long;
+mod pieces;
+mod random;
+mod short;
+mod utf8;
+mod voice;
+
+use comparison::Comparison;
+use random::Random;
+
+fn main() {
+    let arguments: Vec<u64> = std::env::args().skip(1).filter_map(|word| word.parse().ok()).collect();
+    let [seconds, seed] = arguments[..] else {
+        eprintln!("usage: harness SECONDS SEED");
+        process::exit(2);
+    };
+    println!("compare: seed {seed}, {seconds} seconds");
+    let start = Instant::now();
+    let mut comparison = Comparison::new(seed);
+    fixed(&mut comparison);
+    println!("compare: fixed groups took {} s", start.elapsed().as_secs());
+    let mut random = Random::new(seed);
+    loop {
+        round(&mut comparison, &mut random);
+        if start.elapsed() >= Duration::from_secs(seconds) {
+            break;
+        }
+    }
+    comparison.finish();
+}
+
+fn fixed(comparison: &mut Comparison) {
+    comparison.null_pointers();
+    named(comparison);
+    exhaustive::run(comparison);
+    utf8::exhaustive(comparison);
+    utf8::placed(comparison);
+    long::limits(comparison);
+}
+
+/// The corners that the recorder writes down.
+fn named(comparison: &mut Comparison) {
+    comparison.begin("named corners");
+    for text in corners::LISTS.iter().flat_map(|list| list.iter()) {
+        comparison.every_call(text.as_bytes(), 0);
+    }
+    corners::DAMAGED.iter().for_each(|text| comparison.every_call(text, 0));
+}
+
+/// Each random group for some tenths of a second.
+fn round(comparison: &mut Comparison, random: &mut Random) {
+    short::random(comparison, random, 100_000);
+    short::slips(comparison, random, 200_000);
+    long::random(comparison, random, 200);
+    utf8::damaged(comparison, random, 20_000);
+}
