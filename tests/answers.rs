@@ -126,9 +126,7 @@ pub fn unit_word(admitted: Admitted, store_len: usize) -> (Word, &'static [u8]) 
     };
     match patterns::unit_word(text) {
         None => (Word::default(), b""),
-        Some(word) if word.len() > store_len => {
-            (Word { refusal: BUFFER_TOO_SHORT, ..Word::default() }, b"")
-        }
+        Some(word) if word.len() > store_len => (Word { refusal: BUFFER_TOO_SHORT, ..Word::default() }, b""),
         Some(word) => (Word { refusal: 0, yes: 1, len: word.len() }, word.as_bytes()),
     }
 }

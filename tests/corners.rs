@@ -1,5 +1,6 @@
 //! Texts at the corners of each function, one list for each.
 
+#[rustfmt::skip]
 pub const LISTS: &[&[&str]] = &[
     DIGITS, ALPHA, DOUBLES, COMMA_INTS, ORDINALS, MONEY, ILLIONS, ROMANS, DR_OR_ST, NUMBER_S, LEADING_ZERO, PHONES,
     TIMES, TIMES_WITH_MERIDIEM, DOTTED, SLASHES, DASHES, UNITS, UNITS_AFTER_NUMBERS, NOT_ASCII, PLAIN,
@@ -185,7 +186,7 @@ const PLAIN: &[&str] = &[
     "'tis", "yahoo!", "a/b", "x=1", "1+1", "#5", "@home", "C++", "\\", "^", "_", "|", "~", "\u{1}", "\u{1f}",
 ];
 
-// Bytes that are not UTF-8, some of them near a shape.
+// Bytes that are not UTF-8, beside the nearest that are.
 #[rustfmt::skip]
 pub const DAMAGED: &[&[u8]] = &[
     // overlong forms, and the first that is not

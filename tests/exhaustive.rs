@@ -12,24 +12,16 @@ struct Theme {
 // "é" has two bytes and "𐍈" four. Signs that stand next to the digits and letters in ASCII catch a bound that is off by one.
 const THEMES: &[Theme] = &[
     Theme {
-        name: "numbers",
-        most: 5,
-        pieces: &["0", "1", "9", "-", "+", ".", "e", "E", ",", "/", ":", " ", "é", "𐍈"],
+        name: "numbers", most: 5, pieces: &["0", "1", "9", "-", "+", ".", "e", "E", ",", "/", ":", " ", "é", "𐍈"]
     },
-    Theme {
-        name: "comma groups",
-        most: 5,
-        pieces: &["0", "12", "345", "6789", ",", ",000", ".", "-", "a", "é", " "],
-    },
+    Theme { name: "comma groups", most: 5, pieces: &["0", "12", "345", "6789", ",", ",000", ".", "-", "a", "é", " "] },
     Theme {
         name: "times",
         most: 5,
         pieces: &["0", "5", "6", "12", ":", ".", "am", "PM", "a", "p", "m", "-", " ", "é", "𐍈"],
     },
     Theme {
-        name: "money",
-        most: 5,
-        pieces: &["$", "0", "5", "9", ",", ".", "-", "+", "%", "e", "/", " ", "é", "𐍈"],
+        name: "money", most: 5, pieces: &["$", "0", "5", "9", ",", ".", "-", "+", "%", "e", "/", " ", "é", "𐍈"]
     },
     Theme {
         name: "roman numerals",
@@ -63,9 +55,7 @@ const THEMES: &[Theme] = &[
         pieces: &["illion", "illio", "ill", "ion", "i", "l", "o", "n", "m", "s", "I", "5", ".", "é"],
     },
     Theme {
-        name: "dotted",
-        most: 5,
-        pieces: &["A", "z", "U", ".", "1", ",", "-", "@", "[", "`", "{", " ", "é", "𐍈"],
+        name: "dotted", most: 5, pieces: &["A", "z", "U", ".", "1", ",", "-", "@", "[", "`", "{", " ", "é", "𐍈"]
     },
     Theme {
         name: "slashes, dashes and phones",

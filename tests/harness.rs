@@ -43,20 +43,13 @@ fn main() {
 
 fn fixed(comparison: &mut Comparison) {
     comparison.null_pointers();
-    named(comparison);
+    short::named(comparison);
+    short::one_byte_changed(comparison);
     exhaustive::run(comparison);
     utf8::exhaustive(comparison);
     utf8::placed(comparison);
     long::limits(comparison);
-}
-
-/// The corners that the recorder writes down.
-fn named(comparison: &mut Comparison) {
-    comparison.begin("named corners");
-    for text in corners::LISTS.iter().flat_map(|list| list.iter()) {
-        comparison.every_call(text.as_bytes(), 0);
-    }
-    corners::DAMAGED.iter().for_each(|text| comparison.every_call(text, 0));
+    long::flaw_at_each_place(comparison);
 }
 
 /// Each random group for some tenths of a second.

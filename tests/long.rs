@@ -29,6 +29,7 @@ const PATTERNS: &[Pattern] = &[
 ];
 
 /// What may stand at the very end: nothing more, whole characters, and characters cut short.
+#[rustfmt::skip]
 const ENDINGS: &[&[u8]] = &[
     b"", b"5", b"x", b" ", b"\xc3\xa9", b"\xe2\x82\xac", b"\xf0\x90\x8d\x88", b"\xc3", b"\xe2", b"\xe2\x82", b"\xf0",
     b"\xf0\x90", b"\xf0\x90\x8d", b"\xa9", b"\xed\xa0\x80", b"\xff",
@@ -50,6 +51,21 @@ pub fn limits(comparison: &mut Comparison) {
     }
     for len in [2 * TEXT_LIMIT - 1, 2 * TEXT_LIMIT, 2 * TEXT_LIMIT + 1, 1 << 20] {
         comparison.every_call(&of_length(&PATTERNS[0], len, b""), 0);
+    }
+}
+
+/// Texts of some blocks of 64 bytes, with one byte wrong, at every place.
+pub fn flaw_at_each_place(comparison: &mut Comparison) {
+    comparison.begin("one byte wrong, at each place");
+    for pattern in PATTERNS {
+        let whole = of_length(pattern, 400, b"");
+        for place in 0..whole.len() {
+            for byte in [b'x', b'5', b'.', 0xff] {
+                let mut text = whole.clone();
+                text[place] = byte;
+                comparison.every_call(&text, 0);
+            }
+        }
     }
 }
 

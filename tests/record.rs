@@ -14,6 +14,7 @@ use std::process;
 mod answers;
 mod corners;
 mod pieces;
+#[allow(dead_code)] // the harness draws lengths too
 mod random;
 
 use answers::Admitted;
@@ -77,7 +78,11 @@ fn sample() -> Vec<Told> {
     let corners = corners::LISTS.iter().flat_map(|list| list.iter());
     texts.extend(corners.map(|text| plain(text.as_bytes())));
     texts.extend(corners::DAMAGED.iter().map(|text| plain(text)));
-    texts.extend(AT_THE_LIMIT.iter().map(|&(byte, tail, len)| Told { repeat: len - tail.len(), byte, tail: tail.to_vec() }));
+    texts.extend(AT_THE_LIMIT.iter().map(|&(byte, tail, len)| Told {
+        repeat: len - tail.len(),
+        byte,
+        tail: tail.to_vec(),
+    }));
     texts.extend(random_texts().iter().map(|text| plain(text)));
     let mut seen = HashSet::new();
     texts.retain(|text| seen.insert(text.clone()));
@@ -89,7 +94,7 @@ fn random_texts() -> Vec<Vec<u8>> {
     let mut random = Random::new(SEED);
     let corners: Vec<&str> = corners::LISTS.iter().flat_map(|list| list.iter().copied()).collect();
     let mut texts = Vec::new();
-    for _ in 0..500 {
+    for _ in 0..600 {
         let corner = random.one_of(&corners);
         texts.push(pieces::slip(&mut random, corner).into_bytes());
         texts.push(pieces::some_pieces(&mut random, 8).into_bytes());

@@ -5,6 +5,7 @@ use crate::comparison::{Comparison, CALLS};
 use crate::random::Random;
 
 // The bytes on both sides of every bound in RFC 3629's table.
+#[rustfmt::skip]
 const FIRST: &[u8] = &[
     0x00, 0x7f, 0x80, 0xbf, 0xc0, 0xc1, 0xc2, 0xdf, 0xe0, 0xe1, 0xec, 0xed, 0xee, 0xef, 0xf0, 0xf1, 0xf3, 0xf4, 0xf5,
     0xf7, 0xf8, 0xff,
@@ -82,7 +83,8 @@ fn sequences() -> Vec<Vec<u8>> {
     let mut all: Vec<Vec<u8>> = FIRST.iter().map(|&first| vec![first]).collect();
     let mut longest = all.clone();
     for next in [SECOND, LATER, LATER] {
-        longest = longest.iter().flat_map(|front| next.iter().map(move |&byte| [&front[..], &[byte]].concat())).collect();
+        longest =
+            longest.iter().flat_map(|front| next.iter().map(move |&byte| [&front[..], &[byte]].concat())).collect();
         all.extend_from_slice(&longest);
     }
     all

@@ -1,16 +1,18 @@
 -- How the parts of a text between separators go on, over the separator and the test of a part. Assumes nothing.
 use mathlib.Core.Path.{_≡_, refl, sym, ap, _∙_}
-use mathlib.Core.Bool.{Bool, true, false, cond, not, _&&_}
+use mathlib.Core.Bool.{Bool, true, false, cond, not, _&&_, _||_}
 use mathlib.Core.List.{List, [], _∷_}
-use Prim.Native.Nat.{ℕ, zero, suc, _+_, _≤_, _<_}
+use Prim.Native.Nat.{ℕ, zero, suc, _+_, _≤_, _<_, min}
+use native.Mathlib.Nat.{add-zero}
 use native.Mathlib.Numerals.{add-one}
 use native.Mathlib.Omega.{arith}
-use lib.Dec.{eqb, leb, ltb}
+use lib.Dec.{eqb, leb, ltb, leb·suc-suc}
 use lib.ListN.{length, take, drop}
-use lib.Seq.{take-all}
-use borrow.Author.Tests.{ltb-true, ltb-false, le-leb}
-use Rattle.lists.specs.Bytes.{span, split, onto, allParts}
+use lib.Seq.{take-all, take-length}
+use borrow.Author.Tests.{ltb-true, ltb-false, lt-ltb, le-leb}
+use Rattle.lists.specs.Bytes.{span, has, split, onto, allParts, filled}
 use Rattle.lists.specs.Classes.{except}
+use Rattle.lists.proofs.Scan.{span-le}
 
 -- there is always a part
 pub split-some : (c : ℕ) (s : List ℕ) → 0 < length (split c s)
@@ -74,3 +76,32 @@ parts-end p c s f h = let q : p s ≡ true = rw (take-all (span (except c) s) s 
 pub parts-more : (p : List ℕ → Bool) (c : ℕ) (s : List ℕ) → p (take (span (except c) s) s) ≡ true → span (except c) s < length s → allParts p (split c s) ≡ allParts p (split c (drop (span (except c) s + 1) s))
 unfolding allParts
 parts-more p c s f h = rw (split-more c s h, f)
+
+-- whether a separator stands in the text
+pub has-span : (c : ℕ) (s : List ℕ) → has c s ≡ ltb (span (except c) s) (length s)
+unfolding has span
+has-span c [] = refl
+has-span c (b ∷ s) = go (eqb b c) (has-span c s)
+  where
+    go : (t : Bool) → has c s ≡ ltb (span (except c) s) (length s) → (t || has c s) ≡ ltb (cond (not t) (suc (span (except c) s)) 0) (suc (length s))
+    go true i = sym (lt-ltb 0 (suc (length s)) (omega arith))
+    go false i = i ∙ sym (leb·suc-suc (suc (span (except c) s)) (length s))
+
+-- a part counts where it is not empty
+filled-front : (n : ℕ) (s : List ℕ) (ps : List (List ℕ)) → n ≤ length s → length (filled (take n s ∷ ps)) ≡ min n 1 + length (filled ps)
+unfolding filled
+filled-front zero s ps h = omega arith
+filled-front (suc n) [] ps h = absurd (omega arith)
+filled-front (suc n) (b ∷ s) ps h = omega arith
+
+-- the count of parts that are not empty: the first part, and the others
+pub filled-more : (c : ℕ) (s : List ℕ) (n : ℕ) → n ≡ span (except c) s → n < length s → length (filled (split c s)) ≡ min n 1 + length (filled (split c (drop (n + 1) s)))
+filled-more c s n e h = let l : span (except c) s < length s = omega arith in rw (split-more c s l, ← e) (filled-front n s (split c (drop (n + 1) s)) (omega arith))
+
+pub filled-end : (c : ℕ) (s : List ℕ) (n : ℕ) → n ≡ span (except c) s → length s ≤ n → length (filled (split c s)) ≡ min n 1
+unfolding filled
+filled-end c s n e h =
+    let m : n ≡ length s = omega (arith, span-le (except c) s) in
+    let l : length s ≤ span (except c) s = omega arith in
+    let f = filled-front n s [] (omega arith) in
+    rw (split-last c s l) (rw (m, take-length) at f ∙ rw (m, add-zero))

@@ -18,8 +18,9 @@ use lists::strip_suffix;
 use lists::tail;
 use lists::without_back;
 ghost use mathlib.Core.Path.{_≡_};
-ghost use lib.ListN.{length, take, drop};
-ghost use Rattle.lists.specs.Bytes.{split, allParts};
+ghost use Prim.Native.Nat.{min};
+ghost use lib.ListN.{length};
+ghost use Rattle.lists.specs.Bytes.{split, allParts, filled};
 ghost use Rattle.shapes.specs.Shapes.{isDigits, isAlpha, stripSign, isExponent, isUnsigned, isDouble, isCommaInt, isOrdinalSuffix, isOrdinal, isAmount, isUsMoney, isIllion, isSmallRoman, isRoman, isDrOrSt, isNumberS, isLeadingZeroDigits, isSevenDigitPhone, isNDigits, splitOnce, isHourMinute, isTime, isDottedAbbrev, isDigitsSlashDigits, isDigitsDashDigits, hasUnit, unitPart};
 ghost use Rattle.shapes.specs.Times.{endsInMeridiem, timeSplit};
 ghost use Rattle.shapes.specs.Kinds.{hasShape, passes, bothPass};
@@ -306,7 +307,7 @@ pub fn split_time_meridiem(s: &[u8]) -> TimeSplit
         return TimeSplit::At {
             hour: sep,
             minute: sep + 1,
-            meridiem: s.len() - 2,
+            meridiem: time.len(),
         };
     }
     TimeSplit::Nothing
@@ -325,13 +326,36 @@ pub fn is_digits_slash_digits(s: &[u8]) -> bool
     split_once(PairTest::TwoNumbers, 47, s)
 }
 
-// Two parts are not empty where something follows the dashes that follow the first such part.
+// What a part of n bytes adds to the count of parts that are not empty.
+fn one_if_any(n: usize) -> usize
+    ensures { λ r. ⌜ r ≡ min n 1 ⌝ }
+{
+    if n == 0 { 0 } else { 1 }
+}
+
+// How many parts between the bytes c are not empty.
+fn filled_parts(c: u8, s: &[u8]) -> usize
+    ensures { λ r. ⌜ r ≡ length (filled (split c (now (s .entry)))) ⌝ }
+{
+    let mut count = 0;
+    let mut i = 0;
+    loop {
+        let rest = tail(s, i);
+        let n = span_of(Class::Not(c), rest);
+        count += one_if_any(n);
+        if rest.len() <= n {
+            return count;
+        }
+        i += n + 1;
+    }
+}
+
 pub fn is_digits_dash_digits(s: &[u8]) -> bool
     ensures { λ r. ⌜ r ≡ isDigitsDashDigits (now (s .entry)) ⌝ }
 {
-    let from = tail(s, span_of(Class::Only(45), s));
-    let past = tail(from, span_of(Class::Not(45), from));
-    (span_of(Class::Only(45), past) < past.len()) & all_of(Class::DigitOrDash, s)
+    (2 <= filled_parts(45, s))
+        & (span_of(Class::Not(45), s) < s.len())
+        & all_of(Class::DigitOrDash, s)
 }
 
 fn has_unit(s: &[u8]) -> bool

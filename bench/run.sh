@@ -1,0 +1,12 @@
+#!/usr/bin/env bash
+# Times both sides and writes a Markdown table: bench/run.sh
+set -euo pipefail
+cd "$(dirname "$0")/.."
+
+tests/reference.sh
+[ -e target/staticlib/libvoice.a ] || rt staticlib voice
+mkdir -p target/bench
+rustc --edition 2021 -C opt-level=3 -o target/bench/bench bench/bench.rs \
+    -L target/reference --extern reference=target/reference/libreference.rlib \
+    -L target/staticlib -l static=voice
+target/bench/bench

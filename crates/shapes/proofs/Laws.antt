@@ -1,0 +1,46 @@
+-- The shapes that are stated by parts, in the terms of scans. Assumes nothing.
+use mathlib.Core.Path.{_≡_, refl, sym, ap, _∙_}
+use mathlib.Core.Bool.{Bool, true, false, cond, not, _&&_, _||_, and-true, and-false, and-assoc, or-true, or-false}
+use mathlib.Core.List.{List, [], _∷_}
+use Prim.Native.Nat.{ℕ, suc, _+_, _-_, _≤_, _<_}
+use native.Mathlib.Omega.{arith}
+use lib.Dec.{leb, ltb, eqb}
+use lib.ListN.{length, take, drop}
+use borrow.Author.Tests.{ne-eqb}
+use Rattle.lists.specs.Bytes.{all, span, split, onto, allParts, filled}
+use Rattle.lists.specs.Classes.{digit, digitOrDash, except}
+use Rattle.lists.proofs.Parts.{split-some, split-more, split-last}
+use Rattle.shapes.specs.Shapes.{isDigits, isThreeDigits, isCommaGroups, isCommaInt}
+
+-- a comma
+pub comma-more : (s : List ℕ) → span (except 44) s < length s → isCommaInt s ≡ isDigits (take (span (except 44) s) s) && leb (length (take (span (except 44) s) s)) 3 && allParts isThreeDigits (split 44 (drop (span (except 44) s + 1) s))
+unfolding isCommaGroups
+comma-more s h =
+    let g = split-some 44 (drop (span (except 44) s + 1) s) in
+    rw (split-more 44 s h, ne-eqb (length (split 44 (drop (span (except 44) s + 1) s))) 0 (λ z. omega arith), and-true (isDigits (take (span (except 44) s) s) && leb (length (take (span (except 44) s) s)) 3))
+
+-- no comma
+pub comma-none : (s : List ℕ) → length s ≤ span (except 44) s → isCommaInt s ≡ false
+unfolding isCommaGroups
+comma-none s h = rw (split-last 44 s h, and-false (isDigits s && leb (length s) 3))
+
+-- a part of digits, empty or not
+digits-part : (p : List ℕ) (ps : List (List ℕ)) → allParts isDigits (filled (p ∷ ps)) ≡ all digit p && allParts isDigits (filled ps)
+unfolding isDigits allParts filled all
+digits-part [] ps = refl
+digits-part (b ∷ p) ps = rw (ne-eqb (suc (length p)) 0 (omega arith))
+
+digits-onto : (b : ℕ) (ps : List (List ℕ)) → allParts isDigits (filled (onto b ps)) ≡ digit b && allParts isDigits (filled ps)
+unfolding onto all
+digits-onto b [] = digits-part (b ∷ []) [] ∙ rw (and-true (digit b))
+digits-onto b (p ∷ ps) = digits-part (b ∷ p) ps ∙ rw (digits-part p ps, and-assoc (digit b) (all digit p) (allParts isDigits (filled ps)))
+
+-- the parts between dashes are digits where every byte is a digit or a dash
+pub dash-all : (s : List ℕ) → allParts isDigits (filled (split 45 s)) ≡ all digitOrDash s
+unfolding split all allParts filled
+dash-all [] = refl
+dash-all (b ∷ s) = go (eqb b 45) (dash-all s)
+  where
+    go : (t : Bool) → allParts isDigits (filled (split 45 s)) ≡ all digitOrDash s → allParts isDigits (filled (cond t ([] ∷ split 45 s) (onto b (split 45 s)))) ≡ (digit b || t) && all digitOrDash s
+    go true i = digits-part [] (split 45 s) ∙ rw (i, or-true (digit b))
+    go false i = digits-onto b (split 45 s) ∙ rw (i, or-false (digit b))

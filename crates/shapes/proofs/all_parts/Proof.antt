@@ -1,0 +1,36 @@
+use borrow.Author.Needs.{needs}
+use native.Mathlib.Omega.{arith}
+use mathlib.Core.Path.{_≡_, refl, sym, _∙_}
+use Prim.Native.Nat.{_-_}
+use lib.ListN.{length, drop, length-drop}
+use lib.Seq.{drop-drop}
+use borrow.Author.Tests.{not-true, not-false}
+use Rattle.shapes.specs.Kinds.{passes}
+use Rattle.lists.specs.Bytes.{split, allParts}
+use Rattle.lists.proofs.Parts.{parts-fail, parts-end, parts-more}
+use Rattle.shapes.proofs.all_parts.Statement.{statement}
+use Rattle.shapes.proofs.all_parts.Tie as tie
+
+abbrev Inv-loop : tie.InvT-loop
+Inv-loop test c s i₀ i = allParts (passes test) (split c s) ≡ allParts (passes test) (split c (drop i s))
+
+abbrev μ-loop : tie.MeasureT-loop
+μ-loop test c s i₀ i = length s - i
+
+pub all-parts-spec : {M : Type 1} → statement M
+all-parts-spec =
+    tie.close
+    (tie.spec
+    Inv-loop
+    μ-loop
+    (λ c. refl)
+    (λ c κs. search needs)
+    (λ c κs. search needs)
+    (λ c κs. search needs)
+    (λ c κs. search needs)
+    (λ c. let e = rw (c .before .before .front .ensures, c .before .before .before .span-of .ensures, c .before .before .before .before .tail .ensures) at (c .before .part-passes .ensures) in sym (c .before .before .before .before .before .loop .inv ∙ parts-fail _ _ _ (sym e ∙ not-true _ (c .if1 .taken))))
+    (λ c. let e = rw (c .before .before .before .front .ensures, c .before .before .before .before .span-of .ensures, c .before .before .before .before .before .tail .ensures) at (c .before .before .part-passes .ensures) in let h = rw (c .before .before .before .before .span-of .ensures, c .before .before .before .before .before .tail .ensures) at (c .if2 .taken) in sym (c .before .before .before .before .before .before .loop .inv ∙ parts-end _ _ _ (sym e ∙ not-false _ (c .before .if1 .left)) h))
+    (λ c. omega (arith, simp length-drop at (rw (c .before .before .before .before .before .tail .ensures) at (c .if2 .left))))
+    (λ c. omega (arith, simp length-drop at (rw (c .before .before .before .before .before .tail .ensures) at (c .if2 .left))))
+    (λ c. omega (arith, simp length-drop at (rw (c .before .before .before .before .before .tail .ensures) at (c .if2 .left))))
+    (λ c. let e = rw (c .before .before .before .front .ensures, c .before .before .before .before .span-of .ensures, c .before .before .before .before .before .tail .ensures) at (c .before .before .part-passes .ensures) in let h = rw (c .before .before .before .before .span-of .ensures, c .before .before .before .before .before .tail .ensures) at (c .if2 .left) in c .before .before .before .before .before .before .loop .inv ∙ (parts-more _ _ _ (sym e ∙ not-false _ (c .before .if1 .left)) h ∙ rw (drop-drop, c .before .before .before .before .span-of .ensures, c .before .before .before .before .before .tail .ensures))))

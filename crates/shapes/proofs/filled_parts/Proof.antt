@@ -1,0 +1,35 @@
+use borrow.Author.Needs.{needs}
+use native.Mathlib.Omega.{arith}
+use mathlib.Core.Path.{_≡_, sym, _∙_}
+use Prim.Native.Nat.{_-_, _+_, _≤_}
+use lib.ListN.{length, drop, length-drop}
+use lib.Seq.{drop-drop}
+use Rattle.lists.specs.Bytes.{split, filled}
+use Rattle.lists.proofs.Parts.{filled-more, filled-end}
+use Rattle.shapes.proofs.filled_parts.Statement.{statement}
+use Rattle.shapes.proofs.filled_parts.Tie as tie
+
+abbrev Inv-loop : tie.InvT-loop
+Inv-loop c s count₀ i₀ count i = ((count ≤ i) × (i ≤ length s)) × (length (filled (split c s)) ≡ count + length (filled (split c (drop i s))))
+
+abbrev μ-loop : tie.MeasureT-loop
+μ-loop c s count₀ i₀ count i = length s - i
+
+pub filled-parts-spec : {M : Type 1} → statement M
+filled-parts-spec =
+    tie.close
+    (tie.spec
+    Inv-loop
+    μ-loop
+    (λ c. ((omega arith, omega arith), omega arith))
+    (λ c κs. search needs)
+    (λ c κs. search needs)
+    (λ c κs. search needs)
+    (λ c. omega (arith, c .one-if-any .ensures))
+    (λ c. let e = rw (c .before .before .before .tail .ensures) at (c .before .before .span-of .ensures) in let h = rw (c .before .before .before .tail .ensures) at (c .if1 .taken) in sym (c .before .before .before .before .loop .inv .1 ∙ rw (filled-end (c .before .before .before .before .before .before .args .c) (drop (c .before .before .before .before .loop .i) (c .before .before .before .before .before .before .args .s .now)) (c .before .before .span-of .result) e h, c .before .one-if-any .ensures)))
+    (λ c. omega (arith, simp length-drop at (rw (c .before .before .before .tail .ensures) at (c .if1 .left))))
+    (λ c. omega (arith, simp length-drop at (rw (c .before .before .before .tail .ensures) at (c .if1 .left))))
+    (λ c. omega (arith, simp length-drop at (rw (c .before .before .before .tail .ensures) at (c .if1 .left))))
+    (λ c.
+    let e = rw (c .before .before .before .tail .ensures) at (c .before .before .span-of .ensures) in let h = rw (c .before .before .before .tail .ensures) at (c .if1 .left) in
+    ((omega (arith, c .before .one-if-any .ensures, simp length-drop at h), omega (arith, simp length-drop at h)), c .before .before .before .before .loop .inv .1 ∙ rw (filled-more (c .before .before .before .before .before .before .args .c) (drop (c .before .before .before .before .loop .i) (c .before .before .before .before .before .before .args .s .now)) (c .before .before .span-of .result) e h, drop-drop) (omega (arith, c .before .one-if-any .ensures)))))

@@ -1,0 +1,34 @@
+use Prim.Native.Nat.{_-_}
+use borrow.Author.Tests.{eq-eqb, ne-eqb, not-true, not-false}
+use Rattle.shapes.specs.Shapes.{hasUnit}
+use Rattle.units.proofs.Laws.{rows}
+use borrow.Author.Needs.{needs}
+use Rattle.shapes.proofs.has_unit.Statement.{statement}
+use Rattle.shapes.proofs.has_unit.Tie as tie
+
+returns : tie.Need-returns
+unfolding hasUnit
+returns c = rw (← c .before .after-last .ensures, eq-eqb _ _ (c .if1 .taken))
+
+returns-2 : tie.Need-returns-2
+unfolding hasUnit
+returns-2 c = rw (← c .before .before .before .before .after-last .ensures, ne-eqb _ _ (c .before .before .before .if1 .left), ← c .before .before .front .ensures, ← c .before .all-of .ensures, not-true (c .before .all-of .result) (c .if2 .taken))
+
+returns-3 : tie.Need-returns-3
+unfolding hasUnit
+returns-3 c = rw (← c .before .before .before .before .before .before .before .before .after-last .ensures, ne-eqb _ _ (c .before .before .before .before .before .before .before .if1 .left), ← c .before .before .before .before .before .before .front .ensures, ← c .before .before .before .before .before .all-of .ensures, not-false (c .before .before .before .before .before .all-of .result) (c .before .before .before .before .if2 .left), ← c .before .tail .ensures, rows, ← c .unit-index .ensures)
+
+pub has-unit-spec : {M : Type 1} → statement M
+has-unit-spec =
+    tie.close
+    (tie.spec
+    (λ c κs. search needs)
+    returns
+    (λ c κs. search needs)
+    (λ c κs. search needs)
+    returns-2
+    (λ c κs. search needs)
+    (λ c. search needs)
+    (λ c κs. search needs)
+    (λ c κs. search needs)
+    returns-3)

@@ -1,0 +1,25 @@
+use Prim.Native.Nat.{_-_}
+use Rattle.shapes.specs.Shapes.{isExponent}
+use borrow.Author.Needs.{needs}
+use Rattle.shapes.proofs.is_exponent.Statement.{statement}
+use Rattle.shapes.proofs.is_exponent.Tie as tie
+
+returns : tie.Need-returns
+unfolding isExponent
+returns c = rw (← c .before .before .before .before .before .starts-with .ensures, ← c .before .before .before .before .starts-with2 .ensures, c .before .before .before .if1 .taken, c .is-digits .ensures, c .before .strip-sign .ensures, c .before .before .tail .ensures)
+
+returns-2 : tie.Need-returns-2
+unfolding isExponent
+returns-2 c = rw (← c .before .before .starts-with .ensures, ← c .before .starts-with2 .ensures, c .if1 .left)
+
+pub is-exponent-spec : {M : Type 1} → statement M
+is-exponent-spec =
+    tie.close
+    (tie.spec
+    (λ c κs. search needs)
+    (λ c κs. search needs)
+    (λ c κs. search needs)
+    (λ c κs. search needs)
+    (λ c κs. search needs)
+    returns
+    returns-2)
