@@ -45,8 +45,8 @@ abbrev pub asUnit : SplitUnit → Call FoundPart
 asUnit r = record { refusal = answerNumber (r .answer); value = record { found = r .yes; offset = r .offset; size = r .len } }
 
 -- split_unit: the unit's place in the name
-abbrev pub unitFound : List ℕ → FoundPart
-unitFound s = cond (hasUnit s) (record { found = hasUnit s; offset = unitAt s; size = length (unitPart s) }) noPart
+unfoldable pub unitFound : List ℕ → FoundPart
+unitFound s = cond (hasUnit s) (record { found = true; offset = unitAt s; size = length (unitPart s) }) noPart
 
 abbrev pub unitCall : List ℕ → Call FoundPart
 unitCall s = call noPart (textRefusal textLimit s) (unitFound s)

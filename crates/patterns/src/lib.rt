@@ -60,7 +60,7 @@ fn store_word(word: &[u8], store: &mut [u8]) -> UnitWord
 }
 
 // The verdict of a shape by its kind: what every verdict shares.
-pub fn verdict(shape: Shape, s: &[u8]) -> Verdict
+pub fn verdict_of(shape: Shape, s: &[u8]) -> Verdict
     ensures { λ r. ⌜ asVerdict r ≡ verdictCall (now (s .entry)) (hasShape shape (now (s .entry))) ⌝ }
 {
     let answer = admit(TEXT_LIMIT, s);
@@ -76,85 +76,85 @@ pub fn verdict(shape: Shape, s: &[u8]) -> Verdict
 pub fn is_digits(s: &[u8]) -> Verdict
     ensures { λ r. ⌜ asVerdict r ≡ verdictCall (now (s .entry)) (isDigits (now (s .entry))) ⌝ }
 {
-    verdict(Shape::Digits, s)
+    verdict_of(Shape::Digits, s)
 }
 
 pub fn is_alpha(s: &[u8]) -> Verdict
     ensures { λ r. ⌜ asVerdict r ≡ verdictCall (now (s .entry)) (isAlpha (now (s .entry))) ⌝ }
 {
-    verdict(Shape::Alpha, s)
+    verdict_of(Shape::Alpha, s)
 }
 
 pub fn is_double(s: &[u8]) -> Verdict
     ensures { λ r. ⌜ asVerdict r ≡ verdictCall (now (s .entry)) (isDouble (now (s .entry))) ⌝ }
 {
-    verdict(Shape::Double, s)
+    verdict_of(Shape::Double, s)
 }
 
 pub fn is_comma_int(s: &[u8]) -> Verdict
     ensures { λ r. ⌜ asVerdict r ≡ verdictCall (now (s .entry)) (isCommaInt (now (s .entry))) ⌝ }
 {
-    verdict(Shape::CommaInt, s)
+    verdict_of(Shape::CommaInt, s)
 }
 
 pub fn is_ordinal(s: &[u8]) -> Verdict
     ensures { λ r. ⌜ asVerdict r ≡ verdictCall (now (s .entry)) (isOrdinal (now (s .entry))) ⌝ }
 {
-    verdict(Shape::Ordinal, s)
+    verdict_of(Shape::Ordinal, s)
 }
 
 pub fn is_us_money(s: &[u8]) -> Verdict
     ensures { λ r. ⌜ asVerdict r ≡ verdictCall (now (s .entry)) (isUsMoney (now (s .entry))) ⌝ }
 {
-    verdict(Shape::UsMoney, s)
+    verdict_of(Shape::UsMoney, s)
 }
 
 pub fn is_illion(s: &[u8]) -> Verdict
     ensures { λ r. ⌜ asVerdict r ≡ verdictCall (now (s .entry)) (isIllion (now (s .entry))) ⌝ }
 {
-    verdict(Shape::Illion, s)
+    verdict_of(Shape::Illion, s)
 }
 
 pub fn is_roman(s: &[u8]) -> Verdict
     ensures { λ r. ⌜ asVerdict r ≡ verdictCall (now (s .entry)) (isRoman (now (s .entry))) ⌝ }
 {
-    verdict(Shape::Roman, s)
+    verdict_of(Shape::Roman, s)
 }
 
 pub fn is_dr_or_st(s: &[u8]) -> Verdict
     ensures { λ r. ⌜ asVerdict r ≡ verdictCall (now (s .entry)) (isDrOrSt (now (s .entry))) ⌝ }
 {
-    verdict(Shape::DrOrSt, s)
+    verdict_of(Shape::DrOrSt, s)
 }
 
 pub fn is_number_s(s: &[u8]) -> Verdict
     ensures { λ r. ⌜ asVerdict r ≡ verdictCall (now (s .entry)) (isNumberS (now (s .entry))) ⌝ }
 {
-    verdict(Shape::NumberS, s)
+    verdict_of(Shape::NumberS, s)
 }
 
 pub fn is_leading_zero_digits(s: &[u8]) -> Verdict
     ensures { λ r. ⌜ asVerdict r ≡ verdictCall (now (s .entry)) (isLeadingZeroDigits (now (s .entry))) ⌝ }
 {
-    verdict(Shape::LeadingZeroDigits, s)
+    verdict_of(Shape::LeadingZeroDigits, s)
 }
 
 pub fn is_seven_digit_phone(s: &[u8]) -> Verdict
     ensures { λ r. ⌜ asVerdict r ≡ verdictCall (now (s .entry)) (isSevenDigitPhone (now (s .entry))) ⌝ }
 {
-    verdict(Shape::SevenDigitPhone, s)
+    verdict_of(Shape::SevenDigitPhone, s)
 }
 
 pub fn is_n_digits(s: &[u8], n: usize) -> Verdict
     ensures { λ r. ⌜ asVerdict r ≡ verdictCall (now (s .entry)) (isNDigits n (now (s .entry))) ⌝ }
 {
-    verdict(Shape::NDigits(n), s)
+    verdict_of(Shape::NDigits(n), s)
 }
 
 pub fn is_time(s: &[u8]) -> Verdict
     ensures { λ r. ⌜ asVerdict r ≡ verdictCall (now (s .entry)) (isTime (now (s .entry))) ⌝ }
 {
-    verdict(Shape::Time, s)
+    verdict_of(Shape::Time, s)
 }
 
 pub fn split_time_meridiem(s: &[u8]) -> SplitTime
@@ -176,19 +176,19 @@ pub fn split_time_meridiem(s: &[u8]) -> SplitTime
 pub fn is_dotted_abbrev(s: &[u8]) -> Verdict
     ensures { λ r. ⌜ asVerdict r ≡ verdictCall (now (s .entry)) (isDottedAbbrev (now (s .entry))) ⌝ }
 {
-    verdict(Shape::DottedAbbrev, s)
+    verdict_of(Shape::DottedAbbrev, s)
 }
 
 pub fn is_digits_slash_digits(s: &[u8]) -> Verdict
     ensures { λ r. ⌜ asVerdict r ≡ verdictCall (now (s .entry)) (isDigitsSlashDigits (now (s .entry))) ⌝ }
 {
-    verdict(Shape::DigitsSlashDigits, s)
+    verdict_of(Shape::DigitsSlashDigits, s)
 }
 
 pub fn is_digits_dash_digits(s: &[u8]) -> Verdict
     ensures { λ r. ⌜ asVerdict r ≡ verdictCall (now (s .entry)) (isDigitsDashDigits (now (s .entry))) ⌝ }
 {
-    verdict(Shape::DigitsDashDigits, s)
+    verdict_of(Shape::DigitsDashDigits, s)
 }
 
 pub fn split_unit(s: &[u8]) -> SplitUnit

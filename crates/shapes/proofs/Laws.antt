@@ -1,6 +1,6 @@
 -- The shapes that are stated by parts, in the terms of scans. Assumes nothing.
 use mathlib.Core.Path.{_≡_, refl, sym, ap, _∙_}
-use mathlib.Core.Bool.{Bool, true, false, cond, not, _&&_, _||_, and-true, and-false, and-assoc, or-true, or-false}
+use mathlib.Core.Bool.{Bool, true, false, cond, not, _&&_, _||_, and-true, and-false, and-assoc, or-true, or-false, true≢false}
 use mathlib.Core.List.{List, [], _∷_}
 use Prim.Native.Nat.{ℕ, suc, _+_, _-_, _≤_, _<_}
 use native.Mathlib.Omega.{arith}
@@ -8,9 +8,11 @@ use lib.Dec.{leb, ltb, eqb}
 use lib.ListN.{length, take, drop}
 use borrow.Author.Tests.{ne-eqb}
 use Rattle.lists.specs.Bytes.{all, span, split, onto, allParts, filled}
-use Rattle.lists.specs.Classes.{digit, digitOrDash, except}
+use Rattle.lists.specs.Classes.{digit, digitOrComma, digitOrDash, except}
 use Rattle.lists.proofs.Parts.{split-some, split-more, split-last}
-use Rattle.shapes.specs.Shapes.{isDigits, isThreeDigits, isCommaGroups, isCommaInt}
+use Rattle.shapes.specs.Shapes.{isDigits, isThreeDigits, isCommaGroups, isCommaInt, unitAt, hasUnit}
+use Rattle.units.specs.Units.{isUnit}
+use Rattle.units.proofs.Laws.{empty-none}
 
 -- a comma
 pub comma-more : (s : List ℕ) → span (except 44) s < length s → isCommaInt s ≡ isDigits (take (span (except 44) s) s) && leb (length (take (span (except 44) s) s)) 3 && allParts isThreeDigits (split 44 (drop (span (except 44) s + 1) s))
@@ -44,3 +46,18 @@ dash-all (b ∷ s) = go (eqb b 45) (dash-all s)
     go : (t : Bool) → allParts isDigits (filled (split 45 s)) ≡ all digitOrDash s → allParts isDigits (filled (cond t ([] ∷ split 45 s) (onto b (split 45 s)))) ≡ (digit b || t) && all digitOrDash s
     go true i = digits-part [] (split 45 s) ∙ rw (i, or-true (digit b))
     go false i = digits-onto b (split 45 s) ∙ rw (i, or-false (digit b))
+
+and-right : (a b : Bool) → (a && b) ≡ true → b ≡ true
+and-right true b h = h
+and-right false b h = cc
+
+-- a unit is not empty
+pub unit-some : (s : List ℕ) → hasUnit s ≡ true → length (drop (unitAt s) s) ≡ 0 → ⊥
+unfolding hasUnit
+unit-some s h z =
+    let u : isUnit (drop (unitAt s) s) ≡ true = and-right (not (eqb (unitAt s) 0) && all digitOrComma (take (unitAt s) s)) (isUnit (drop (unitAt s) s)) h in
+    go (drop (unitAt s) s) z u
+  where
+    go : (t : List ℕ) → length t ≡ 0 → isUnit t ≡ true → ⊥
+    go [] z u = true≢false (sym u ∙ empty-none)
+    go (b ∷ t) z u = omega arith

@@ -1,18 +1,18 @@
 -- The packed table holds the rows, by one test at each row that antt computes; and how a look-up goes on. Assumes nothing.
 use mathlib.Core.Path.{_≡_, refl, sym, ap, _∙_}
-use mathlib.Core.Bool.{Bool, true, false, cond, _&&_}
+use mathlib.Core.Bool.{Bool, true, false, cond}
 use mathlib.Core.List.{List, [], _∷_}
 use Prim.Native.Nat.{ℕ, suc, _+_, _*_, _≤_, _<_}
 use native.Mathlib.Numerals.{add-one}
 use native.Mathlib.Omega.{arith}
-use lib.Dec.{T, leb, ltb, leb→le}
-use lib.ListN.{length, drop, getD, drop-of-length-le}
+use lib.ListN.{length, drop, getD, drop-of-length-le, List·getD-eq-default}
 use lib.Seq.{drop-cons}
-use Rattle.lists.specs.Bytes.{same}
+use borrow.Author.Tests.{lt-ltb, le-ltb}
+use Rattle.lists.specs.Bytes.{same, sameBy}
 use Rattle.lists.specs.Packed.{packedRow}
 use Rattle.lists.proofs.Table.{below, sameb, sameb→≡}
 use Rattle.lexicon.specs.Lexicon.{words, packed}
-use Rattle.units.specs.Units.{UnitRow, noUnit, unitAbbreviations, rowsBefore, unitIndex, packedUnits}
+use Rattle.units.specs.Units.{UnitRow, noUnit, unitAbbreviations, rowsBefore, unitIndex, isUnit, unitWord, packedUnits}
 
 abbrev row : ℕ → UnitRow
 row k = getD unitAbbreviations k noUnit
@@ -43,3 +43,19 @@ index-more u k h = rw (abbreviation-row k h, add-one, drop-cons unitAbbreviation
 pub index-end : (u : List ℕ) (k : ℕ) → 22 ≤ k → rowsBefore u (drop k unitAbbreviations) ≡ 0
 unfolding rowsBefore
 index-end u k h = rw (drop-of-length-le unitAbbreviations {i = k} (rw rows h))
+
+-- no abbreviation is empty
+pub empty-none : isUnit [] ≡ false
+unfolding unitAbbreviations rowsBefore sameBy
+empty-none = refl
+
+-- past the table: no unit, and no word
+pub miss-none : (u : List ℕ) → 22 ≤ unitIndex u → isUnit u ≡ false
+miss-none u h = le-ltb (unitIndex u) (length unitAbbreviations) (rw rows h)
+
+pub miss-word : (u : List ℕ) → 22 ≤ unitIndex u → unitWord u ≡ []
+miss-word u h = ap (λ (r : UnitRow). r .word) (List·getD-eq-default unitAbbreviations noUnit (rw rows h))
+
+-- in the table: a unit, and its word from the lexicon
+pub hit-some : (u : List ℕ) → unitIndex u < 22 → isUnit u ≡ true
+hit-some u h = lt-ltb (unitIndex u) (length unitAbbreviations) (rw rows h)

@@ -48,119 +48,119 @@ pub struct HwkWord {
 pub extern "C" fn hwk_is_digits(s: &[u8]) -> HwkVerdict
     ensures { λ r. ⌜ r ≡ verdictAtC (verdictCall (now (s .entry)) (isDigits (now (s .entry)))) ⌝ }
 {
-    verdict(Shape::Digits, s)
+    verdict_at_c(Shape::Digits, s)
 }
 
 #[no_mangle]
 pub extern "C" fn hwk_is_alpha(s: &[u8]) -> HwkVerdict
     ensures { λ r. ⌜ r ≡ verdictAtC (verdictCall (now (s .entry)) (isAlpha (now (s .entry)))) ⌝ }
 {
-    verdict(Shape::Alpha, s)
+    verdict_at_c(Shape::Alpha, s)
 }
 
 #[no_mangle]
 pub extern "C" fn hwk_is_double(s: &[u8]) -> HwkVerdict
     ensures { λ r. ⌜ r ≡ verdictAtC (verdictCall (now (s .entry)) (isDouble (now (s .entry)))) ⌝ }
 {
-    verdict(Shape::Double, s)
+    verdict_at_c(Shape::Double, s)
 }
 
 #[no_mangle]
 pub extern "C" fn hwk_is_comma_int(s: &[u8]) -> HwkVerdict
     ensures { λ r. ⌜ r ≡ verdictAtC (verdictCall (now (s .entry)) (isCommaInt (now (s .entry)))) ⌝ }
 {
-    verdict(Shape::CommaInt, s)
+    verdict_at_c(Shape::CommaInt, s)
 }
 
 #[no_mangle]
 pub extern "C" fn hwk_is_ordinal(s: &[u8]) -> HwkVerdict
     ensures { λ r. ⌜ r ≡ verdictAtC (verdictCall (now (s .entry)) (isOrdinal (now (s .entry)))) ⌝ }
 {
-    verdict(Shape::Ordinal, s)
+    verdict_at_c(Shape::Ordinal, s)
 }
 
 #[no_mangle]
 pub extern "C" fn hwk_is_us_money(s: &[u8]) -> HwkVerdict
     ensures { λ r. ⌜ r ≡ verdictAtC (verdictCall (now (s .entry)) (isUsMoney (now (s .entry)))) ⌝ }
 {
-    verdict(Shape::UsMoney, s)
+    verdict_at_c(Shape::UsMoney, s)
 }
 
 #[no_mangle]
 pub extern "C" fn hwk_is_illion(s: &[u8]) -> HwkVerdict
     ensures { λ r. ⌜ r ≡ verdictAtC (verdictCall (now (s .entry)) (isIllion (now (s .entry)))) ⌝ }
 {
-    verdict(Shape::Illion, s)
+    verdict_at_c(Shape::Illion, s)
 }
 
 #[no_mangle]
 pub extern "C" fn hwk_is_roman(s: &[u8]) -> HwkVerdict
     ensures { λ r. ⌜ r ≡ verdictAtC (verdictCall (now (s .entry)) (isRoman (now (s .entry)))) ⌝ }
 {
-    verdict(Shape::Roman, s)
+    verdict_at_c(Shape::Roman, s)
 }
 
 #[no_mangle]
 pub extern "C" fn hwk_is_dr_or_st(s: &[u8]) -> HwkVerdict
     ensures { λ r. ⌜ r ≡ verdictAtC (verdictCall (now (s .entry)) (isDrOrSt (now (s .entry)))) ⌝ }
 {
-    verdict(Shape::DrOrSt, s)
+    verdict_at_c(Shape::DrOrSt, s)
 }
 
 #[no_mangle]
 pub extern "C" fn hwk_is_number_s(s: &[u8]) -> HwkVerdict
     ensures { λ r. ⌜ r ≡ verdictAtC (verdictCall (now (s .entry)) (isNumberS (now (s .entry)))) ⌝ }
 {
-    verdict(Shape::NumberS, s)
+    verdict_at_c(Shape::NumberS, s)
 }
 
 #[no_mangle]
 pub extern "C" fn hwk_is_leading_zero_digits(s: &[u8]) -> HwkVerdict
     ensures { λ r. ⌜ r ≡ verdictAtC (verdictCall (now (s .entry)) (isLeadingZeroDigits (now (s .entry)))) ⌝ }
 {
-    verdict(Shape::LeadingZeroDigits, s)
+    verdict_at_c(Shape::LeadingZeroDigits, s)
 }
 
 #[no_mangle]
 pub extern "C" fn hwk_is_seven_digit_phone(s: &[u8]) -> HwkVerdict
     ensures { λ r. ⌜ r ≡ verdictAtC (verdictCall (now (s .entry)) (isSevenDigitPhone (now (s .entry)))) ⌝ }
 {
-    verdict(Shape::SevenDigitPhone, s)
+    verdict_at_c(Shape::SevenDigitPhone, s)
 }
 
 #[no_mangle]
 pub extern "C" fn hwk_is_n_digits(s: &[u8], n: usize) -> HwkVerdict
     ensures { λ r. ⌜ r ≡ verdictAtC (verdictCall (now (s .entry)) (isNDigits n (now (s .entry)))) ⌝ }
 {
-    verdict(Shape::NDigits(n), s)
+    verdict_at_c(Shape::NDigits(n), s)
 }
 
 #[no_mangle]
 pub extern "C" fn hwk_is_time(s: &[u8]) -> HwkVerdict
     ensures { λ r. ⌜ r ≡ verdictAtC (verdictCall (now (s .entry)) (isTime (now (s .entry)))) ⌝ }
 {
-    verdict(Shape::Time, s)
+    verdict_at_c(Shape::Time, s)
 }
 
 #[no_mangle]
 pub extern "C" fn hwk_is_dotted_abbrev(s: &[u8]) -> HwkVerdict
     ensures { λ r. ⌜ r ≡ verdictAtC (verdictCall (now (s .entry)) (isDottedAbbrev (now (s .entry)))) ⌝ }
 {
-    verdict(Shape::DottedAbbrev, s)
+    verdict_at_c(Shape::DottedAbbrev, s)
 }
 
 #[no_mangle]
 pub extern "C" fn hwk_is_digits_slash_digits(s: &[u8]) -> HwkVerdict
     ensures { λ r. ⌜ r ≡ verdictAtC (verdictCall (now (s .entry)) (isDigitsSlashDigits (now (s .entry)))) ⌝ }
 {
-    verdict(Shape::DigitsSlashDigits, s)
+    verdict_at_c(Shape::DigitsSlashDigits, s)
 }
 
 #[no_mangle]
 pub extern "C" fn hwk_is_digits_dash_digits(s: &[u8]) -> HwkVerdict
     ensures { λ r. ⌜ r ≡ verdictAtC (verdictCall (now (s .entry)) (isDigitsDashDigits (now (s .entry)))) ⌝ }
 {
-    verdict(Shape::DigitsDashDigits, s)
+    verdict_at_c(Shape::DigitsDashDigits, s)
 }
 
 #[no_mangle]

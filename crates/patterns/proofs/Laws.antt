@@ -1,0 +1,100 @@
+-- The unit calls, case by case. Assumes nothing.
+use mathlib.Core.Path.{_≡_, refl, sym, ap, _∙_}
+use mathlib.Core.Bool.{Bool, true, false, cond, not}
+use mathlib.Core.List.{List, []}
+use Prim.Native.Nat.{ℕ, _-_, _≤_, _<_}
+use native.Mathlib.Omega.{arith}
+use lib.Dec.{ltb}
+use lib.ListN.{length, drop, length-drop}
+use borrow.Author.Tests.{le-ltb}
+use Rattle.admit.specs.Utf8.{utf8}
+use Rattle.admit.specs.Refusals.{number, answerNumber, refusal, textLimit, textDue, textRefusal, call}
+use Rattle.admit.specs.declared.Refusal.{Refusal}
+use Rattle.admit.specs.declared.Refusal.the-variants.{TextTooLong, NotUtf8, NoSuchEntry, NameTooLong, BufferTooShort}
+use Rattle.admit.specs.declared.Answer.{Answer}
+use Rattle.admit.specs.declared.Answer.the-variants.{Accepted, Refused}
+use Rattle.admit.proofs.Calls.{call-refused, call-accepted}
+use Rattle.units.specs.Units.{isUnit, unitIndex, unitWord}
+use Rattle.units.proofs.Laws.{miss-none, miss-word, hit-some}
+use Rattle.shapes.specs.Shapes.{unitAt, hasUnit, unitPart}
+use Rattle.shapes.proofs.Laws.{unit-some}
+use Rattle.patterns.specs.Calls.{noPart, unitFound, FoundPart, Stored, storeCall, wordCall}
+
+-- no unit
+pub unit-none : (s : List ℕ) → length (unitPart s) ≡ 0 → unitFound s ≡ noPart
+unfolding unitFound
+unit-none s h = go (hasUnit s) refl h
+  where
+    go : (t : Bool) → hasUnit s ≡ t → length (cond t (drop (unitAt s) s) []) ≡ 0
+        → cond t (record { found = true; offset = unitAt s; size = length (cond t (drop (unitAt s) s) []) }) noPart ≡ noPart
+    go true e h = absurd (unit-some s e h)
+    go false e h = refl
+
+-- a unit
+pub unit-found : (s : List ℕ) → (length (unitPart s) ≡ 0 → ⊥) → record { found = true; offset = length s - length (unitPart s); size = length (unitPart s) } ≡ unitFound s
+unfolding unitFound
+unit-found s h = go (hasUnit s) h
+  where
+    go : (t : Bool) → (length (cond t (drop (unitAt s) s) []) ≡ 0 → ⊥)
+        → record { found = true; offset = length s - length (cond t (drop (unitAt s) s) []); size = length (cond t (drop (unitAt s) s) []) }
+        ≡ cond t (record { found = true; offset = unitAt s; size = length (cond t (drop (unitAt s) s) []) }) noPart
+    go true h =
+        let l : length (drop (unitAt s) s) ≡ length s - unitAt s = length-drop (unitAt s) s in
+        let e : length s - length (drop (unitAt s) s) ≡ unitAt s = omega arith in
+        rw e
+    go false h = absurd (h refl)
+
+pub unit-le : (s : List ℕ) → length (unitPart s) ≤ length s
+unit-le s = go (hasUnit s)
+  where
+    go : (t : Bool) → length (cond t (drop (unitAt s) s) []) ≤ length s
+    go true = simp length-drop (omega arith)
+    go false = omega arith
+
+some : (r : Refusal) → number r ≡ 0 → ⊥
+some TextTooLong h = omega arith
+some NotUtf8 h = omega arith
+some NoSuchEntry h = omega arith
+some NameTooLong h = omega arith
+some BufferTooShort h = omega arith
+
+-- the tests of a text and one buffer, as numbers
+abbrev tests : Bool → Bool → Bool → ℕ
+tests long good short = cond long 1 (cond (not good) 2 (cond short 5 0))
+
+-- a text that is refused is refused whatever the buffer's length
+due-refused : (limit : ℕ) (s : List ℕ) (short : Bool) (r : Refusal) → number r ≡ textRefusal limit s → number r ≡ refusal (textDue limit s short)
+due-refused limit s short r h = go (ltb limit (length s)) (utf8 s) h
+  where
+    go : (long good : Bool) → number r ≡ tests long good false → number r ≡ tests long good short
+    go true good h = h
+    go false false h = h
+    go false true h = absurd (some r h)
+
+-- in an accepted text the buffer's length decides
+due-accepted : (limit : ℕ) (s : List ℕ) (short : Bool) → textRefusal limit s ≡ 0 → refusal (textDue limit s short) ≡ cond short (number BufferTooShort) 0
+due-accepted limit s short h = go (ltb limit (length s)) (utf8 s) h
+  where
+    go : (long good : Bool) → tests long good false ≡ 0 → tests long good short ≡ cond short (number BufferTooShort) 0
+    go true good h = absurd (omega arith)
+    go false false h = absurd (omega arith)
+    go false true h = refl
+
+module _ (s store : List ℕ) (a : Answer) (admitted : answerNumber a ≡ textRefusal textLimit s) where
+  abbrev short : Bool
+  short = ltb (length store) (length (unitWord s))
+
+  pub word-refused : (r : Refusal) → a ≡ Refused r → record { refusal = answerNumber a; value = record { found = false; size = 0; store = store } } ≡ wordCall s store
+  word-refused r q =
+      let e : answerNumber a ≡ refusal (textDue textLimit s short) = rw q (due-refused textLimit s short r (rw q at admitted)) in
+      call-refused _ _ a r (refusal (textDue textLimit s short)) q e
+
+  -- an accepted text that is a unit
+  pub word-found : a ≡ Accepted → unitIndex s < 22 → storeCall (unitWord s) store ≡ wordCall s store
+  word-found q h = rw (hit-some s h, due-accepted textLimit s short (sym (rw q at admitted)))
+
+  -- an accepted text that is none
+  pub word-none : a ≡ Accepted → 22 ≤ unitIndex s → record { refusal = 0; value = record { found = false; size = 0; store = store } } ≡ wordCall s store
+  word-none q h =
+      let z : ltb (length store) 0 ≡ false = le-ltb (length store) 0 (omega arith) in
+      rw (miss-none s h, miss-word s h, due-accepted textLimit s (ltb (length store) 0) (sym (rw q at admitted)), z)
