@@ -1,15 +1,14 @@
 // Every function that C calls, thin over the library. include/howhakiru.h is the same list for C.
 use patterns::SplitTime;
-use patterns::SplitUnit;
-use patterns::UnitWord;
-use patterns::Verdict;
 use shapes::Shape;
 use shapes::TimeSplit;
 ghost use mathlib.Core.Path.{_≡_};
+ghost use Prim.Native.Nat.{_-_};
+ghost use lib.ListN.{length};
 ghost use Rattle.shapes.specs.Kinds.{hasShape};
 ghost use Rattle.shapes.specs.Shapes.{isDigits, isAlpha, isDouble, isCommaInt, isOrdinal, isUsMoney, isIllion, isRoman, isDrOrSt, isNumberS, isLeadingZeroDigits, isSevenDigitPhone, isNDigits, isTime, isDottedAbbrev, isDigitsSlashDigits, isDigitsDashDigits};
 ghost use Rattle.patterns.specs.Calls.{asVerdict, verdictCall, asTime, timeCall, asUnit, unitCall, asWord, wordCall};
-ghost use Rattle.voice.specs.AtC.{verdictAtC, timeAtC, unitAtC, wordAtC};
+ghost use Rattle.voice.specs.AtC.{flag, verdictAtC, timeAtC, partAtC, wordAtC, Written};
 
 #[repr(C)]
 pub struct HwkVerdict {
@@ -42,6 +41,66 @@ pub struct HwkWord {
     pub refusal: u32,
     pub yes: u32,
     pub len: usize,
+}
+
+fn flag_of(yes: bool) -> u32
+    ensures { λ r. ⌜ r ≡ flag yes ⌝ }
+{
+    if yes { 1 } else { 0 }
+}
+
+// a - b, or 0 where b is larger.
+fn less(a: usize, b: usize) -> usize
+    ensures { λ r. ⌜ r ≡ a - b ⌝ }
+{
+    if b <= a { a - b } else { 0 }
+}
+
+fn verdict_at_c(shape: Shape, s: &[u8]) -> HwkVerdict
+    ensures { λ r. ⌜ r ≡ verdictAtC (verdictCall (now (s .entry)) (hasShape shape (now (s .entry)))) ⌝ }
+{
+    let v = patterns::verdict_of(shape, s);
+    let answer = v.answer;
+    HwkVerdict {
+        refusal: answer.number() as u32,
+        yes: flag_of(v.yes),
+    }
+}
+
+// The parts of a time in a text of n bytes.
+fn time_at_c(t: SplitTime, n: usize) -> HwkTime
+    ensures { λ r. ⌜ r ≡ timeAtC n (asTime t) ⌝ }
+{
+    let answer = t.answer;
+    let refusal = answer.number() as u32;
+    let split = t.split;
+    let TimeSplit::At {
+        hour,
+        minute,
+        meridiem,
+    } = split
+    else {
+        return HwkTime {
+            refusal,
+            yes: 0,
+            hour_at: 0,
+            hour_len: 0,
+            minute_at: 0,
+            minute_len: 0,
+            meridiem_at: 0,
+            meridiem_len: 0,
+        };
+    };
+    HwkTime {
+        refusal,
+        yes: 1,
+        hour_at: 0,
+        hour_len: hour,
+        minute_at: minute,
+        minute_len: less(meridiem, minute),
+        meridiem_at: meridiem,
+        meridiem_len: less(n, meridiem),
+    }
 }
 
 #[no_mangle]
@@ -172,14 +231,27 @@ pub extern "C" fn hwk_split_time_meridiem(s: &[u8]) -> HwkTime
 
 #[no_mangle]
 pub extern "C" fn hwk_split_unit(s: &[u8]) -> HwkPart
-    ensures { λ r. ⌜ r ≡ unitAtC (unitCall (now (s .entry))) ⌝ }
+    ensures { λ r. ⌜ r ≡ partAtC (unitCall (now (s .entry))) ⌝ }
 {
-    unit_at_c(patterns::split_unit(s))
+    let u = patterns::split_unit(s);
+    let answer = u.answer;
+    HwkPart {
+        refusal: answer.number() as u32,
+        yes: flag_of(u.yes),
+        offset: u.offset,
+        len: u.len,
+    }
 }
 
 #[no_mangle]
 pub extern "C" fn hwk_unit_word(s: &[u8], store: &mut [u8]) -> HwkWord
-    ensures { λ r. ⌜ wordSeen r (now (store .exit)) ≡ wordCall (now (s .entry)) (now (store .entry)) ⌝ }
+    ensures { λ r. ⌜ Written (wordCall (now (s .entry)) (now (store .entry))) r (now (store .exit)) ⌝ }
 {
-    word_at_c(patterns::unit_word(s, store))
+    let w = patterns::unit_word(s, store);
+    let answer = w.answer;
+    HwkWord {
+        refusal: answer.number() as u32,
+        yes: flag_of(w.yes),
+        len: w.len,
+    }
 }
