@@ -6,12 +6,13 @@ use Prim.Native.Nat.{ℕ, zero, suc, _+_, _≤_, _<_}
 use native.Mathlib.Omega.{arith}
 use lib.Dec.{ltb, eqb}
 use lib.ListN.{length, take, drop, getD, length-drop, drop-of-length-le}
-use lib.Seq.{drop-drop, take-length, drop-length}
+use lib.Seq.{drop-drop, take-length, take-add}
 use borrow.Author.Tests.{eq-eqb, ne-eqb, eqb-false}
 use Rattle.lists.specs.Bytes.{all}
 use Rattle.lists.proofs.Recursion.{Local, recur-eq, cond-cong}
-use Rattle.lists.proofs.Scan.{all-more}
-use Rattle.admit.specs.Utf8.{ascii, charBytes, charLen, utf8Step, utf8, Passed}
+use Rattle.lists.proofs.Scan.{all-more, all-append}
+use Rattle.lists.specs.Classes.{ascii}
+use Rattle.admit.specs.Utf8.{charBytes, charLen, utf8Step, utf8, Passed}
 
 utf8-local : Local utf8Step
 unfolding utf8Step
@@ -66,3 +67,7 @@ ascii-end ok s i h = rw (drop-of-length-le s {i = i} h) (and-true ok)
 -- a step from the place i
 pub utf8-on : (s : List ℕ) (i n : ℕ) → i < length s → Passed (drop i s) n → utf8 (drop i s) ≡ cond (eqb n 0) false (utf8 (drop (i + n) s))
 utf8-on s i n h p = p .decides (simp length-drop (omega arith)) ∙ rw drop-drop
+
+-- one run of ASCII after another
+pub runs : (s : List ℕ) (i n : ℕ) → all ascii (take i s) ≡ true → all ascii (take n (drop i s)) ≡ true → all ascii (take (i + n) s) ≡ true
+runs s i n h k = rw (take-add, all-append, h) k

@@ -3,17 +3,14 @@
 use mathlib.Core.Path.{_≡_}
 use mathlib.Core.Bool.{Bool, true, false, cond, _&&_, _||_}
 use mathlib.Core.List.{List}
-use Prim.Native.Nat.{ℕ, _≤_, _<_}
-use lib.Dec.{leb, ltb, eqb}
+use Prim.Native.Nat.{ℕ, _+_, _≤_, _<_}
+use lib.Dec.{leb, eqb}
 use lib.ListN.{length, drop, getD}
+use Rattle.lists.specs.Classes.{ascii}
 use Rattle.lists.specs.Recur.{recur}
 
 abbrev pub within : ℕ → ℕ → ℕ → Bool
 within lo hi b = leb lo b && leb b hi
-
--- UTF8-1 = %x00-7F
-abbrev pub ascii : ℕ → Bool
-ascii a = ltb a 0x80
 
 -- UTF8-tail = %x80-BF
 abbrev pub utf8Tail : ℕ → Bool
@@ -33,7 +30,7 @@ lead3 a b =
 abbrev pub lead4 : ℕ → ℕ → Bool
 lead4 a b = (eqb a 0xF0 && within 0x90 0xBF b) || (within 0xF1 0xF3 a && utf8Tail b) || (eqb a 0xF4 && within 0x80 0x8F b)
 
--- how many bytes the character takes that starts with a, where b, c and d follow; 0 where there is none
+-- how many bytes the character takes that starts with a, where b, c and d follow; 0 where there is none. UTF8-1 = %x00-7F
 unfoldable pub charBytes : ℕ → ℕ → ℕ → ℕ → ℕ
 charBytes a b c d =
     cond (ascii a) 1
@@ -54,5 +51,5 @@ utf8 = recur false utf8Step
 
 -- what a step at the front of s answers: n bytes that the test of the rest decides for, or 0 where s is not UTF-8
 pub record Passed (s : List ℕ) (n : ℕ) : Type 0 where
-  pub few : n ≤ 32
+  pub few : n ≤ length s + 4
   pub decides : 0 < length s → utf8 s ≡ cond (eqb n 0) false (utf8 (drop n s))

@@ -1,14 +1,17 @@
 // Admission: the refusals of document 01, and the two that every text is tested for.
+use lists::Class;
+use lists::all_of;
 use lists::byte_at;
 use lists::front;
+use lists::span_of;
 use lists::tail;
 ghost use mathlib.Core.Path.{_≡_};
-ghost use mathlib.Core.Bool.{cond, false};
-ghost use Prim.Native.Nat.{_≤_, _<_};
-ghost use lib.Dec.{leb, ltb, eqb};
-ghost use lib.ListN.{length, drop};
+ghost use mathlib.Core.Bool.{true};
+ghost use Prim.Native.Nat.{_≤_};
+ghost use lib.ListN.{length, take};
 ghost use Rattle.lists.specs.Bytes.{all};
-ghost use Rattle.admit.specs.Utf8.{ascii, utf8Tail, lead2, lead3, lead4, charBytes, charLen, utf8, Passed};
+ghost use Rattle.lists.specs.Classes.{ascii};
+ghost use Rattle.admit.specs.Utf8.{utf8Tail, lead2, lead3, lead4, charBytes, charLen, utf8, Passed};
 ghost use Rattle.admit.specs.Refusals.{answerNumber, textRefusal};
 
 // The most bytes of a text.
@@ -125,25 +128,39 @@ fn is_ascii(s: &[u8]) -> bool
     ok
 }
 
-// How many bytes at the front can be passed: a block of ASCII, else one character, else 0.
+// How many bytes of whole blocks of ASCII stand at the front.
+fn ascii_blocks(s: &[u8]) -> usize
+    ensures { λ r. ⌜ (all ascii (take r (now (s .entry))) ≡ true) × (r ≤ length (now (s .entry))) ⌝ }
+{
+    let mut i = 0;
+    while BLOCK <= s.len() - i {
+        if !is_ascii(front(tail(s, i), BLOCK)) {
+            return i;
+        }
+        i += BLOCK;
+    }
+    i
+}
+
+// How many bytes at the front can be passed at once: ASCII, else one character, else 0.
 fn step(s: &[u8]) -> usize
     ensures { λ r. ⌜ Passed (now (s .entry)) r ⌝ }
 {
-    if BLOCK <= s.len() {
-        if is_ascii(front(s, BLOCK)) {
-            return BLOCK;
-        }
+    let n = ascii_blocks(s);
+    if n != 0 {
+        return n;
+    }
+    let m = span_of(Class::Ascii, s);
+    if m != 0 {
+        return m;
     }
     char_len(s)
 }
 
-// Whether s is UTF-8.
-pub fn is_utf8(s: &[u8]) -> bool
+// Whether s is UTF-8, step by step.
+fn is_utf8_by_steps(s: &[u8]) -> bool
     ensures { λ r. ⌜ r ≡ utf8 (now (s .entry)) ⌝ }
 {
-    if is_ascii(s) {
-        return true;
-    }
     let mut i = 0;
     while i < s.len() {
         let n = step(tail(s, i));
@@ -153,6 +170,22 @@ pub fn is_utf8(s: &[u8]) -> bool
         i += n;
     }
     true
+}
+
+// Whether s is UTF-8. Most texts are ASCII: short ones stop at the first byte that is not, long ones are tested whole.
+pub fn is_utf8(s: &[u8]) -> bool
+    ensures { λ r. ⌜ r ≡ utf8 (now (s .entry)) ⌝ }
+{
+    if s.len() < BLOCK {
+        if all_of(Class::Ascii, s) {
+            return true;
+        }
+        return is_utf8_by_steps(s);
+    }
+    if is_ascii(s) {
+        return true;
+    }
+    is_utf8_by_steps(s)
 }
 
 // The tests of one text, in their order: its length, and then its bytes.

@@ -1,6 +1,6 @@
 -- Laws of `all`, `span`, `afterLast` and `sameBy` along a list, over the test, for loops that count. Assumes nothing.
 use mathlib.Core.Path.{_≡_, refl, sym, ap, _∙_}
-use mathlib.Core.Bool.{Bool, true, false, cond, _&&_, and-false}
+use mathlib.Core.Bool.{Bool, true, false, cond, _&&_, and-false, and-assoc}
 use mathlib.Core.List.{List, [], _∷_, _++_}
 use Prim.Native.Nat.{ℕ, zero, suc, _+_, _-_, _*_, _≤_, _<_}
 use native.Mathlib.Nat.{mul-le-mul-left}
@@ -97,3 +97,18 @@ rest s n = take-all (length s - n) (drop n s) (simp length-drop (omega arith))
 -- where a row of a packed table starts
 pub product : (w k : ℕ) → w < 256 → k < 256 → w * k < 65536
 product w k h g = let m : w * k ≤ w * 255 = mul-le-mul-left w (omega arith) in omega arith
+
+pub all-append : (p : ℕ → Bool) (s t : List ℕ) → all p (s ++ t) ≡ all p s && all p t
+unfolding all
+all-append p [] t = refl
+all-append p (b ∷ s) t = rw (all-append p s t, and-assoc (p b) (all p s) (all p t))
+
+-- the bytes that a scan passed
+pub span-all : (p : ℕ → Bool) (s : List ℕ) → all p (take (span p s) s) ≡ true
+unfolding all span
+span-all p [] = refl
+span-all p (b ∷ s) = go (p b) refl (span-all p s)
+  where
+    go : (t : Bool) → p b ≡ t → all p (take (span p s) s) ≡ true → all p (take (cond t (suc (span p s)) 0) (b ∷ s)) ≡ true
+    go true e h = rw (e, h)
+    go false e h = refl

@@ -1,8 +1,8 @@
 -- A rule of a table, proved at all of its entries by one test that antt computes. Assumes nothing.
-use mathlib.Core.Path.{_≡_, refl}
+use mathlib.Core.Path.{_≡_, refl, sym}
 use mathlib.Core.Bool.{Bool, true, false, _&&_}
 use mathlib.Core.List.{List, [], _∷_}
-use Prim.Native.Nat.{ℕ, zero, suc, _<_}
+use Prim.Native.Nat.{ℕ, zero, suc, _≤_, _<_}
 use native.Mathlib.Omega.{arith}
 use native.Mathlib.Decide.{decLt}
 use lib.Dec.{T, eqb, eqb→eq}
@@ -43,3 +43,12 @@ sameb→≡ (x ∷ xs) (y ∷ ys) t =
     let e : x ≡ y = eqb→eq x y (and-left (eqb x y) (sameb xs ys) t) in
     let r : xs ≡ ys = sameb→≡ xs ys (and-right (eqb x y) (sameb xs ys) t) in
     cc
+
+-- what the last arm of a `match` on k knows: k is none of the numbers below n
+abbrev pub NoneOf : ℕ → ℕ → Type 0
+NoneOf k zero = Unit
+NoneOf k (suc n) = NoneOf k n × (k ≡ n → ⊥)
+
+pub none-of : (k n : ℕ) → NoneOf k n → n ≤ k
+none-of k zero r = omega arith
+none-of k (suc n) r = let h : n ≤ k = none-of k n (r .0) in let g : n ≡ k → ⊥ = λ e. r .1 (sym e) in omega arith

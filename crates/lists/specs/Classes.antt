@@ -1,12 +1,16 @@
 -- The classes of bytes that a scan is given. Definitions only.
 use mathlib.Core.Bool.{Bool, not, _&&_, _||_}
 use Prim.Native.Nat.{ℕ}
-use lib.Dec.{leb, eqb}
+use lib.Dec.{leb, ltb, eqb}
 use Rattle.lists.specs.Bytes.{lower}
 use Rattle.lists.specs.declared.Class.{Class}
-use Rattle.lists.specs.declared.Class.the-variants.{Digit, Letter, DigitOrComma, DigitOrDash, RomanTail, ColonNorPoint, Only, Not}
+use Rattle.lists.specs.declared.Class.the-variants.{Ascii, Digit, Letter, DigitOrComma, DigitOrDash, RomanTail, ColonNorPoint, Only, Not}
 use Rattle.lists.specs.declared.Fold.{Fold}
 use Rattle.lists.specs.declared.Fold.the-variants.{Exact, Lower}
+
+-- a byte that is a character by itself
+abbrev pub ascii : ℕ → Bool
+ascii b = ltb b 128
 
 -- 0 to 9
 abbrev pub digit : ℕ → Bool
@@ -37,6 +41,7 @@ abbrev pub except : ℕ → ℕ → Bool
 except c b = not (eqb b c)
 
 abbrev pub inClass : Class → ℕ → Bool
+inClass Ascii = ascii
 inClass Digit = digit
 inClass Letter = letter
 inClass DigitOrComma = digitOrComma

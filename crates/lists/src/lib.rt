@@ -12,6 +12,7 @@ ghost use Rattle.lists.specs.Packed.{packedRow};
 
 // A class of bytes.
 pub enum Class {
+    Ascii,
     Digit,
     Letter,
     DigitOrComma,
@@ -137,6 +138,7 @@ pub fn in_class(k: Class, b: u8) -> bool
     ensures { λ r. ⌜ r ≡ inClass k b ⌝ }
 {
     match k {
+        Class::Ascii => b < 128,
         Class::Digit => is_digit(b),
         Class::Letter => is_letter(b),
         Class::DigitOrComma => ((48 <= b) & (b <= 57)) | (b == 44),

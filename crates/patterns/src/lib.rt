@@ -5,7 +5,6 @@ use admit::Refusal;
 use admit::TEXT_LIMIT;
 use admit::admit;
 use lists::put;
-use shapes::Shape;
 use shapes::TimeSplit;
 use shapes::has_shape;
 ghost use mathlib.Core.Path.{_≡_};
@@ -59,9 +58,9 @@ fn store_word(word: &[u8], store: &mut [u8]) -> UnitWord
     }
 }
 
-// The verdict of a shape by its kind: what every verdict shares.
-pub fn verdict_of(shape: Shape, s: &[u8]) -> Verdict
-    ensures { λ r. ⌜ asVerdict r ≡ verdictCall (now (s .entry)) (hasShape shape (now (s .entry))) ⌝ }
+// The verdict of a shape by its number: what every verdict shares.
+pub fn verdict_of(k: u8, n: usize, s: &[u8]) -> Verdict
+    ensures { λ r. ⌜ asVerdict r ≡ verdictCall (now (s .entry)) (hasShape k n (now (s .entry))) ⌝ }
 {
     let answer = admit(TEXT_LIMIT, s);
     let Answer::Accepted = answer else {
@@ -69,92 +68,92 @@ pub fn verdict_of(shape: Shape, s: &[u8]) -> Verdict
     };
     Verdict {
         answer: Answer::Accepted,
-        yes: has_shape(shape, s),
+        yes: has_shape(k, n, s),
     }
 }
 
 pub fn is_digits(s: &[u8]) -> Verdict
     ensures { λ r. ⌜ asVerdict r ≡ verdictCall (now (s .entry)) (isDigits (now (s .entry))) ⌝ }
 {
-    verdict_of(Shape::Digits, s)
+    verdict_of(shapes::DIGITS, 0, s)
 }
 
 pub fn is_alpha(s: &[u8]) -> Verdict
     ensures { λ r. ⌜ asVerdict r ≡ verdictCall (now (s .entry)) (isAlpha (now (s .entry))) ⌝ }
 {
-    verdict_of(Shape::Alpha, s)
+    verdict_of(shapes::ALPHA, 0, s)
 }
 
 pub fn is_double(s: &[u8]) -> Verdict
     ensures { λ r. ⌜ asVerdict r ≡ verdictCall (now (s .entry)) (isDouble (now (s .entry))) ⌝ }
 {
-    verdict_of(Shape::Double, s)
+    verdict_of(shapes::DOUBLE, 0, s)
 }
 
 pub fn is_comma_int(s: &[u8]) -> Verdict
     ensures { λ r. ⌜ asVerdict r ≡ verdictCall (now (s .entry)) (isCommaInt (now (s .entry))) ⌝ }
 {
-    verdict_of(Shape::CommaInt, s)
+    verdict_of(shapes::COMMA_INT, 0, s)
 }
 
 pub fn is_ordinal(s: &[u8]) -> Verdict
     ensures { λ r. ⌜ asVerdict r ≡ verdictCall (now (s .entry)) (isOrdinal (now (s .entry))) ⌝ }
 {
-    verdict_of(Shape::Ordinal, s)
+    verdict_of(shapes::ORDINAL, 0, s)
 }
 
 pub fn is_us_money(s: &[u8]) -> Verdict
     ensures { λ r. ⌜ asVerdict r ≡ verdictCall (now (s .entry)) (isUsMoney (now (s .entry))) ⌝ }
 {
-    verdict_of(Shape::UsMoney, s)
+    verdict_of(shapes::US_MONEY, 0, s)
 }
 
 pub fn is_illion(s: &[u8]) -> Verdict
     ensures { λ r. ⌜ asVerdict r ≡ verdictCall (now (s .entry)) (isIllion (now (s .entry))) ⌝ }
 {
-    verdict_of(Shape::Illion, s)
+    verdict_of(shapes::ILLION, 0, s)
 }
 
 pub fn is_roman(s: &[u8]) -> Verdict
     ensures { λ r. ⌜ asVerdict r ≡ verdictCall (now (s .entry)) (isRoman (now (s .entry))) ⌝ }
 {
-    verdict_of(Shape::Roman, s)
+    verdict_of(shapes::ROMAN, 0, s)
 }
 
 pub fn is_dr_or_st(s: &[u8]) -> Verdict
     ensures { λ r. ⌜ asVerdict r ≡ verdictCall (now (s .entry)) (isDrOrSt (now (s .entry))) ⌝ }
 {
-    verdict_of(Shape::DrOrSt, s)
+    verdict_of(shapes::DR_OR_ST, 0, s)
 }
 
 pub fn is_number_s(s: &[u8]) -> Verdict
     ensures { λ r. ⌜ asVerdict r ≡ verdictCall (now (s .entry)) (isNumberS (now (s .entry))) ⌝ }
 {
-    verdict_of(Shape::NumberS, s)
+    verdict_of(shapes::NUMBER_S, 0, s)
 }
 
 pub fn is_leading_zero_digits(s: &[u8]) -> Verdict
     ensures { λ r. ⌜ asVerdict r ≡ verdictCall (now (s .entry)) (isLeadingZeroDigits (now (s .entry))) ⌝ }
 {
-    verdict_of(Shape::LeadingZeroDigits, s)
+    verdict_of(shapes::LEADING_ZERO_DIGITS, 0, s)
 }
 
 pub fn is_seven_digit_phone(s: &[u8]) -> Verdict
     ensures { λ r. ⌜ asVerdict r ≡ verdictCall (now (s .entry)) (isSevenDigitPhone (now (s .entry))) ⌝ }
 {
-    verdict_of(Shape::SevenDigitPhone, s)
+    verdict_of(shapes::SEVEN_DIGIT_PHONE, 0, s)
 }
 
 pub fn is_n_digits(s: &[u8], n: usize) -> Verdict
     ensures { λ r. ⌜ asVerdict r ≡ verdictCall (now (s .entry)) (isNDigits n (now (s .entry))) ⌝ }
 {
-    verdict_of(Shape::NDigits(n), s)
+    verdict_of(shapes::N_DIGITS, n, s)
 }
 
 pub fn is_time(s: &[u8]) -> Verdict
     ensures { λ r. ⌜ asVerdict r ≡ verdictCall (now (s .entry)) (isTime (now (s .entry))) ⌝ }
 {
-    verdict_of(Shape::Time, s)
+    verdict_of(shapes::TIME, 0, s)
 }
 
 pub fn split_time_meridiem(s: &[u8]) -> SplitTime
@@ -176,19 +175,19 @@ pub fn split_time_meridiem(s: &[u8]) -> SplitTime
 pub fn is_dotted_abbrev(s: &[u8]) -> Verdict
     ensures { λ r. ⌜ asVerdict r ≡ verdictCall (now (s .entry)) (isDottedAbbrev (now (s .entry))) ⌝ }
 {
-    verdict_of(Shape::DottedAbbrev, s)
+    verdict_of(shapes::DOTTED_ABBREV, 0, s)
 }
 
 pub fn is_digits_slash_digits(s: &[u8]) -> Verdict
     ensures { λ r. ⌜ asVerdict r ≡ verdictCall (now (s .entry)) (isDigitsSlashDigits (now (s .entry))) ⌝ }
 {
-    verdict_of(Shape::DigitsSlashDigits, s)
+    verdict_of(shapes::DIGITS_SLASH_DIGITS, 0, s)
 }
 
 pub fn is_digits_dash_digits(s: &[u8]) -> Verdict
     ensures { λ r. ⌜ asVerdict r ≡ verdictCall (now (s .entry)) (isDigitsDashDigits (now (s .entry))) ⌝ }
 {
-    verdict_of(Shape::DigitsDashDigits, s)
+    verdict_of(shapes::DIGITS_DASH_DIGITS, 0, s)
 }
 
 pub fn split_unit(s: &[u8]) -> SplitUnit

@@ -1,6 +1,5 @@
 // Every function that C calls, thin over the library. include/howhakiru.h is the same list for C.
 use patterns::SplitTime;
-use shapes::Shape;
 use shapes::TimeSplit;
 ghost use mathlib.Core.Path.{_≡_};
 ghost use Prim.Native.Nat.{_-_};
@@ -56,10 +55,10 @@ fn less(a: usize, b: usize) -> usize
     if b <= a { a - b } else { 0 }
 }
 
-fn verdict_at_c(shape: Shape, s: &[u8]) -> HwkVerdict
-    ensures { λ r. ⌜ r ≡ verdictAtC (verdictCall (now (s .entry)) (hasShape shape (now (s .entry)))) ⌝ }
+fn verdict_at_c(k: u8, n: usize, s: &[u8]) -> HwkVerdict
+    ensures { λ r. ⌜ r ≡ verdictAtC (verdictCall (now (s .entry)) (hasShape k n (now (s .entry)))) ⌝ }
 {
-    let v = patterns::verdict_of(shape, s);
+    let v = patterns::verdict_of(k, n, s);
     let answer = v.answer;
     HwkVerdict {
         refusal: answer.number() as u32,
@@ -107,119 +106,119 @@ fn time_at_c(t: SplitTime, n: usize) -> HwkTime
 pub extern "C" fn hwk_is_digits(s: &[u8]) -> HwkVerdict
     ensures { λ r. ⌜ r ≡ verdictAtC (verdictCall (now (s .entry)) (isDigits (now (s .entry)))) ⌝ }
 {
-    verdict_at_c(Shape::Digits, s)
+    verdict_at_c(shapes::DIGITS, 0, s)
 }
 
 #[no_mangle]
 pub extern "C" fn hwk_is_alpha(s: &[u8]) -> HwkVerdict
     ensures { λ r. ⌜ r ≡ verdictAtC (verdictCall (now (s .entry)) (isAlpha (now (s .entry)))) ⌝ }
 {
-    verdict_at_c(Shape::Alpha, s)
+    verdict_at_c(shapes::ALPHA, 0, s)
 }
 
 #[no_mangle]
 pub extern "C" fn hwk_is_double(s: &[u8]) -> HwkVerdict
     ensures { λ r. ⌜ r ≡ verdictAtC (verdictCall (now (s .entry)) (isDouble (now (s .entry)))) ⌝ }
 {
-    verdict_at_c(Shape::Double, s)
+    verdict_at_c(shapes::DOUBLE, 0, s)
 }
 
 #[no_mangle]
 pub extern "C" fn hwk_is_comma_int(s: &[u8]) -> HwkVerdict
     ensures { λ r. ⌜ r ≡ verdictAtC (verdictCall (now (s .entry)) (isCommaInt (now (s .entry)))) ⌝ }
 {
-    verdict_at_c(Shape::CommaInt, s)
+    verdict_at_c(shapes::COMMA_INT, 0, s)
 }
 
 #[no_mangle]
 pub extern "C" fn hwk_is_ordinal(s: &[u8]) -> HwkVerdict
     ensures { λ r. ⌜ r ≡ verdictAtC (verdictCall (now (s .entry)) (isOrdinal (now (s .entry)))) ⌝ }
 {
-    verdict_at_c(Shape::Ordinal, s)
+    verdict_at_c(shapes::ORDINAL, 0, s)
 }
 
 #[no_mangle]
 pub extern "C" fn hwk_is_us_money(s: &[u8]) -> HwkVerdict
     ensures { λ r. ⌜ r ≡ verdictAtC (verdictCall (now (s .entry)) (isUsMoney (now (s .entry)))) ⌝ }
 {
-    verdict_at_c(Shape::UsMoney, s)
+    verdict_at_c(shapes::US_MONEY, 0, s)
 }
 
 #[no_mangle]
 pub extern "C" fn hwk_is_illion(s: &[u8]) -> HwkVerdict
     ensures { λ r. ⌜ r ≡ verdictAtC (verdictCall (now (s .entry)) (isIllion (now (s .entry)))) ⌝ }
 {
-    verdict_at_c(Shape::Illion, s)
+    verdict_at_c(shapes::ILLION, 0, s)
 }
 
 #[no_mangle]
 pub extern "C" fn hwk_is_roman(s: &[u8]) -> HwkVerdict
     ensures { λ r. ⌜ r ≡ verdictAtC (verdictCall (now (s .entry)) (isRoman (now (s .entry)))) ⌝ }
 {
-    verdict_at_c(Shape::Roman, s)
+    verdict_at_c(shapes::ROMAN, 0, s)
 }
 
 #[no_mangle]
 pub extern "C" fn hwk_is_dr_or_st(s: &[u8]) -> HwkVerdict
     ensures { λ r. ⌜ r ≡ verdictAtC (verdictCall (now (s .entry)) (isDrOrSt (now (s .entry)))) ⌝ }
 {
-    verdict_at_c(Shape::DrOrSt, s)
+    verdict_at_c(shapes::DR_OR_ST, 0, s)
 }
 
 #[no_mangle]
 pub extern "C" fn hwk_is_number_s(s: &[u8]) -> HwkVerdict
     ensures { λ r. ⌜ r ≡ verdictAtC (verdictCall (now (s .entry)) (isNumberS (now (s .entry)))) ⌝ }
 {
-    verdict_at_c(Shape::NumberS, s)
+    verdict_at_c(shapes::NUMBER_S, 0, s)
 }
 
 #[no_mangle]
 pub extern "C" fn hwk_is_leading_zero_digits(s: &[u8]) -> HwkVerdict
     ensures { λ r. ⌜ r ≡ verdictAtC (verdictCall (now (s .entry)) (isLeadingZeroDigits (now (s .entry)))) ⌝ }
 {
-    verdict_at_c(Shape::LeadingZeroDigits, s)
+    verdict_at_c(shapes::LEADING_ZERO_DIGITS, 0, s)
 }
 
 #[no_mangle]
 pub extern "C" fn hwk_is_seven_digit_phone(s: &[u8]) -> HwkVerdict
     ensures { λ r. ⌜ r ≡ verdictAtC (verdictCall (now (s .entry)) (isSevenDigitPhone (now (s .entry)))) ⌝ }
 {
-    verdict_at_c(Shape::SevenDigitPhone, s)
+    verdict_at_c(shapes::SEVEN_DIGIT_PHONE, 0, s)
 }
 
 #[no_mangle]
 pub extern "C" fn hwk_is_n_digits(s: &[u8], n: usize) -> HwkVerdict
     ensures { λ r. ⌜ r ≡ verdictAtC (verdictCall (now (s .entry)) (isNDigits n (now (s .entry)))) ⌝ }
 {
-    verdict_at_c(Shape::NDigits(n), s)
+    verdict_at_c(shapes::N_DIGITS, n, s)
 }
 
 #[no_mangle]
 pub extern "C" fn hwk_is_time(s: &[u8]) -> HwkVerdict
     ensures { λ r. ⌜ r ≡ verdictAtC (verdictCall (now (s .entry)) (isTime (now (s .entry)))) ⌝ }
 {
-    verdict_at_c(Shape::Time, s)
+    verdict_at_c(shapes::TIME, 0, s)
 }
 
 #[no_mangle]
 pub extern "C" fn hwk_is_dotted_abbrev(s: &[u8]) -> HwkVerdict
     ensures { λ r. ⌜ r ≡ verdictAtC (verdictCall (now (s .entry)) (isDottedAbbrev (now (s .entry)))) ⌝ }
 {
-    verdict_at_c(Shape::DottedAbbrev, s)
+    verdict_at_c(shapes::DOTTED_ABBREV, 0, s)
 }
 
 #[no_mangle]
 pub extern "C" fn hwk_is_digits_slash_digits(s: &[u8]) -> HwkVerdict
     ensures { λ r. ⌜ r ≡ verdictAtC (verdictCall (now (s .entry)) (isDigitsSlashDigits (now (s .entry)))) ⌝ }
 {
-    verdict_at_c(Shape::DigitsSlashDigits, s)
+    verdict_at_c(shapes::DIGITS_SLASH_DIGITS, 0, s)
 }
 
 #[no_mangle]
 pub extern "C" fn hwk_is_digits_dash_digits(s: &[u8]) -> HwkVerdict
     ensures { λ r. ⌜ r ≡ verdictAtC (verdictCall (now (s .entry)) (isDigitsDashDigits (now (s .entry)))) ⌝ }
 {
-    verdict_at_c(Shape::DigitsDashDigits, s)
+    verdict_at_c(shapes::DIGITS_DASH_DIGITS, 0, s)
 }
 
 #[no_mangle]

@@ -5,7 +5,7 @@ use mathlib.Core.Bool.{_&&_}
 use Prim.Native.Nat.{_-_, _≤_}
 use lib.ListN.{length, drop}
 use Rattle.lists.specs.Bytes.{all}
-use Rattle.admit.specs.Utf8.{ascii}
+use Rattle.lists.specs.Classes.{ascii}
 use Rattle.admit.proofs.Utf8.{ascii-more, ascii-end}
 use Rattle.admit.proofs.is_ascii.Statement.{statement}
 use Rattle.admit.proofs.is_ascii.Tie as tie

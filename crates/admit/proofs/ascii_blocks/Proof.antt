@@ -1,0 +1,39 @@
+use borrow.Author.Needs.{needs}
+use native.Mathlib.Omega.{arith}
+use mathlib.Core.Path.{_≡_, refl}
+use mathlib.Core.Bool.{true}
+use Prim.Native.Nat.{_-_, _≤_}
+use lib.ListN.{length, take}
+use borrow.Author.Tests.{not-false}
+use Rattle.lists.specs.Bytes.{all}
+use Rattle.lists.specs.Classes.{ascii}
+use Rattle.admit.proofs.Utf8.{runs}
+use Rattle.admit.proofs.ascii_blocks.Statement.{statement}
+use Rattle.admit.proofs.ascii_blocks.Tie as tie
+
+abbrev Inv-loop : tie.InvT-loop
+Inv-loop s i₀ i = (i ≤ length s) × (all ascii (take i s) ≡ true)
+
+abbrev μ-loop : tie.MeasureT-loop
+μ-loop s i₀ i = length s - i
+
+loop-holds : tie.Need-loop-holds Inv-loop μ-loop
+unfolding all
+loop-holds c = (omega arith, refl)
+
+pub ascii-blocks-spec : {M : Type 1} → statement M
+ascii-blocks-spec =
+    tie.close
+    (tie.spec
+    Inv-loop
+    μ-loop
+    loop-holds
+    (λ c. search needs)
+    (λ c κs. search needs)
+    (λ c κs. search needs)
+    (λ c κs. search needs)
+    (λ c. (c .before .before .before .before .before .loop .inv .1, omega arith))
+    (λ c. search needs)
+    (λ c. search needs)
+    (λ c. (omega arith, runs (c .before .before .before .before .before .before .before .args .s .now) (c .before .before .before .before .before .loop .i) 32 (c .before .before .before .before .before .loop .inv .1) (rw (← c .before .before .before .tail .ensures, ← c .before .before .front .ensures, ← c .before .is-ascii .ensures) (not-false _ (c .if1 .left)))))
+    (λ c. (c .before .loop .inv .1, omega arith)))
