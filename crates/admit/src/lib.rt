@@ -1,5 +1,5 @@
 // Admission: the refusals of document 01, and the two that every text is tested for.
-use lists::Class;
+use lists::ASCII;
 use lists::all_of;
 use lists::byte_at;
 use lists::front;
@@ -12,7 +12,7 @@ ghost use lib.ListN.{length, take};
 ghost use Rattle.lists.specs.Bytes.{all};
 ghost use Rattle.lists.specs.Classes.{ascii};
 ghost use Rattle.admit.specs.Utf8.{utf8Tail, lead2, lead3, lead4, charBytes, charLen, utf8, Passed};
-ghost use Rattle.admit.specs.Refusals.{answerNumber, textRefusal};
+ghost use Rattle.admit.specs.Refusals.{accepted, answerNumber, textRefusal};
 
 // The most bytes of a text.
 pub const TEXT_LIMIT: usize = 65536;
@@ -41,6 +41,15 @@ pub enum Answer {
 }
 
 impl Answer {
+    pub fn is_accepted(self) -> bool
+        ensures { λ r. ⌜ r ≡ accepted self ⌝ }
+    {
+        match self {
+            Answer::Accepted => true,
+            Answer::Refused(_) => false,
+        }
+    }
+
     // The number of the refusal, 0 where the call is accepted.
     pub fn number(self) -> u8
         ensures { λ r. ⌜ r ≡ answerNumber self ⌝ }
@@ -150,7 +159,7 @@ fn step(s: &[u8]) -> usize
     if n != 0 {
         return n;
     }
-    let m = span_of(Class::Ascii, s);
+    let m = span_of(ASCII, 0, s);
     if m != 0 {
         return m;
     }
@@ -172,20 +181,28 @@ fn is_utf8_by_steps(s: &[u8]) -> bool
     true
 }
 
-// Whether s is UTF-8. Most texts are ASCII: short ones stop at the first byte that is not, long ones are tested whole.
-pub fn is_utf8(s: &[u8]) -> bool
+// Whether s is UTF-8, at any length.
+fn is_utf8_whole(s: &[u8]) -> bool
     ensures { λ r. ⌜ r ≡ utf8 (now (s .entry)) ⌝ }
 {
-    if s.len() < BLOCK {
-        if all_of(Class::Ascii, s) {
-            return true;
-        }
-        return is_utf8_by_steps(s);
-    }
     if is_ascii(s) {
         return true;
     }
     is_utf8_by_steps(s)
+}
+
+// Whether s is UTF-8. A short name of ASCII costs a few instructions, which the compiler puts into each caller; the two
+// calls keep the rest out of there.
+pub fn is_utf8(s: &[u8]) -> bool
+    ensures { λ r. ⌜ r ≡ utf8 (now (s .entry)) ⌝ }
+{
+    if s.len() < BLOCK {
+        if all_of(ASCII, 0, s) {
+            return true;
+        }
+        return is_utf8_whole(s);
+    }
+    is_utf8_whole(s)
 }
 
 // The tests of one text, in their order: its length, and then its bytes.

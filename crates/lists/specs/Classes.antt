@@ -1,12 +1,10 @@
--- The classes of bytes that a scan is given. Definitions only.
-use mathlib.Core.Bool.{Bool, not, _&&_, _||_}
+-- The classes of bytes that a scan is given by number. Definitions only.
+use mathlib.Core.Bool.{Bool, true, false, not, _&&_, _||_}
+use mathlib.Core.List.{List, [], _∷_}
 use Prim.Native.Nat.{ℕ}
 use lib.Dec.{leb, ltb, eqb}
+use lib.ListN.{getD}
 use Rattle.lists.specs.Bytes.{lower}
-use Rattle.lists.specs.declared.Class.{Class}
-use Rattle.lists.specs.declared.Class.the-variants.{Ascii, Digit, Letter, DigitOrComma, DigitOrDash, RomanTail, ColonNorPoint, Only, Not}
-use Rattle.lists.specs.declared.Fold.{Fold}
-use Rattle.lists.specs.declared.Fold.the-variants.{Exact, Lower}
 
 -- a byte that is a character by itself
 abbrev pub ascii : ℕ → Bool
@@ -34,24 +32,18 @@ romanTail b = eqb b 86 || eqb b 73 || eqb b 88
 abbrev pub colonNorPoint : ℕ → Bool
 colonNorPoint b = not (eqb b 58 || eqb b 46)
 
-abbrev pub only : ℕ → ℕ → Bool
-only c b = eqb b c
-
 abbrev pub except : ℕ → ℕ → Bool
 except c b = not (eqb b c)
 
-abbrev pub inClass : Class → ℕ → Bool
-inClass Ascii = ascii
-inClass Digit = digit
-inClass Letter = letter
-inClass DigitOrComma = digitOrComma
-inClass DigitOrDash = digitOrDash
-inClass RomanTail = romanTail
-inClass ColonNorPoint = colonNorPoint
-inClass (Only c) = only c
-inClass (Not c) = except c
+-- the classes by number; c is for the last alone
+abbrev pub classes : ℕ → List (ℕ → Bool)
+classes c = ascii ∷ digit ∷ letter ∷ digitOrComma ∷ digitOrDash ∷ romanTail ∷ colonNorPoint ∷ except c ∷ []
 
--- what a comparison does to each byte of its first text
-abbrev pub folded : Fold → ℕ → ℕ
-folded Exact = λ b. b
-folded Lower = lower
+-- the class of a number, empty where there is none
+abbrev pub inClass : ℕ → ℕ → ℕ → Bool
+inClass k c = getD (classes c) k (λ b. false)
+
+-- what a comparison does to each byte of its first text: A to Z are lowered, or nothing
+abbrev pub folded : Bool → ℕ → ℕ
+folded true = lower
+folded false = λ b. b

@@ -7,27 +7,30 @@ ghost use lib.Dec.{eqb};
 ghost use lib.ListN.{length, take, drop, getD};
 ghost use lib.Seq.{sets};
 ghost use Rattle.lists.specs.Bytes.{all, span, afterLast, sameBy, lower, starts, ends, stripPrefix, stripSuffix, endsBy};
-ghost use Rattle.lists.specs.Classes.{digit, letter, inClass, folded};
+ghost use Rattle.lists.specs.Classes.{inClass, folded};
 ghost use Rattle.lists.specs.Packed.{packedRow};
 
-// A class of bytes.
-pub enum Class {
-    Ascii,
-    Digit,
-    Letter,
-    DigitOrComma,
-    DigitOrDash,
-    RomanTail,
-    ColonNorPoint,
-    Only(u8),
-    Not(u8),
-}
+// The classes of bytes by number. Numbers and no enum: a scan with a constant is then compiled to that class alone.
+pub const ASCII: u8 = 0;
 
-// What a comparison does to each byte of its first text.
-pub enum Fold {
-    Exact,
-    Lower,
-}
+pub const DIGIT: u8 = 1;
+
+pub const LETTER: u8 = 2;
+
+pub const DIGIT_OR_COMMA: u8 = 3;
+
+pub const DIGIT_OR_DASH: u8 = 4;
+
+pub const ROMAN_TAIL: u8 = 5;
+
+pub const COLON_NOR_POINT: u8 = 6;
+// Every byte but one, which the scan is given beside the class. For any other class it is given 0.
+pub const NOT: u8 = 7;
+
+// What a comparison does to each byte of its first text: nothing, or A to Z are lowered.
+pub const EXACT: bool = false;
+
+pub const LOWERED: bool = true;
 
 // The byte at i, or 0 past the end.
 pub fn byte_at(s: &[u8], i: usize) -> u8
@@ -109,18 +112,6 @@ pub fn strip_suffix(s: &[u8], c: u8) -> &[u8]
     s
 }
 
-pub fn is_digit(b: u8) -> bool
-    ensures { λ r. ⌜ r ≡ digit b ⌝ }
-{
-    (48 <= b) & (b <= 57)
-}
-
-pub fn is_letter(b: u8) -> bool
-    ensures { λ r. ⌜ r ≡ letter b ⌝ }
-{
-    ((65 <= b) & (b <= 90)) | ((97 <= b) & (b <= 122))
-}
-
 pub fn to_lower(b: u8) -> u8
     ensures { λ r. ⌜ r ≡ lower b ⌝ }
 {
@@ -134,29 +125,29 @@ pub fn to_lower(b: u8) -> u8
 }
 
 // Whether b is of the class k.
-pub fn in_class(k: Class, b: u8) -> bool
-    ensures { λ r. ⌜ r ≡ inClass k b ⌝ }
+pub fn in_class(k: u8, c: u8, b: u8) -> bool
+    ensures { λ r. ⌜ r ≡ inClass k c b ⌝ }
 {
     match k {
-        Class::Ascii => b < 128,
-        Class::Digit => is_digit(b),
-        Class::Letter => is_letter(b),
-        Class::DigitOrComma => ((48 <= b) & (b <= 57)) | (b == 44),
-        Class::DigitOrDash => ((48 <= b) & (b <= 57)) | (b == 45),
-        Class::RomanTail => (b == 86) | (b == 73) | (b == 88),
-        Class::ColonNorPoint => !((b == 58) | (b == 46)),
-        Class::Only(c) => b == c,
-        Class::Not(c) => b != c,
+        0 => b < 128,
+        1 => (48 <= b) & (b <= 57),
+        2 => ((65 <= b) & (b <= 90)) | ((97 <= b) & (b <= 122)),
+        3 => ((48 <= b) & (b <= 57)) | (b == 44),
+        4 => ((48 <= b) & (b <= 57)) | (b == 45),
+        5 => (b == 86) | (b == 73) | (b == 88),
+        6 => !((b == 58) | (b == 46)),
+        7 => b != c,
+        _ => false,
     }
 }
 
 // Whether every byte is of the class k.
-pub fn all_of(k: Class, s: &[u8]) -> bool
-    ensures { λ r. ⌜ r ≡ all (inClass k) (now (s .entry)) ⌝ }
+pub fn all_of(k: u8, c: u8, s: &[u8]) -> bool
+    ensures { λ r. ⌜ r ≡ all (inClass k c) (now (s .entry)) ⌝ }
 {
     let mut i = 0;
     while i < s.len() {
-        if !in_class(k, s[i]) {
+        if !in_class(k, c, s[i]) {
             return false;
         }
         i += 1;
@@ -165,12 +156,12 @@ pub fn all_of(k: Class, s: &[u8]) -> bool
 }
 
 // How many bytes at the front are of the class k.
-pub fn span_of(k: Class, s: &[u8]) -> usize
-    ensures { λ r. ⌜ r ≡ span (inClass k) (now (s .entry)) ⌝ }
+pub fn span_of(k: u8, c: u8, s: &[u8]) -> usize
+    ensures { λ r. ⌜ r ≡ span (inClass k c) (now (s .entry)) ⌝ }
 {
     let mut i = 0;
     while i < s.len() {
-        if !in_class(k, s[i]) {
+        if !in_class(k, c, s[i]) {
             return i;
         }
         i += 1;
@@ -179,12 +170,12 @@ pub fn span_of(k: Class, s: &[u8]) -> usize
 }
 
 // The place after the last byte of the class k, 0 where there is none.
-pub fn after_last(k: Class, s: &[u8]) -> usize
-    ensures { λ r. ⌜ r ≡ afterLast (inClass k) (now (s .entry)) ⌝ }
+pub fn after_last(k: u8, c: u8, s: &[u8]) -> usize
+    ensures { λ r. ⌜ r ≡ afterLast (inClass k c) (now (s .entry)) ⌝ }
 {
     let mut i = s.len();
     while 0 < i {
-        if in_class(k, s[i - 1]) {
+        if in_class(k, c, s[i - 1]) {
             return i;
         }
         i -= 1;
@@ -192,25 +183,22 @@ pub fn after_last(k: Class, s: &[u8]) -> usize
     0
 }
 
-pub fn fold_byte(f: Fold, b: u8) -> u8
-    ensures { λ r. ⌜ r ≡ folded f b ⌝ }
+pub fn fold_byte(lowered: bool, b: u8) -> u8
+    ensures { λ r. ⌜ r ≡ folded lowered b ⌝ }
 {
-    match f {
-        Fold::Exact => b,
-        Fold::Lower => to_lower(b),
-    }
+    if lowered { to_lower(b) } else { b }
 }
 
-// Whether t is s with f applied to each byte.
-pub fn same(f: Fold, s: &[u8], t: &[u8]) -> bool
-    ensures { λ r. ⌜ r ≡ sameBy (folded f) (now (s .entry)) (now (t .entry)) ⌝ }
+// Whether t is s, with A to Z lowered where that is asked.
+pub fn same(lowered: bool, s: &[u8], t: &[u8]) -> bool
+    ensures { λ r. ⌜ r ≡ sameBy (folded lowered) (now (s .entry)) (now (t .entry)) ⌝ }
 {
     if s.len() != t.len() {
         return false;
     }
     let mut i = 0;
     while i < s.len() {
-        if fold_byte(f, s[i]) != t[i] {
+        if fold_byte(lowered, s[i]) != t[i] {
             return false;
         }
         i += 1;
@@ -218,12 +206,12 @@ pub fn same(f: Fold, s: &[u8], t: &[u8]) -> bool
     true
 }
 
-// Whether s, with f applied to each byte, ends with t.
-pub fn ends_same(f: Fold, s: &[u8], t: &[u8]) -> bool
-    ensures { λ r. ⌜ r ≡ endsBy (folded f) (now (t .entry)) (now (s .entry)) ⌝ }
+// Whether s, with A to Z lowered where that is asked, ends with t.
+pub fn ends_same(lowered: bool, s: &[u8], t: &[u8]) -> bool
+    ensures { λ r. ⌜ r ≡ endsBy (folded lowered) (now (t .entry)) (now (s .entry)) ⌝ }
 {
     if t.len() <= s.len() {
-        return same(f, back(s, t.len()), t);
+        return same(lowered, back(s, t.len()), t);
     }
     false
 }

@@ -8,6 +8,7 @@ use lists::put;
 use shapes::TimeSplit;
 use shapes::has_shape;
 ghost use mathlib.Core.Path.{_≡_};
+ghost use mathlib.Core.Bool.{_&&_};
 ghost use Rattle.shapes.specs.Kinds.{hasShape};
 ghost use Rattle.shapes.specs.Shapes.{isDigits, isAlpha, isDouble, isCommaInt, isOrdinal, isUsMoney, isIllion, isRoman, isDrOrSt, isNumberS, isLeadingZeroDigits, isSevenDigitPhone, isNDigits, isTime, isDottedAbbrev, isDigitsSlashDigits, isDigitsDashDigits};
 ghost use Rattle.patterns.specs.Calls.{asVerdict, verdictCall, asTime, timeCall, asUnit, unitCall, asWord, storeCall, wordCall};
@@ -58,17 +59,24 @@ fn store_word(word: &[u8], store: &mut [u8]) -> UnitWord
     }
 }
 
+// The shape's verdict where the text is accepted, else no.
+fn judged(accepted: bool, k: u8, n: usize, s: &[u8]) -> bool
+    ensures { λ r. ⌜ r ≡ (accepted && hasShape k n (now (s .entry))) ⌝ }
+{
+    if accepted {
+        return has_shape(k, n, s);
+    }
+    false
+}
+
 // The verdict of a shape by its number: what every verdict shares.
 pub fn verdict_of(k: u8, n: usize, s: &[u8]) -> Verdict
     ensures { λ r. ⌜ asVerdict r ≡ verdictCall (now (s .entry)) (hasShape k n (now (s .entry))) ⌝ }
 {
     let answer = admit(TEXT_LIMIT, s);
-    let Answer::Accepted = answer else {
-        return Verdict { answer, yes: false };
-    };
     Verdict {
-        answer: Answer::Accepted,
-        yes: has_shape(k, n, s),
+        answer,
+        yes: judged(answer.is_accepted(), k, n, s),
     }
 }
 

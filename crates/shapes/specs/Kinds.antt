@@ -4,10 +4,6 @@ use mathlib.Core.List.{List, [], _∷_}
 use Prim.Native.Nat.{ℕ}
 use lib.ListN.{getD}
 use Rattle.shapes.specs.Shapes.{isDigits, isAlpha, isDouble, isCommaInt, isOrdinal, isUsMoney, isIllion, isRoman, isDrOrSt, isNumberS, isLeadingZeroDigits, isSevenDigitPhone, isNDigits, isTime, isDottedAbbrev, isDigitsSlashDigits, isDigitsDashDigits, isThreeDigits, isOneLetter, isPhoneParts, isHourMinute, areDigits}
-use Rattle.shapes.specs.declared.PartTest.{PartTest}
-use Rattle.shapes.specs.declared.PartTest.the-variants.{ThreeDigits, OneLetter}
-use Rattle.shapes.specs.declared.PairTest.{PairTest}
-use Rattle.shapes.specs.declared.PairTest.the-variants.{Phone, HourMinute, TwoNumbers}
 
 -- in the order of patterns.rs; n is for is_n_digits alone
 abbrev pub shapes : ℕ → List (List ℕ → Bool)
@@ -22,13 +18,10 @@ shapes n =
 abbrev pub hasShape : ℕ → ℕ → List ℕ → Bool
 hasShape k n = getD (shapes n) k (λ s. false)
 
--- the tests of a part between separators
-abbrev pub passes : PartTest → List ℕ → Bool
-passes ThreeDigits = isThreeDigits
-passes OneLetter = isOneLetter
+-- the tests of a part between separators, by number
+abbrev pub passes : ℕ → List ℕ → Bool
+passes k = getD (isThreeDigits ∷ isOneLetter ∷ []) k (λ s. false)
 
--- the tests of the two parts at a first separator
-abbrev pub bothPass : PairTest → List ℕ → List ℕ → Bool
-bothPass Phone = isPhoneParts
-bothPass HourMinute = isHourMinute
-bothPass TwoNumbers = areDigits
+-- the tests of the two parts at a first separator, by number
+abbrev pub bothPass : ℕ → List ℕ → List ℕ → Bool
+bothPass k = getD (isPhoneParts ∷ isHourMinute ∷ areDigits ∷ []) k (λ a b. false)

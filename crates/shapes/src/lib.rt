@@ -1,7 +1,14 @@
 // The shapes of patterns.rs on names that are admitted already, in that file's order and under its names. Each is total
 // on all bytes, so nothing is demanded; the public calls of the crate patterns put admission in front of them.
-use lists::Class;
-use lists::Fold;
+use lists::COLON_NOR_POINT;
+use lists::DIGIT;
+use lists::DIGIT_OR_COMMA;
+use lists::DIGIT_OR_DASH;
+use lists::EXACT;
+use lists::LETTER;
+use lists::LOWERED;
+use lists::NOT;
+use lists::ROMAN_TAIL;
 use lists::after_last;
 use lists::all_of;
 use lists::back;
@@ -9,7 +16,7 @@ use lists::byte_at;
 use lists::ends_same;
 use lists::ends_with;
 use lists::front;
-use lists::is_digit;
+use lists::in_class;
 use lists::same;
 use lists::span_of;
 use lists::starts_with;
@@ -27,35 +34,50 @@ ghost use Rattle.shapes.specs.Kinds.{hasShape, passes, bothPass};
 
 // The verdicts by number, in the order of patterns.rs.
 pub const DIGITS: u8 = 0;
+
 pub const ALPHA: u8 = 1;
+
 pub const DOUBLE: u8 = 2;
+
 pub const COMMA_INT: u8 = 3;
+
 pub const ORDINAL: u8 = 4;
+
 pub const US_MONEY: u8 = 5;
+
 pub const ILLION: u8 = 6;
+
 pub const ROMAN: u8 = 7;
+
 pub const DR_OR_ST: u8 = 8;
+
 pub const NUMBER_S: u8 = 9;
+
 pub const LEADING_ZERO_DIGITS: u8 = 10;
+
 pub const SEVEN_DIGIT_PHONE: u8 = 11;
+
 pub const N_DIGITS: u8 = 12;
+
 pub const TIME: u8 = 13;
+
 pub const DOTTED_ABBREV: u8 = 14;
+
 pub const DIGITS_SLASH_DIGITS: u8 = 15;
+
 pub const DIGITS_DASH_DIGITS: u8 = 16;
 
-// The tests of a part between separators.
-pub enum PartTest {
-    ThreeDigits,
-    OneLetter,
-}
+// The tests of a part between separators, by number.
+const THREE_DIGITS: u8 = 0;
 
-// The tests of the two parts at a first separator.
-pub enum PairTest {
-    Phone,
-    HourMinute,
-    TwoNumbers,
-}
+const ONE_LETTER: u8 = 1;
+
+// The tests of the two parts at a first separator, by number.
+const PHONE: u8 = 0;
+
+const HOUR_MINUTE: u8 = 1;
+
+const TWO_NUMBERS: u8 = 2;
 
 // What split_time_meridiem finds: where the hour ends, where the minute starts, and where it ends and the meridiem starts.
 pub enum TimeSplit {
@@ -70,13 +92,13 @@ pub enum TimeSplit {
 pub fn is_digits(s: &[u8]) -> bool
     ensures { λ r. ⌜ r ≡ isDigits (now (s .entry)) ⌝ }
 {
-    (s.len() != 0) & all_of(Class::Digit, s)
+    (s.len() != 0) & all_of(DIGIT, 0, s)
 }
 
 pub fn is_alpha(s: &[u8]) -> bool
     ensures { λ r. ⌜ r ≡ isAlpha (now (s .entry)) ⌝ }
 {
-    (s.len() != 0) & all_of(Class::Letter, s)
+    (s.len() != 0) & all_of(LETTER, 0, s)
 }
 
 fn strip_sign(s: &[u8]) -> &[u8]
@@ -100,11 +122,11 @@ fn is_exponent(s: &[u8]) -> bool
 fn is_unsigned(s: &[u8]) -> bool
     ensures { λ r. ⌜ r ≡ isUnsigned (now (s .entry)) ⌝ }
 {
-    let int = span_of(Class::Digit, s);
+    let int = span_of(DIGIT, 0, s);
     let rest = tail(s, int);
     if starts_with(rest, 46) {
         let after = tail(rest, 1);
-        let frac = span_of(Class::Digit, after);
+        let frac = span_of(DIGIT, 0, after);
         return !((int == 0) & (frac == 0)) & is_exponent(tail(after, frac));
     }
     (int != 0) & is_exponent(rest)
@@ -117,23 +139,24 @@ pub fn is_double(s: &[u8]) -> bool
 }
 
 // Whether a part between separators passes.
-fn part_passes(test: PartTest, s: &[u8]) -> bool
+fn part_passes(test: u8, s: &[u8]) -> bool
     ensures { λ r. ⌜ r ≡ passes test (now (s .entry)) ⌝ }
 {
     match test {
-        PartTest::ThreeDigits => is_n_digits(s, 3),
-        PartTest::OneLetter => (s.len() == 1) & is_alpha(s),
+        0 => is_n_digits(s, 3),
+        1 => (s.len() == 1) & is_alpha(s),
+        _ => false,
     }
 }
 
 // Whether every part between the bytes c passes.
-fn all_parts(test: PartTest, c: u8, s: &[u8]) -> bool
+fn all_parts(test: u8, c: u8, s: &[u8]) -> bool
     ensures { λ r. ⌜ r ≡ allParts (passes test) (split c (now (s .entry))) ⌝ }
 {
     let mut i = 0;
     loop {
         let rest = tail(s, i);
-        let n = span_of(Class::Not(c), rest);
+        let n = span_of(NOT, c, rest);
         if !part_passes(test, front(rest, n)) {
             return false;
         }
@@ -147,21 +170,21 @@ fn all_parts(test: PartTest, c: u8, s: &[u8]) -> bool
 pub fn is_comma_int(s: &[u8]) -> bool
     ensures { λ r. ⌜ r ≡ isCommaInt (now (s .entry)) ⌝ }
 {
-    let n = span_of(Class::Not(44), s);
+    let n = span_of(NOT, 44, s);
     if s.len() <= n {
         return false;
     }
     let first = front(s, n);
-    is_digits(first) & (first.len() <= 3) & all_parts(PartTest::ThreeDigits, 44, tail(s, n + 1))
+    is_digits(first) & (first.len() <= 3) & all_parts(THREE_DIGITS, 44, tail(s, n + 1))
 }
 
 fn is_ordinal_suffix(s: &[u8]) -> bool
     ensures { λ r. ⌜ r ≡ isOrdinalSuffix (now (s .entry)) ⌝ }
 {
-    same(Fold::Lower, s, b"th")
-        | same(Fold::Lower, s, b"st")
-        | same(Fold::Lower, s, b"nd")
-        | same(Fold::Lower, s, b"rd")
+    same(LOWERED, s, b"th")
+        | same(LOWERED, s, b"st")
+        | same(LOWERED, s, b"nd")
+        | same(LOWERED, s, b"rd")
 }
 
 pub fn is_ordinal(s: &[u8]) -> bool
@@ -173,14 +196,14 @@ pub fn is_ordinal(s: &[u8]) -> bool
     (3 <= s.len())
         & ((b < 0x80) | (0xC0 <= b))
         & is_ordinal_suffix(suffix)
-        & is_digit(byte_at(num, 0))
-        & all_of(Class::DigitOrComma, num)
+        & in_class(DIGIT, 0, byte_at(num, 0))
+        & all_of(DIGIT_OR_COMMA, 0, num)
 }
 
 fn is_amount(s: &[u8]) -> bool
     ensures { λ r. ⌜ r ≡ isAmount (now (s .entry)) ⌝ }
 {
-    let whole = span_of(Class::DigitOrComma, s);
+    let whole = span_of(DIGIT_OR_COMMA, 0, s);
     let rest = tail(s, whole);
     if starts_with(rest, 46) {
         return (whole != 0) & is_digits(tail(rest, 1));
@@ -197,33 +220,33 @@ pub fn is_us_money(s: &[u8]) -> bool
 pub fn is_illion(s: &[u8]) -> bool
     ensures { λ r. ⌜ r ≡ isIllion (now (s .entry)) ⌝ }
 {
-    ends_same(Fold::Exact, s, b"illion")
+    ends_same(EXACT, s, b"illion")
 }
 
 fn is_small_roman(s: &[u8]) -> bool
     ensures { λ r. ⌜ r ≡ isSmallRoman (now (s .entry)) ⌝ }
 {
-    same(Fold::Exact, s, b"I")
-        | same(Fold::Exact, s, b"II")
-        | same(Fold::Exact, s, b"III")
-        | same(Fold::Exact, s, b"IV")
-        | same(Fold::Exact, s, b"V")
-        | same(Fold::Exact, s, b"VI")
-        | same(Fold::Exact, s, b"VII")
-        | same(Fold::Exact, s, b"VIII")
-        | same(Fold::Exact, s, b"IX")
+    same(EXACT, s, b"I")
+        | same(EXACT, s, b"II")
+        | same(EXACT, s, b"III")
+        | same(EXACT, s, b"IV")
+        | same(EXACT, s, b"V")
+        | same(EXACT, s, b"VI")
+        | same(EXACT, s, b"VII")
+        | same(EXACT, s, b"VIII")
+        | same(EXACT, s, b"IX")
 }
 
 pub fn is_roman(s: &[u8]) -> bool
     ensures { λ r. ⌜ r ≡ isRoman (now (s .entry)) ⌝ }
 {
-    is_small_roman(s) | (starts_with(s, 88) & all_of(Class::RomanTail, tail(s, 1)))
+    is_small_roman(s) | (starts_with(s, 88) & all_of(ROMAN_TAIL, 0, tail(s, 1)))
 }
 
 pub fn is_dr_or_st(s: &[u8]) -> bool
     ensures { λ r. ⌜ r ≡ isDrOrSt (now (s .entry)) ⌝ }
 {
-    same(Fold::Lower, s, b"dr") | same(Fold::Lower, s, b"st")
+    same(LOWERED, s, b"dr") | same(LOWERED, s, b"st")
 }
 
 pub fn is_number_s(s: &[u8]) -> bool
@@ -251,21 +274,22 @@ fn is_hour_minute(h: &[u8], m: &[u8]) -> bool
 }
 
 // Whether the two parts at a first separator pass.
-fn pair_passes(test: PairTest, a: &[u8], b: &[u8]) -> bool
+fn pair_passes(test: u8, a: &[u8], b: &[u8]) -> bool
     ensures { λ r. ⌜ r ≡ bothPass test (now (a .entry)) (now (b .entry)) ⌝ }
 {
     match test {
-        PairTest::Phone => is_n_digits(a, 3) & is_n_digits(b, 4),
-        PairTest::HourMinute => is_hour_minute(a, b),
-        PairTest::TwoNumbers => is_digits(a) & is_digits(b),
+        0 => is_n_digits(a, 3) & is_n_digits(b, 4),
+        1 => is_hour_minute(a, b),
+        2 => is_digits(a) & is_digits(b),
+        _ => false,
     }
 }
 
 // Whether c stands in the text and the parts before and after the first c pass.
-fn split_once(test: PairTest, c: u8, s: &[u8]) -> bool
+fn split_once(test: u8, c: u8, s: &[u8]) -> bool
     ensures { λ r. ⌜ r ≡ splitOnce c (bothPass test) (now (s .entry)) ⌝ }
 {
-    let at = span_of(Class::Not(c), s);
+    let at = span_of(NOT, c, s);
     if s.len() <= at {
         return false;
     }
@@ -275,19 +299,19 @@ fn split_once(test: PairTest, c: u8, s: &[u8]) -> bool
 pub fn is_seven_digit_phone(s: &[u8]) -> bool
     ensures { λ r. ⌜ r ≡ isSevenDigitPhone (now (s .entry)) ⌝ }
 {
-    split_once(PairTest::Phone, 45, s)
+    split_once(PHONE, 45, s)
 }
 
 pub fn is_time(s: &[u8]) -> bool
     ensures { λ r. ⌜ r ≡ isTime (now (s .entry)) ⌝ }
 {
-    split_once(PairTest::HourMinute, 58, s)
+    split_once(HOUR_MINUTE, 58, s)
 }
 
 fn ends_in_meridiem(s: &[u8]) -> bool
     ensures { λ r. ⌜ r ≡ endsInMeridiem (now (s .entry)) ⌝ }
 {
-    ends_same(Fold::Lower, s, b"am") | ends_same(Fold::Lower, s, b"pm")
+    ends_same(LOWERED, s, b"am") | ends_same(LOWERED, s, b"pm")
 }
 
 pub fn split_time_meridiem(s: &[u8]) -> TimeSplit
@@ -297,7 +321,7 @@ pub fn split_time_meridiem(s: &[u8]) -> TimeSplit
         return TimeSplit::Nothing;
     }
     let time = without_back(s, 2);
-    let sep = span_of(Class::ColonNorPoint, time);
+    let sep = span_of(COLON_NOR_POINT, 0, time);
     if time.len() <= sep {
         return TimeSplit::Nothing;
     }
@@ -315,13 +339,13 @@ pub fn is_dotted_abbrev(s: &[u8]) -> bool
     ensures { λ r. ⌜ r ≡ isDottedAbbrev (now (s .entry)) ⌝ }
 {
     let core = strip_suffix(s, 46);
-    (span_of(Class::Not(46), core) < core.len()) & all_parts(PartTest::OneLetter, 46, core)
+    (span_of(NOT, 46, core) < core.len()) & all_parts(ONE_LETTER, 46, core)
 }
 
 pub fn is_digits_slash_digits(s: &[u8]) -> bool
     ensures { λ r. ⌜ r ≡ isDigitsSlashDigits (now (s .entry)) ⌝ }
 {
-    split_once(PairTest::TwoNumbers, 47, s)
+    split_once(TWO_NUMBERS, 47, s)
 }
 
 // What a part of n bytes adds to the count of parts that are not empty.
@@ -339,7 +363,7 @@ fn filled_parts(c: u8, s: &[u8]) -> usize
     let mut i = 0;
     loop {
         let rest = tail(s, i);
-        let n = span_of(Class::Not(c), rest);
+        let n = span_of(NOT, c, rest);
         count += one_if_any(n);
         if rest.len() <= n {
             return count;
@@ -351,19 +375,17 @@ fn filled_parts(c: u8, s: &[u8]) -> usize
 pub fn is_digits_dash_digits(s: &[u8]) -> bool
     ensures { λ r. ⌜ r ≡ isDigitsDashDigits (now (s .entry)) ⌝ }
 {
-    (2 <= filled_parts(45, s))
-        & (span_of(Class::Not(45), s) < s.len())
-        & all_of(Class::DigitOrDash, s)
+    (2 <= filled_parts(45, s)) & (span_of(NOT, 45, s) < s.len()) & all_of(DIGIT_OR_DASH, 0, s)
 }
 
 fn has_unit(s: &[u8]) -> bool
     ensures { λ r. ⌜ r ≡ hasUnit (now (s .entry)) ⌝ }
 {
-    let at = after_last(Class::Digit, s);
+    let at = after_last(DIGIT, 0, s);
     if at == 0 {
         return false;
     }
-    if !all_of(Class::DigitOrComma, front(s, at)) {
+    if !all_of(DIGIT_OR_COMMA, 0, front(s, at)) {
         return false;
     }
     let table = units::unit_abbreviations();
@@ -375,7 +397,7 @@ pub fn split_unit(s: &[u8]) -> &[u8]
     ensures { λ r. ⌜ now r ≡ unitPart (now (s .entry)) ⌝ }
 {
     if has_unit(s) {
-        return tail(s, after_last(Class::Digit, s));
+        return tail(s, after_last(DIGIT, 0, s));
     }
     &s[..0]
 }

@@ -1,5 +1,5 @@
 // The table UNIT_ABBREVIATIONS of patterns.rs and its look-up.
-use lists::Fold;
+use lists::EXACT;
 use lists::byte_at;
 use lists::packed_row;
 use lists::same;
@@ -28,7 +28,7 @@ pub fn unit_index(table: &[u8], u: &[u8]) -> u8
 {
     let mut k: u8 = 0;
     while k < UNITS {
-        if same(Fold::Exact, packed_row(table, ROW, k), u) {
+        if same(EXACT, packed_row(table, ROW, k), u) {
             return k;
         }
         k += 1;

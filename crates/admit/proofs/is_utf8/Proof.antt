@@ -14,6 +14,4 @@ is-utf8-spec =
     (λ c κs. search needs)
     (λ c. search needs)
     (λ c κs. search needs)
-    (λ c. sym (utf8-all _ (sym (c .before .is-ascii .ensures) ∙ c .if3 .taken)))
-    (λ c κs. search needs)
     (λ c. search needs))

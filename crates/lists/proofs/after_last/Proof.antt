@@ -11,10 +11,10 @@ use Rattle.lists.proofs.after_last.Statement.{statement}
 use Rattle.lists.proofs.after_last.Tie as tie
 
 abbrev Inv-loop : tie.InvT-loop
-Inv-loop k s i₀ i = (i ≤ length s) × (afterLast (inClass k) s ≡ afterLast (inClass k) (take i s))
+Inv-loop k c s i₀ i = (i ≤ length s) × (afterLast (inClass k c) s ≡ afterLast (inClass k c) (take i s))
 
 abbrev μ-loop : tie.MeasureT-loop
-μ-loop k s i₀ i = i
+μ-loop k c s i₀ i = i
 
 returns-2 : tie.Need-returns-2 Inv-loop μ-loop
 unfolding afterLast

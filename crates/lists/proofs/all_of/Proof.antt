@@ -10,10 +10,10 @@ use Rattle.lists.proofs.all_of.Statement.{statement}
 use Rattle.lists.proofs.all_of.Tie as tie
 
 abbrev Inv-loop : tie.InvT-loop
-Inv-loop k s i₀ i = Kept (inClass k) s i
+Inv-loop k c s i₀ i = Kept (inClass k c) s i
 
 abbrev μ-loop : tie.MeasureT-loop
-μ-loop k s i₀ i = length s - i
+μ-loop k c s i₀ i = length s - i
 
 pub all-of-spec : {M : Type 1} → statement M
 all-of-spec =

@@ -1,5 +1,9 @@
+use mathlib.Core.Bool.{false}
+use mathlib.Core.List.{List}
 use Prim.Native.Nat.{_-_}
-use borrow.Author.Needs.{needs}
+use Rattle.lists.specs.Classes.{classes}
+use Rattle.lists.proofs.Table.{none-of}
+use lib.ListN.{List·getD-eq-default}
 use Rattle.lists.proofs.in_class.Statement.{statement}
 use Rattle.lists.proofs.in_class.Tie as tie
 
@@ -7,23 +11,12 @@ pub in-class-spec : {M : Type 1} → statement M
 in-class-spec =
     tie.close
     (tie.spec
-    (λ c. search needs)
-    (λ c. search needs)
-    (λ c κs. search needs)
-    (λ c. search needs)
-    (λ c κs. search needs)
-    (λ c. search needs)
-    (λ c. search needs)
-    (λ c. search needs)
-    (λ c. search needs)
-    (λ c. search needs)
-    (λ c. search needs)
-    (λ c. rw (c .enum-told .given .1))
-    (λ c. rw (c .before .enum-told2 .given .1) (c .is-digit .ensures))
-    (λ c. rw (c .before .enum-told3 .given .1) (c .is-letter .ensures))
-    (λ c. rw (c .enum-told4 .given .1))
-    (λ c. rw (c .enum-told5 .given .1))
-    (λ c. rw (c .enum-told6 .given .1))
-    (λ c. rw (c .enum-told7 .given .1))
-    (λ c. rw (c .before .k .given .1))
-    (λ c. rw (c .before .k2 .given .1)))
+    (λ c. rw (c .match .keys1))
+    (λ c. rw (c .match .keys2))
+    (λ c. rw (c .match .keys3))
+    (λ c. rw (c .match .keys4))
+    (λ c. rw (c .match .keys5))
+    (λ c. rw (c .match .keys6))
+    (λ c. rw (c .match .keys7))
+    (λ c. rw (c .match .keys8))
+    (λ c. rw (List·getD-eq-default (classes (c .before .args .c)) (λ b. false) {n = c .before .args .k} (none-of (c .before .args .k) 8 (c .match .rest)))))

@@ -12,10 +12,10 @@ use Rattle.lists.proofs.same.Statement.{statement}
 use Rattle.lists.proofs.same.Tie as tie
 
 abbrev Inv-loop : tie.InvT-loop
-Inv-loop f s t i₀ i = (i ≤ length s) × (sameBy (folded f) s t ≡ sameBy (folded f) (drop i s) (drop i t))
+Inv-loop lowered s t i₀ i = (i ≤ length s) × (sameBy (folded lowered) s t ≡ sameBy (folded lowered) (drop i s) (drop i t))
 
 abbrev μ-loop : tie.MeasureT-loop
-μ-loop f s t i₀ i = length s - i
+μ-loop lowered s t i₀ i = length s - i
 
 pub same-spec : {M : Type 1} → statement M
 same-spec =

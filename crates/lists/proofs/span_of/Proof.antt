@@ -12,10 +12,10 @@ use Rattle.lists.proofs.span_of.Statement.{statement}
 use Rattle.lists.proofs.span_of.Tie as tie
 
 abbrev Inv-loop : tie.InvT-loop
-Inv-loop k s i₀ i = span (inClass k) s ≡ i + span (inClass k) (drop i s)
+Inv-loop k c s i₀ i = span (inClass k c) s ≡ i + span (inClass k c) (drop i s)
 
 abbrev μ-loop : tie.MeasureT-loop
-μ-loop k s i₀ i = length s - i
+μ-loop k c s i₀ i = length s - i
 
 pub span-of-spec : {M : Type 1} → statement M
 span-of-spec =

@@ -6,7 +6,7 @@ use Rattle.shapes.proofs.is_ordinal.Tie as tie
 
 returns : tie.Need-returns
 unfolding isOrdinal
-returns c = rw (c .before .before .before .is-ordinal-suffix .ensures, c .before .is-digit .ensures, c .all-of .ensures, c .before .before .before .before .byte-at .ensures, c .before .before .byte-at2 .ensures, c .before .before .before .before .before .before .without-back .ensures, c .before .before .before .before .before .back .ensures)
+returns c = rw (c .before .before .before .is-ordinal-suffix .ensures, c .before .in-class .ensures, c .all-of .ensures, c .before .before .before .before .byte-at .ensures, c .before .before .byte-at2 .ensures, c .before .before .before .before .before .before .without-back .ensures, c .before .before .before .before .before .back .ensures)
 
 pub is-ordinal-spec : {M : Type 1} → statement M
 is-ordinal-spec =

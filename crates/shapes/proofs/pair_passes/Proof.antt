@@ -1,4 +1,9 @@
+use mathlib.Core.Bool.{false}
+use mathlib.Core.List.{List, [], _∷_}
 use Prim.Native.Nat.{_-_}
+use Rattle.lists.proofs.Table.{none-of}
+use lib.ListN.{List·getD-eq-default}
+use Rattle.shapes.specs.Shapes.{isPhoneParts, isHourMinute, areDigits}
 use borrow.Author.Needs.{needs}
 use Rattle.shapes.proofs.pair_passes.Statement.{statement}
 use Rattle.shapes.proofs.pair_passes.Tie as tie
@@ -7,14 +12,12 @@ pub pair-passes-spec : {M : Type 1} → statement M
 pair-passes-spec =
     tie.close
     (tie.spec
-    (λ c. search needs)
     (λ c κs. search needs)
     (λ c κs. search needs)
-    (λ c. search needs)
-    (λ c κs. search needs)
-    (λ c. search needs)
     (λ c κs. search needs)
     (λ c κs. search needs)
-    (λ c. rw (c .before .before .enum-told .given .1, c .before .is-n-digits .ensures, c .is-n-digits2 .ensures))
-    (λ c. rw (c .before .enum-told2 .given .1) (c .is-hour-minute .ensures))
-    (λ c. rw (c .before .before .enum-told3 .given .1, c .before .is-digits .ensures, c .is-digits2 .ensures)))
+    (λ c κs. search needs)
+    (λ c. rw (c .before .before .match .keys1, c .before .is-n-digits .ensures, c .is-n-digits2 .ensures))
+    (λ c. rw (c .before .match .keys2) (c .is-hour-minute .ensures))
+    (λ c. rw (c .before .before .match .keys3, c .before .is-digits .ensures, c .is-digits2 .ensures))
+    (λ c. rw (List·getD-eq-default (isPhoneParts ∷ isHourMinute ∷ areDigits ∷ []) (λ a b. false) {n = c .before .before .before .args .test} (none-of (c .before .before .before .args .test) 3 (c .match .rest)))))

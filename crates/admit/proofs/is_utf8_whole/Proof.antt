@@ -1,0 +1,10 @@
+use mathlib.Core.Path.{sym, _∙_}
+use Prim.Native.Nat.{_-_}
+use Rattle.admit.proofs.Utf8.{utf8-all}
+use borrow.Author.Needs.{needs}
+use Rattle.admit.proofs.is_utf8_whole.Statement.{statement}
+use Rattle.admit.proofs.is_utf8_whole.Tie as tie
+
+pub is-utf8-whole-spec : {M : Type 1} → statement M
+is-utf8-whole-spec =
+    tie.close (tie.spec (λ c κs. search needs) (λ c. sym (utf8-all _ (sym (c .before .is-ascii .ensures) ∙ c .if1 .taken))) (λ c κs. search needs) (λ c. search needs))
