@@ -35,7 +35,7 @@ static const char *const some_names[] = {
 };
 
 /* The header's refusals in words. */
-static void print_refusal(uint32_t refusal)
+static void print_refusal(uint8_t refusal)
 {
     const char *words = "for a reason that this program does not know";
 
@@ -87,7 +87,7 @@ static void print_name(const char *name)
 {
     const uint8_t *text = (const uint8_t *)name;
     size_t len = strlen(name);
-    uint32_t refusal = hwk_is_digits(text, len).refusal; /* the other calls would refuse this text alike */
+    uint8_t refusal = hwk_is_digits(text, len).refusal; /* the other calls would refuse this text alike */
     size_t i;
 
     if (refusal != HWK_ACCEPTED) {

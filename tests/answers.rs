@@ -3,22 +3,22 @@
 use reference::patterns;
 
 pub const TEXT_LIMIT: usize = 65_536;
-pub const TEXT_TOO_LONG: u32 = 1;
-pub const NOT_UTF8: u32 = 2;
-pub const BUFFER_TOO_SHORT: u32 = 5;
+pub const TEXT_TOO_LONG: u8 = 1;
+pub const NOT_UTF8: u8 = 2;
+pub const BUFFER_TOO_SHORT: u8 = 5;
 
 #[repr(C)]
 #[derive(Clone, Copy, Debug, Default, PartialEq, Eq)]
 pub struct Verdict {
-    pub refusal: u32,
-    pub yes: u32,
+    pub refusal: u8,
+    pub yes: u8,
 }
 
 #[repr(C)]
 #[derive(Clone, Copy, Debug, Default, PartialEq, Eq)]
 pub struct Time {
-    pub refusal: u32,
-    pub yes: u32,
+    pub refusal: u8,
+    pub yes: u8,
     pub hour_at: usize,
     pub hour_len: usize,
     pub minute_at: usize,
@@ -30,8 +30,8 @@ pub struct Time {
 #[repr(C)]
 #[derive(Clone, Copy, Debug, Default, PartialEq, Eq)]
 pub struct Part {
-    pub refusal: u32,
-    pub yes: u32,
+    pub refusal: u8,
+    pub yes: u8,
     pub offset: usize,
     pub len: usize,
 }
@@ -39,8 +39,8 @@ pub struct Part {
 #[repr(C)]
 #[derive(Clone, Copy, Debug, Default, PartialEq, Eq)]
 pub struct Word {
-    pub refusal: u32,
-    pub yes: u32,
+    pub refusal: u8,
+    pub yes: u8,
     pub len: usize,
 }
 
@@ -65,7 +65,7 @@ pub const SHAPES: [(&str, fn(&str) -> bool); 16] = [
 ];
 
 /// The text as the Rust takes it, or the number of the refusal.
-pub type Admitted<'a> = Result<&'a str, u32>;
+pub type Admitted<'a> = Result<&'a str, u8>;
 
 pub fn admit(text: &[u8]) -> Admitted<'_> {
     if text.len() > TEXT_LIMIT {
@@ -77,7 +77,7 @@ pub fn admit(text: &[u8]) -> Admitted<'_> {
 pub fn verdict(admitted: Admitted, shape: impl Fn(&str) -> bool) -> Verdict {
     match admitted {
         Err(refusal) => Verdict { refusal, yes: 0 },
-        Ok(text) => Verdict { refusal: 0, yes: u32::from(shape(text)) },
+        Ok(text) => Verdict { refusal: 0, yes: u8::from(shape(text)) },
     }
 }
 

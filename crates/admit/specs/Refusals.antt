@@ -18,11 +18,6 @@ number NoSuchEntry = 3
 number NameTooLong = 4
 number BufferTooShort = 5
 
--- the call is not held back
-abbrev pub accepted : Answer → Bool
-accepted Accepted = true
-accepted (Refused r) = false
-
 -- the number that a call answers, 0 where it is accepted
 abbrev pub answerNumber : Answer → ℕ
 answerNumber Accepted = 0

@@ -12,7 +12,7 @@ ghost use lib.ListN.{length, take};
 ghost use Rattle.lists.specs.Bytes.{all};
 ghost use Rattle.lists.specs.Classes.{ascii};
 ghost use Rattle.admit.specs.Utf8.{utf8Tail, lead2, lead3, lead4, charBytes, charLen, utf8, Passed};
-ghost use Rattle.admit.specs.Refusals.{accepted, answerNumber, textRefusal};
+ghost use Rattle.admit.specs.Refusals.{answerNumber, textLimit, textRefusal};
 
 // The most bytes of a text.
 pub const TEXT_LIMIT: usize = 65536;
@@ -41,15 +41,6 @@ pub enum Answer {
 }
 
 impl Answer {
-    pub fn is_accepted(self) -> bool
-        ensures { λ r. ⌜ r ≡ accepted self ⌝ }
-    {
-        match self {
-            Answer::Accepted => true,
-            Answer::Refused(_) => false,
-        }
-    }
-
     // The number of the refusal, 0 where the call is accepted.
     pub fn number(self) -> u8
         ensures { λ r. ⌜ r ≡ answerNumber self ⌝ }
@@ -216,4 +207,11 @@ pub fn admit(limit: usize, s: &[u8]) -> Answer
         return Answer::Accepted;
     }
     Answer::Refused(Refusal::NotUtf8)
+}
+
+// The number of the refusal that is due for a text of the library, 0 where there is none.
+pub fn refusal_of(s: &[u8]) -> u8
+    ensures { λ r. ⌜ r ≡ textRefusal textLimit (now (s .entry)) ⌝ }
+{
+    admit(TEXT_LIMIT, s).number()
 }

@@ -8,12 +8,9 @@ use lib.Dec.{ltb}
 use lib.ListN.{length, drop, length-drop}
 use borrow.Author.Tests.{le-ltb}
 use Rattle.admit.specs.Utf8.{utf8}
-use Rattle.admit.specs.Refusals.{number, answerNumber, refusal, textLimit, textDue, textRefusal, call}
-use Rattle.admit.specs.declared.Refusal.{Refusal}
-use Rattle.admit.specs.declared.Refusal.the-variants.{TextTooLong, NotUtf8, NoSuchEntry, NameTooLong, BufferTooShort}
-use Rattle.admit.specs.declared.Answer.{Answer}
-use Rattle.admit.specs.declared.Answer.the-variants.{Accepted, Refused}
-use Rattle.admit.proofs.Calls.{call-refused, call-accepted}
+use Rattle.admit.specs.Refusals.{number, refusal, textLimit, textDue, textRefusal, call}
+use Rattle.admit.specs.declared.Refusal.the-variants.{BufferTooShort}
+use Rattle.admit.proofs.Calls.{call-refused}
 use Rattle.units.specs.Units.{isUnit, unitIndex, unitWord}
 use Rattle.units.proofs.Laws.{miss-none, miss-word, hit-some}
 use Rattle.shapes.specs.Shapes.{unitAt, hasUnit, unitPart}
@@ -51,25 +48,18 @@ unit-le s = go (hasUnit s)
     go true = simp length-drop (omega arith)
     go false = omega arith
 
-some : (r : Refusal) → number r ≡ 0 → ⊥
-some TextTooLong h = omega arith
-some NotUtf8 h = omega arith
-some NoSuchEntry h = omega arith
-some NameTooLong h = omega arith
-some BufferTooShort h = omega arith
-
 -- the tests of a text and one buffer, as numbers
 abbrev tests : Bool → Bool → Bool → ℕ
 tests long good short = cond long 1 (cond (not good) 2 (cond short 5 0))
 
 -- a text that is refused is refused whatever the buffer's length
-due-refused : (limit : ℕ) (s : List ℕ) (short : Bool) (r : Refusal) → number r ≡ textRefusal limit s → number r ≡ refusal (textDue limit s short)
-due-refused limit s short r h = go (ltb limit (length s)) (utf8 s) h
+due-refused : (limit : ℕ) (s : List ℕ) (short : Bool) (n : ℕ) → (n ≡ 0 → ⊥) → n ≡ textRefusal limit s → n ≡ refusal (textDue limit s short)
+due-refused limit s short n z h = go (ltb limit (length s)) (utf8 s) h
   where
-    go : (long good : Bool) → number r ≡ tests long good false → number r ≡ tests long good short
+    go : (long good : Bool) → n ≡ tests long good false → n ≡ tests long good short
     go true good h = h
     go false false h = h
-    go false true h = absurd (some r h)
+    go false true h = absurd (z h)
 
 -- in an accepted text the buffer's length decides
 due-accepted : (limit : ℕ) (s : List ℕ) (short : Bool) → textRefusal limit s ≡ 0 → refusal (textDue limit s short) ≡ cond short (number BufferTooShort) 0
@@ -80,21 +70,19 @@ due-accepted limit s short h = go (ltb limit (length s)) (utf8 s) h
     go false false h = absurd (omega arith)
     go false true h = refl
 
-module _ (s store : List ℕ) (a : Answer) (admitted : answerNumber a ≡ textRefusal textLimit s) where
+module _ (s store : List ℕ) (n : ℕ) (due : n ≡ textRefusal textLimit s) where
   abbrev short : Bool
   short = ltb (length store) (length (unitWord s))
 
-  pub word-refused : (r : Refusal) → a ≡ Refused r → record { refusal = answerNumber a; value = record { found = false; size = 0; store = store } } ≡ wordCall s store
-  word-refused r q =
-      let e : answerNumber a ≡ refusal (textDue textLimit s short) = rw q (due-refused textLimit s short r (rw q at admitted)) in
-      call-refused _ _ a r (refusal (textDue textLimit s short)) q e
+  pub word-refused : (n ≡ 0 → ⊥) → record { refusal = n; value = record { found = false; size = 0; store = store } } ≡ wordCall s store
+  word-refused z = call-refused _ _ n (refusal (textDue textLimit s short)) z (due-refused textLimit s short n z due)
 
   -- an accepted text that is a unit
-  pub word-found : a ≡ Accepted → unitIndex s < 22 → storeCall (unitWord s) store ≡ wordCall s store
-  word-found q h = rw (hit-some s h, due-accepted textLimit s short (sym (rw q at admitted)))
+  pub word-found : n ≡ 0 → unitIndex s < 22 → storeCall (unitWord s) store ≡ wordCall s store
+  word-found z h = rw (hit-some s h, due-accepted textLimit s short (sym due ∙ z))
 
   -- an accepted text that is none
-  pub word-none : a ≡ Accepted → 22 ≤ unitIndex s → record { refusal = 0; value = record { found = false; size = 0; store = store } } ≡ wordCall s store
-  word-none q h =
-      let z : ltb (length store) 0 ≡ false = le-ltb (length store) 0 (omega arith) in
-      rw (miss-none s h, miss-word s h, due-accepted textLimit s (ltb (length store) 0) (sym (rw q at admitted)), z)
+  pub word-none : n ≡ 0 → 22 ≤ unitIndex s → record { refusal = n; value = record { found = false; size = 0; store = store } } ≡ wordCall s store
+  word-none z h =
+      let l : ltb (length store) 0 ≡ false = le-ltb (length store) 0 (omega arith) in
+      rw (miss-none s h, miss-word s h, due-accepted textLimit s (ltb (length store) 0) (sym due ∙ z), l, z)

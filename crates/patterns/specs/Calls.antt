@@ -4,7 +4,7 @@ use mathlib.Core.List.{List}
 use Prim.Native.Nat.{ℕ}
 use lib.Dec.{ltb}
 use lib.ListN.{length}
-use Rattle.admit.specs.Refusals.{number, answerNumber, refusal, textLimit, textDue, textRefusal, Call, call}
+use Rattle.admit.specs.Refusals.{number, refusal, textLimit, textDue, textRefusal, Call, call}
 use Rattle.admit.specs.declared.Refusal.the-variants.{BufferTooShort}
 use Rattle.lists.specs.Bytes.{over}
 use Rattle.units.specs.Units.{isUnit, unitWord}
@@ -17,16 +17,16 @@ use Rattle.patterns.specs.declared.SplitTime.{SplitTime}
 use Rattle.patterns.specs.declared.SplitUnit.{SplitUnit}
 use Rattle.patterns.specs.declared.UnitWord.{UnitWord}
 
--- a verdict as a call's answer: document 01's number for the enum, and the verdict
+-- a verdict as a call's answer
 abbrev pub asVerdict : Verdict → Call Bool
-asVerdict r = record { refusal = answerNumber (r .answer); value = r .yes }
+asVerdict r = record { refusal = r .refusal; value = r .yes }
 
 -- "every verdict no": a call that gives the verdict v of the text s
 abbrev pub verdictCall : List ℕ → Bool → Call Bool
 verdictCall s v = call false (textRefusal textLimit s) v
 
 abbrev pub asTime : SplitTime → Call TimeSplit
-asTime r = record { refusal = answerNumber (r .answer); value = r .split }
+asTime r = record { refusal = r .refusal; value = r .split }
 
 -- split_time_meridiem: "hour, minute and meridiem, or none", and "no part" where it is refused
 abbrev pub timeCall : List ℕ → Call TimeSplit
@@ -42,7 +42,7 @@ abbrev pub noPart : FoundPart
 noPart = record { found = false; offset = 0; size = 0 }
 
 abbrev pub asUnit : SplitUnit → Call FoundPart
-asUnit r = record { refusal = answerNumber (r .answer); value = record { found = r .yes; offset = r .offset; size = r .len } }
+asUnit r = record { refusal = r .refusal; value = record { found = r .yes; offset = r .offset; size = r .len } }
 
 -- split_unit: the unit's place in the name
 unfoldable pub unitFound : List ℕ → FoundPart
@@ -58,7 +58,7 @@ pub record Stored : Type 0 where
   pub store : List ℕ
 
 abbrev pub asWord : UnitWord → List ℕ → Call Stored
-asWord r store = record { refusal = answerNumber (r .answer); value = record { found = r .yes; size = r .len; store = store } }
+asWord r store = record { refusal = r .refusal; value = record { found = r .yes; size = r .len; store = store } }
 
 -- an accepted text's word goes to the store, or it is too short
 abbrev pub storeCall : List ℕ → List ℕ → Call Stored

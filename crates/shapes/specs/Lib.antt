@@ -1,3 +1,3 @@
 pub mod Shapes
 pub mod Times
-pub mod Kinds
+pub mod Tests

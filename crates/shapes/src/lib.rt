@@ -30,42 +30,7 @@ ghost use lib.ListN.{length};
 ghost use Rattle.lists.specs.Bytes.{split, allParts, filled};
 ghost use Rattle.shapes.specs.Shapes.{isDigits, isAlpha, stripSign, isExponent, isUnsigned, isDouble, isCommaInt, isOrdinalSuffix, isOrdinal, isAmount, isUsMoney, isIllion, isSmallRoman, isRoman, isDrOrSt, isNumberS, isLeadingZeroDigits, isSevenDigitPhone, isNDigits, splitOnce, isHourMinute, isTime, isDottedAbbrev, isDigitsSlashDigits, isDigitsDashDigits, hasUnit, unitPart};
 ghost use Rattle.shapes.specs.Times.{endsInMeridiem, timeSplit};
-ghost use Rattle.shapes.specs.Kinds.{hasShape, passes, bothPass};
-
-// The verdicts by number, in the order of patterns.rs.
-pub const DIGITS: u8 = 0;
-
-pub const ALPHA: u8 = 1;
-
-pub const DOUBLE: u8 = 2;
-
-pub const COMMA_INT: u8 = 3;
-
-pub const ORDINAL: u8 = 4;
-
-pub const US_MONEY: u8 = 5;
-
-pub const ILLION: u8 = 6;
-
-pub const ROMAN: u8 = 7;
-
-pub const DR_OR_ST: u8 = 8;
-
-pub const NUMBER_S: u8 = 9;
-
-pub const LEADING_ZERO_DIGITS: u8 = 10;
-
-pub const SEVEN_DIGIT_PHONE: u8 = 11;
-
-pub const N_DIGITS: u8 = 12;
-
-pub const TIME: u8 = 13;
-
-pub const DOTTED_ABBREV: u8 = 14;
-
-pub const DIGITS_SLASH_DIGITS: u8 = 15;
-
-pub const DIGITS_DASH_DIGITS: u8 = 16;
+ghost use Rattle.shapes.specs.Tests.{passes, bothPass};
 
 // The tests of a part between separators, by number.
 const THREE_DIGITS: u8 = 0;
@@ -400,30 +365,4 @@ pub fn split_unit(s: &[u8]) -> &[u8]
         return tail(s, after_last(DIGIT, 0, s));
     }
     &s[..0]
-}
-
-// A verdict by its number. A number and no enum: a call with a constant is then compiled to that shape alone.
-pub fn has_shape(k: u8, n: usize, s: &[u8]) -> bool
-    ensures { λ r. ⌜ r ≡ hasShape k n (now (s .entry)) ⌝ }
-{
-    match k {
-        0 => is_digits(s),
-        1 => is_alpha(s),
-        2 => is_double(s),
-        3 => is_comma_int(s),
-        4 => is_ordinal(s),
-        5 => is_us_money(s),
-        6 => is_illion(s),
-        7 => is_roman(s),
-        8 => is_dr_or_st(s),
-        9 => is_number_s(s),
-        10 => is_leading_zero_digits(s),
-        11 => is_seven_digit_phone(s),
-        12 => is_n_digits(s, n),
-        13 => is_time(s),
-        14 => is_dotted_abbrev(s),
-        15 => is_digits_slash_digits(s),
-        16 => is_digits_dash_digits(s),
-        _ => false,
-    }
 }

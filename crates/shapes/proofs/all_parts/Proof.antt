@@ -5,7 +5,7 @@ use Prim.Native.Nat.{_-_}
 use lib.ListN.{length, drop, length-drop}
 use lib.Seq.{drop-drop}
 use borrow.Author.Tests.{not-true, not-false}
-use Rattle.shapes.specs.Kinds.{passes}
+use Rattle.shapes.specs.Tests.{passes}
 use Rattle.lists.specs.Bytes.{split, allParts}
 use Rattle.lists.proofs.Parts.{parts-fail, parts-end, parts-more}
 use Rattle.shapes.proofs.all_parts.Statement.{statement}
