@@ -6,7 +6,7 @@ use crate::fields::number;
 use crate::fields::pairs;
 use crate::fields::plus;
 use crate::fields::unhex;
-use lists::Fold;
+use lists::EXACT;
 use lists::byte_at;
 use lists::same;
 use patterns::UnitWord;
@@ -143,8 +143,7 @@ fn digits_asked(k: usize, s: &[u8]) -> usize {
 
 fn compare_verdict(r: Report, k: usize, refusal: usize, bit: u8, s: &[u8]) -> Report {
     let v = verdict_of(k, s);
-    let a = v.answer;
-    let r1 = r.count(k, a.number() as usize == refusal);
+    let r1 = r.count(k, v.refusal as usize == refusal);
     if v.yes {
         return r1.count(k, bit == b'1');
     }
@@ -163,8 +162,7 @@ fn compare_verdicts(r: Report, refusal: usize, bits: &[u8], s: &[u8]) -> Report 
 
 fn compare_time(r: Report, w: Recorded, s: &[u8]) -> Report {
     let t = patterns::split_time_meridiem(s);
-    let a = t.answer;
-    let r1 = r.count(TIME, a.number() as usize == w.refusal);
+    let r1 = r.count(TIME, t.refusal as usize == w.refusal);
     let split = t.split;
     match split {
         TimeSplit::At {
@@ -192,8 +190,7 @@ fn compare_offsets(
 
 fn compare_unit(r: Report, w: Recorded, s: &[u8]) -> Report {
     let u = patterns::split_unit(s);
-    let a = u.answer;
-    let r1 = r.count(UNIT, a.number() as usize == w.refusal);
+    let r1 = r.count(UNIT, u.refusal as usize == w.refusal);
     let r2 = r1.count(UNIT, flag(u.yes) == w.unit);
     let r3 = r2.count(UNIT, u.offset == w.offset);
     r3.count(UNIT, u.len == w.unit_len)
@@ -208,8 +205,7 @@ fn word_within(s: &[u8], room: usize, store: &mut [u8]) -> UnitWord {
 }
 
 fn compare_told(r: Report, t: Told, u: UnitWord) -> Report {
-    let a = u.answer;
-    let r1 = r.count(WORD, a.number() as usize == t.refusal);
+    let r1 = r.count(WORD, u.refusal as usize == t.refusal);
     let r2 = r1.count(WORD, flag(u.yes) == t.yes);
     r2.count(WORD, u.len == t.len)
 }
@@ -226,7 +222,7 @@ fn compare_store(
 ) -> Report {
     let is_hex = unhex(hex, want);
     let r1 = compare_told(r, t, word_within(s, room, store));
-    r1.count(WORD, is_hex & same(Fold::Exact, store, want))
+    r1.count(WORD, is_hex & same(EXACT, store, want))
 }
 
 fn compare_call(r: Report, t: Told, s: &[u8], room: usize, hex: &[u8]) -> Report {

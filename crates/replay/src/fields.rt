@@ -1,6 +1,7 @@
 // A line of the file: its fields, numbers and hex. Nothing here demands anything of its caller; what is no number or no
 // hex is told, and never taken for one.
-use lists::Class;
+use lists::DIGIT;
+use lists::NOT;
 use lists::all_of;
 use lists::byte_at;
 use lists::front;
@@ -28,7 +29,7 @@ pub fn field_at(line: &[u8], k: usize) -> usize {
     let mut at = 0;
     let mut left = k;
     while 0 < left {
-        let n = span_of(Class::Not(b' '), tail(line, at));
+        let n = span_of(NOT, b' ', tail(line, at));
         at = plus(plus(at, n), 1);
         left -= 1;
     }
@@ -38,7 +39,7 @@ pub fn field_at(line: &[u8], k: usize) -> usize {
 // The field k, empty where there is none.
 pub fn field(line: &[u8], k: usize) -> &[u8] {
     let rest = tail(line, field_at(line, k));
-    front(rest, span_of(Class::Not(b' '), rest))
+    front(rest, span_of(NOT, b' ', rest))
 }
 
 // Whether the line has n fields and no more.
@@ -58,7 +59,7 @@ fn shifted(n: usize, b: u8) -> usize {
 
 // The decimal number, BAD where it is none or has more than six digits.
 pub fn number(s: &[u8]) -> usize {
-    if (s.len() == 0) | (6 < s.len()) | !all_of(Class::Digit, s) {
+    if (s.len() == 0) | (6 < s.len()) | !all_of(DIGIT, 0, s) {
         return BAD;
     }
     let mut n = 0;

@@ -20,7 +20,7 @@ use fields::plus;
 use fields::repeat;
 use fields::unhex;
 use libc::STDOUT_FILENO;
-use lists::Class;
+use lists::NOT;
 use lists::front;
 use lists::span_of;
 use lists::tail;
@@ -179,7 +179,7 @@ fn replay(file: &[u8], text: &mut [u8]) -> Tally {
     let mut at = 0;
     while at < file.len() {
         let rest = tail(file, at);
-        let n = span_of(Class::Not(b'\n'), rest);
+        let n = span_of(NOT, b'\n', rest);
         t = t.add(compare_front(rest, n, text));
         at = past(file.len(), at, n);
     }

@@ -5,12 +5,12 @@ use mathlib.Core.List.{List, [], _∷_}
 use Prim.Native.Nat.{ℕ, suc, _+_, _-_, _≤_, _<_}
 use native.Mathlib.Omega.{arith}
 use lib.Dec.{leb, ltb, eqb}
-use lib.ListN.{length, take, drop}
-use borrow.Author.Tests.{ne-eqb}
+use lib.ListN.{length, take, drop, getD, length-take, length-drop}
+use borrow.Author.Tests.{ne-eqb, ltb-true, leb-true, eqb-true}
 use Rattle.lists.specs.Bytes.{all, span, split, onto, allParts, filled}
 use Rattle.lists.specs.Classes.{digit, digitOrComma, digitOrDash, except}
 use Rattle.lists.proofs.Parts.{split-some, split-more, split-last}
-use Rattle.shapes.specs.Shapes.{isDigits, isThreeDigits, isCommaGroups, isCommaInt, unitAt, hasUnit}
+use Rattle.shapes.specs.Shapes.{isDigits, isThreeDigits, isCommaGroups, isCommaInt, isNDigits, isPhoneParts, isHourMinute, isSevenDigitPhone, isTime, splitOnce, unitAt, hasUnit}
 use Rattle.units.specs.Units.{isUnit}
 use Rattle.units.proofs.Laws.{empty-none}
 
@@ -61,3 +61,41 @@ unit-some s h z =
     go : (t : List ℕ) → length t ≡ 0 → isUnit t ≡ true → ⊥
     go [] z u = true≢false (sym u ∙ empty-none)
     go (b ∷ t) z u = omega arith
+
+-- a text whose two parts pass is as long as they are
+split-length : (c : ℕ) (both : List ℕ → List ℕ → Bool) (s : List ℕ) → ((a b : List ℕ) → both a b ≡ true → length a + 1 + length b ≡ length s → ⊥) → splitOnce c both s ≡ false
+unfolding splitOnce
+split-length c both s h = go (ltb (span (except c) s) (length s)) (both a b) refl refl
+  where
+    a : List ℕ
+    a = take (span (except c) s) s
+
+    b : List ℕ
+    b = drop (span (except c) s + 1) s
+
+    go : (t u : Bool) → ltb (span (except c) s) (length s) ≡ t → both a b ≡ u → (t && u) ≡ false
+    go false u e f = refl
+    go true false e f = refl
+    go true true e f = absurd (h a b f (simp (length-take, length-drop) (omega (arith, ltb-true (span (except c) s) (length s) e))))
+
+and-left : (a b : Bool) → (a && b) ≡ true → a ≡ true
+and-left true b h = refl
+and-left false b h = cc
+
+-- seven digits and a hyphen are eight bytes
+pub phone-length : (s : List ℕ) → (length s ≡ 8 → ⊥) → isSevenDigitPhone s ≡ false
+phone-length s n = split-length 45 isPhoneParts s (λ a b p e.
+    let x : length a ≡ 3 = eqb-true (length a) 3 (and-left (eqb (length a) 3) (isDigits a) (and-left (isNDigits 3 a) (isNDigits 4 b) p)) in
+    let y : length b ≡ 4 = eqb-true (length b) 4 (and-left (eqb (length b) 4) (isDigits b) (and-right (isNDigits 3 a) (isNDigits 4 b) p)) in
+    n (omega arith))
+
+-- an hour, a colon and a minute are at most five bytes
+pub time-length : (s : List ℕ) → 5 < length s → isTime s ≡ false
+unfolding isHourMinute
+time-length s n = split-length 58 isHourMinute s (λ h m p e.
+    let few = leb 1 (length h) && leb (length h) 2 in
+    let q = and-left (few && isDigits h && isNDigits 2 m) (leb (getD m 0 0) 53) p in
+    let r = and-left few (isDigits h) (and-left (few && isDigits h) (isNDigits 2 m) q) in
+    let x : length h ≤ 2 = leb-true (length h) 2 (and-right (leb 1 (length h)) (leb (length h) 2) r) in
+    let y : length m ≡ 2 = eqb-true (length m) 2 (and-left (eqb (length m) 2) (isDigits m) (and-right (few && isDigits h) (isNDigits 2 m) q)) in
+    omega arith)

@@ -264,12 +264,20 @@ fn split_once(test: u8, c: u8, s: &[u8]) -> bool
 pub fn is_seven_digit_phone(s: &[u8]) -> bool
     ensures { λ r. ⌜ r ≡ isSevenDigitPhone (now (s .entry)) ⌝ }
 {
+    // A text of another length is not one, and is not scanned for its hyphen.
+    if s.len() != 8 {
+        return false;
+    }
     split_once(PHONE, 45, s)
 }
 
 pub fn is_time(s: &[u8]) -> bool
     ensures { λ r. ⌜ r ≡ isTime (now (s .entry)) ⌝ }
 {
+    // A longer text is not one, and is not scanned for its colon.
+    if 5 < s.len() {
+        return false;
+    }
     split_once(HOUR_MINUTE, 58, s)
 }
 
