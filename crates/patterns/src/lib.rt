@@ -388,8 +388,7 @@ pub fn unit_word(unit: &[u8], store: &mut [u8]) -> UnitWord
             len: 0,
         };
     }
-    let table = units::unit_abbreviations();
-    let k = units::unit_index(&table, unit);
+    let k = units::unit_index(unit);
     if units::UNITS <= k {
         return UnitWord {
             refusal,
@@ -398,5 +397,5 @@ pub fn unit_word(unit: &[u8], store: &mut [u8]) -> UnitWord
         };
     }
     let lex = lexicon::lexicon();
-    store_word(lexicon::word(&lex, units::word_number(&table, k)), store)
+    store_word(lexicon::word(&lex, units::word_number(k)), store)
 }

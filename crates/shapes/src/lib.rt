@@ -361,8 +361,7 @@ fn has_unit(s: &[u8]) -> bool
     if !all_of(DIGIT_OR_COMMA, 0, front(s, at)) {
         return false;
     }
-    let table = units::unit_abbreviations();
-    units::unit_index(&table, tail(s, at)) < units::UNITS
+    units::unit_index(tail(s, at)) < units::UNITS
 }
 
 // The unit, a part of the name; an empty part where there is none.

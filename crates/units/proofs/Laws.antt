@@ -1,34 +1,105 @@
--- The packed table holds the rows, by one test at each row that antt computes; and how a look-up goes on. Assumes nothing.
+-- The keys tell the abbreviations from every text, the lexicon holds the words, and how a look-up goes on. Assumes nothing.
 use mathlib.Core.Path.{_≡_, refl, sym, ap, _∙_}
-use mathlib.Core.Bool.{Bool, true, false, cond}
+use mathlib.Core.Bool.{Bool, true, false, cond, _&&_}
 use mathlib.Core.List.{List, [], _∷_}
-use Prim.Native.Nat.{ℕ, suc, _+_, _*_, _≤_, _<_}
+use Prim.Native.Nat.{ℕ, suc, _+_, _*_, _≤_, _<_, _%_}
+use native.Mathlib.Nat.{mod-eq-of-lt, add-mul-mod-self-left, eq-of-mul-eq-mul-left}
 use native.Mathlib.Numerals.{add-one}
 use native.Mathlib.Omega.{arith}
-use lib.ListN.{length, drop, getD, drop-of-length-le, List·getD-eq-default}
+use lib.Dec.{T, leb, ltb, eqb, leb→le, ltb→lt}
+use lib.ListN.{length, drop, getD, drop-of-length-le, List·getD-eq-default, List·getD-map}
 use lib.Seq.{drop-cons}
-use borrow.Author.Tests.{lt-ltb, le-ltb}
-use Rattle.lists.specs.Bytes.{same, sameBy}
+use mir.Facts.{and-yes}
+use borrow.Author.Tests.{lt-ltb, le-ltb, le-leb, lt-leb, leb-true, leb-false, eq-eqb, ne-eqb, eqb-true, eqb-false}
+use Rattle.lists.specs.Bytes.{all, same, sameBy}
 use Rattle.lists.specs.Packed.{packedRow}
+use Rattle.lists.proofs.Scan.{same-long}
 use Rattle.lists.proofs.Table.{below, sameb, sameb→≡}
 use Rattle.lexicon.specs.Lexicon.{words, packed}
-use Rattle.units.specs.Units.{UnitRow, noUnit, unitAbbreviations, rowsBefore, unitIndex, isUnit, unitWord, packedUnits}
+use Rattle.units.specs.Units.{UnitRow, noUnit, unitAbbreviations, rowsBefore, unitIndex, isUnit, unitWord, value, unitKey, unitKeys, numberOf, wordNumbers}
 
 abbrev row : ℕ → UnitRow
 row k = getD unitAbbreviations k noUnit
 
-abbreviated : ℕ → Bool
-abbreviated k = sameb (packedRow 5 packedUnits k) (row k .abbreviation)
+-- two numbers of a lowest digit and a rest are equal where both parts are
+digit-same : (n b c v w : ℕ) → b < n → c < n → eqb (b + n * v) (c + n * w) ≡ eqb b c && eqb v w
+digit-same n b c v w h g = go (eqb b c) (eqb v w) refl refl
+  where
+    low : b + n * v ≡ c + n * w → b ≡ c
+    low e = rw (add-mul-mod-self-left b n v, add-mul-mod-self-left c n w, mod-eq-of-lt h, mod-eq-of-lt g) at (ap (λ (x : ℕ). x % n) e)
 
+    go : (s t : Bool) → eqb b c ≡ s → eqb v w ≡ t → eqb (b + n * v) (c + n * w) ≡ s && t
+    go true true p q = rw (eqb-true b c p, eqb-true v w q) (eq-eqb (c + n * w) (c + n * w) refl)
+    go true false p q = ne-eqb (b + n * v) (c + n * w) (λ e. eqb-false v w q (eq-of-mul-eq-mul-left n (omega arith) v w (omega (arith, low e))))
+    go false t p q = ne-eqb (b + n * v) (c + n * w) (λ e. eqb-false b c p (low e))
+
+-- each is a byte
+abbrev Bytes : List ℕ → Type 0
+Bytes s = (i : ℕ) → getD s i 0 < 256
+
+-- the same as a test that computes
+abbrev bytesb : List ℕ → Bool
+bytesb s = all (λ b. ltb b 256) s
+
+-- texts of one length are the same where their values are
+value-same : (a u : List ℕ) → T (bytesb a) → Bytes u → length a ≡ length u → eqb (value a) (value u) ≡ same a u
+unfolding value all sameBy
+value-same [] [] t q e = refl
+value-same [] (c ∷ u) t q e = absurd (omega arith)
+value-same (b ∷ a) [] t q e = absurd (omega arith)
+value-same (b ∷ a) (c ∷ u) t q e =
+    let y = and-yes (ltb b 256) (bytesb a) t in
+    rw (digit-same 256 b c (value a) (value u) (ltb→lt b 256 (y .0)) (q 0), value-same a u (y .1) (λ i. q (suc i)) (omega arith))
+
+-- texts are the same where their lengths and their values are
+text-same : (a u : List ℕ) → T (bytesb a) → Bytes u → (eqb (length a) (length u) && eqb (value a) (value u)) ≡ same a u
+text-same a u p q = go (eqb (length a) (length u)) refl
+  where
+    go : (t : Bool) → eqb (length a) (length u) ≡ t → (t && eqb (value a) (value u)) ≡ same a u
+    go true e = value-same a u p q (eqb-true (length a) (length u) e)
+    go false e = sym (same-long _ a u (eqb-false (length a) (length u) e))
+
+-- the key tells a text of 1 to 3 bytes from every other
+key-same : (a u : List ℕ) → 1 ≤ length a → length a ≤ 3 → T (bytesb a) → Bytes u → eqb (unitKey a) (unitKey u) ≡ same a u
+unfolding unitKey
+key-same a u h l p q = rw (le-leb (length a) 3 l) (go (leb (length u) 3) refl)
+  where
+    go : (t : Bool) → leb (length u) 3 ≡ t → eqb (length a + 4 * value a) (cond t (length u + 4 * value u) 0) ≡ same a u
+    go true e = digit-same 4 (length a) (length u) (value a) (value u) (omega arith) (omega (arith, leb-true)) ∙ text-same a u p q
+    go false e = ne-eqb (length a + 4 * value a) 0 (λ z. omega arith) ∙ sym (same-long _ a u (λ z. omega (arith, leb-false)))
+
+-- the key as the code makes it
+pub key-short : (u : List ℕ) → length u ≤ 3 → length u + 4 * (getD u 0 0 + 256 * (getD u 1 0 + 256 * getD u 2 0)) ≡ unitKey u
+unfolding unitKey value
+key-short [] h = omega arith
+key-short (a ∷ []) h = omega arith
+key-short (a ∷ b ∷ []) h = omega arith
+key-short (a ∷ b ∷ c ∷ []) h = omega arith
+key-short (a ∷ b ∷ c ∷ d ∷ u) h = absurd (omega arith)
+
+pub key-long : (u : List ℕ) → 3 < length u → 0 ≡ unitKey u
+unfolding unitKey
+key-long u h = rw (lt-leb (length u) 3 h)
+
+-- each abbreviation has 1 to 3 bytes
+fine : ℕ → Bool
+fine k = leb 1 (length (row k .abbreviation)) && leb (length (row k .abbreviation)) 3 && bytesb (row k .abbreviation)
+
+-- the key of row k tells whether its abbreviation is u
+row-same : (u : List ℕ) (k : ℕ) → Bytes u → k < 22 → eqb (getD unitKeys k 0) (unitKey u) ≡ same (row k .abbreviation) u
+unfolding fine unitAbbreviations unitKeys unitKey value all
+row-same u k b h =
+    let a = row k .abbreviation in
+    let y = and-yes (leb 1 (length a) && leb (length a) 3) (bytesb a) (below fine 22 tt k h) in
+    let z = and-yes (leb 1 (length a)) (leb (length a) 3) (y .0) in
+    rw (List·getD-map (λ (r : UnitRow). unitKey (r .abbreviation)) unitAbbreviations k noUnit) (key-same a u (leb→le _ _ (z .0)) (leb→le _ _ (z .1)) (y .1) b)
+
+-- row k's word is the lexicon's of its number
 worded : ℕ → Bool
-worded k = sameb (packedRow 16 packed (getD packedUnits (5 * k + 4) 0)) (row k .word)
+worded k = sameb (packedRow 16 packed (getD wordNumbers k 0)) (row k .word)
 
-pub abbreviation-row : (k : ℕ) → k < 22 → packedRow 5 packedUnits k ≡ row k .abbreviation
-unfolding abbreviated packedRow packedUnits unitAbbreviations
-abbreviation-row k h = sameb→≡ _ _ (below abbreviated 22 tt k h)
-
-pub word-row : (k : ℕ) → k < 22 → packedRow 16 packed (getD packedUnits (5 * k + 4) 0) ≡ row k .word
-unfolding worded packedRow packedUnits packed unitAbbreviations
+pub word-row : (k : ℕ) → k < 22 → packedRow 16 packed (getD wordNumbers k 0) ≡ row k .word
+unfolding worded packedRow packed wordNumbers numberOf words unitAbbreviations sameBy
 word-row k h = sameb→≡ _ _ (below worded 22 tt k h)
 
 pub rows : length unitAbbreviations ≡ 22
@@ -36,9 +107,9 @@ unfolding unitAbbreviations
 rows = refl
 
 -- the look-up from row k on: this row, or those after it
-pub index-more : (u : List ℕ) (k : ℕ) → k < 22 → rowsBefore u (drop k unitAbbreviations) ≡ cond (same (packedRow 5 packedUnits k) u) 0 (suc (rowsBefore u (drop (k + 1) unitAbbreviations)))
+pub index-more : (u : List ℕ) (k : ℕ) → Bytes u → k < 22 → rowsBefore u (drop k unitAbbreviations) ≡ cond (eqb (getD unitKeys k 0) (unitKey u)) 0 (suc (rowsBefore u (drop (k + 1) unitAbbreviations)))
 unfolding rowsBefore
-index-more u k h = rw (abbreviation-row k h, add-one, drop-cons unitAbbreviations k noUnit (rw rows h))
+index-more u k b h = rw (row-same u k b h, add-one, drop-cons unitAbbreviations k noUnit (rw rows h))
 
 pub index-end : (u : List ℕ) (k : ℕ) → 22 ≤ k → rowsBefore u (drop k unitAbbreviations) ≡ 0
 unfolding rowsBefore

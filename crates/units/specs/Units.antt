@@ -1,11 +1,12 @@
 -- patterns.rs, UNIT_ABBREVIATIONS, and its two look-ups. Definitions only.
 use mathlib.Core.Bool.{Bool, cond}
-use mathlib.Core.List.{List, [], _∷_}
-use Prim.Native.Nat.{ℕ, suc}
+use mathlib.Core.List.{List, [], _∷_, map}
+use Prim.Native.Nat.{ℕ, suc, _+_, _*_}
 use Prim.Native.String.{String}
-use lib.Dec.{ltb}
+use lib.Dec.{leb, ltb}
 use lib.ListN.{length, getD}
 use Rattle.lists.specs.Bytes.{bytes, same}
+use Rattle.lexicon.specs.Lexicon.{words}
 
 -- a row of the table
 pub record UnitRow : Type 0 where
@@ -45,8 +46,24 @@ isUnit u = ltb (unitIndex u) (length unitAbbreviations)
 abbrev pub unitWord : List ℕ → List ℕ
 unitWord u = (getD unitAbbreviations (unitIndex u) noUnit) .word
 
--- the table as the code holds it: rows of 5 bytes, the abbreviation's length, its letters, padding, and its word's number in the lexicon
-unfoldable pub packedUnits : List ℕ
-packedUnits =
-    bytes
-    "\u{2}LB.\0\u{3}LBS\0\u{2}lb.\0\u{3}lbs\0\u{2}ft.\u{1}\u{2}FT.\u{1}\u{2}kg.\u{2}\u{2}km.\u{3}\u{2}cm.\u{4}\u{2}mm.\u{5}\u{2}ml.\u{6}\u{2}oz.\u{7}\u{2}hz.\u{8}\u{2}Hz.\u{8}\u{2}HZ.\u{8}\u{3}KHz\t\u{3}MHz\n\u{3}GHz\u{b}\u{2}KB.\u{c}\u{2}GB.\r\u{2}MB.\u{e}\u{2}TB.\u{f}"
+-- the number whose digits in base 256 are the bytes, the first byte lowest
+unfoldable pub value : List ℕ → ℕ
+value [] = 0
+value (b ∷ s) = b + 256 * value s
+
+-- a number that tells the texts of up to 3 bytes apart, 0 for a longer one
+unfoldable pub unitKey : List ℕ → ℕ
+unitKey u = cond (leb (length u) 3) (length u + 4 * value u) 0
+
+-- the abbreviations as the code holds them
+unfoldable pub unitKeys : List ℕ
+unitKeys = map (λ (r : UnitRow). unitKey (r .abbreviation)) unitAbbreviations
+
+-- how many texts stand before the first that is w
+unfoldable pub numberOf : List ℕ → List (List ℕ) → ℕ
+numberOf w [] = 0
+numberOf w (v ∷ vs) = cond (same v w) 0 (suc (numberOf w vs))
+
+-- the words as the code holds them: their numbers in the lexicon
+unfoldable pub wordNumbers : List ℕ
+wordNumbers = map (λ (r : UnitRow). numberOf (r .word) words) unitAbbreviations

@@ -1,34 +1,64 @@
-// The table UNIT_ABBREVIATIONS of patterns.rs and its look-up.
-use lists::EXACT;
+// The table UNIT_ABBREVIATIONS of patterns.rs and its look-up. An abbreviation is compared as one number, its key.
 use lists::byte_at;
-use lists::packed_row;
-use lists::same;
 ghost use mathlib.Core.Path.{_≡_};
-ghost use Prim.Native.Nat.{_+_, _*_};
 ghost use lib.ListN.{getD};
-ghost use Rattle.units.specs.Units.{packedUnits, unitIndex};
-
-// The bytes of a row of the table.
-pub const ROW: u8 = 5;
+ghost use Rattle.units.specs.Units.{unitIndex, unitKey, unitKeys, wordNumbers};
 
 // The rows of the table.
 pub const UNITS: u8 = 22;
 
-// The table: in each row an abbreviation's length, its letters, and its word's number in the lexicon.
-pub fn unit_abbreviations() -> [u8; 110]
-    ensures { λ r. ⌜ r ≡ packedUnits ⌝ }
+// The key of each row's abbreviation.
+fn unit_keys() -> [u32; 22]
+    ensures { λ r. ⌜ r ≡ unitKeys ⌝ }
 {
-    *b"\x02LB.\x00\x03LBS\x00\x02lb.\x00\x03lbs\x00\x02ft.\x01\x02FT.\x01\x02kg.\x02\x02km.\x03\x02cm.\x04\x02mm.\x05\x02ml.\x06\x02oz.\x07\x02hz.\x08\x02Hz.\x08\x02HZ.\x08\x03KHz\x09\x03MHz\x0a\x03GHz\x0b\x02KB.\x0c\x02GB.\x0d\x02MB.\x0e\x02TB.\x0f"
+    [
+        0x00010932, // LB
+        0x014d0933, // LBS
+        0x000189b2, // lb
+        0x01cd89b3, // lbs
+        0x0001d19a, // ft
+        0x0001511a, // FT
+        0x00019dae, // kg
+        0x0001b5ae, // km
+        0x0001b58e, // cm
+        0x0001b5b6, // mm
+        0x0001b1b6, // ml
+        0x0001e9be, // oz
+        0x0001e9a2, // hz
+        0x0001e922, // Hz
+        0x00016922, // HZ
+        0x01e9212f, // KHz
+        0x01e92137, // MHz
+        0x01e9211f, // GHz
+        0x0001092e, // KB
+        0x0001091e, // GB
+        0x00010936, // MB
+        0x00010952, // TB
+    ]
+}
+
+// The key of a text: one number for its length and its bytes, 0 where these are more than 3.
+fn unit_key(u: &[u8]) -> u32
+    ensures { λ r. ⌜ r ≡ unitKey (now (u .entry)) ⌝ }
+{
+    if 3 < u.len() {
+        return 0;
+    }
+    let a = byte_at(u, 0) as u32;
+    let b = byte_at(u, 1) as u32;
+    let c = byte_at(u, 2) as u32;
+    (u.len() as u32) + 4 * (a + 256 * (b + 256 * c))
 }
 
 // The number of the first row whose abbreviation is u, UNITS where there is none.
-pub fn unit_index(table: &[u8], u: &[u8]) -> u8
-    requires { ⌜ now table ≡ packedUnits ⌝ }
+pub fn unit_index(u: &[u8]) -> u8
     ensures { λ r. ⌜ r ≡ unitIndex (now (u .entry)) ⌝ }
 {
+    let keys = unit_keys();
+    let key = unit_key(u);
     let mut k: u8 = 0;
     while k < UNITS {
-        if same(EXACT, packed_row(table, ROW, k), u) {
+        if keys[k as usize] == key {
             return k;
         }
         k += 1;
@@ -36,9 +66,12 @@ pub fn unit_index(table: &[u8], u: &[u8]) -> u8
     UNITS
 }
 
-// The number, in the lexicon, of row k's word.
-pub fn word_number(table: &[u8], k: u8) -> u8
-    ensures { λ r. ⌜ r ≡ getD (now (table .entry)) (5 * k + 4) 0 ⌝ }
+// The number, in the lexicon, of row k's word; 0 where there is no row k. Rows 0 to 3 share a word, and so do 4 and 5, and
+// 12 to 14.
+pub fn word_number(k: u8) -> u8
+    ensures { λ r. ⌜ r ≡ getD wordNumbers k 0 ⌝ }
 {
-    byte_at(table, 5 * (k as usize) + 4)
+    let numbers =
+        b"\x00\x00\x00\x00\x01\x01\x02\x03\x04\x05\x06\x07\x08\x08\x08\x09\x0a\x0b\x0c\x0d\x0e\x0f";
+    byte_at(numbers, k as usize)
 }

@@ -14,18 +14,15 @@ unit-word-spec =
     (λ c κs. search needs)
     (λ c. word-refused (c .before .before .before .before .args .unit .now) (c .before .before .before .before .args .store .now) _ (c .before .refusal-of .ensures) (c .if1 .taken))
     (λ c κs. search needs)
-    (λ c. search needs)
+    (λ c. word-none (c .before .before .before .before .before .before .args .unit .now) (c .before .before .before .before .before .before .args .store .now) _ (c .before .before .before .refusal-of .ensures) (c .before .before .if1 .left) (rw (c .before .unit-index .ensures) at (c .if2 .taken)))
     (λ c κs. search needs)
-    (λ c. word-none (c .before .before .before .before .before .before .before .before .args .unit .now) (c .before .before .before .before .before .before .before .before .args .store .now) _ (c .before .before .before .before .before .refusal-of .ensures) (c .before .before .before .before .if1 .left) (rw (c .before .unit-index .ensures) at (c .if2 .taken)))
-    (λ c κs. search needs)
-    (λ c. search needs)
     (λ c. search needs)
     (λ c κs. search needs)
     (λ c κs. search needs)
     (λ c κs. search needs)
     (λ c. search needs)
     (λ c.
-    let u = c .before .before .before .before .before .before .before .before .before .before .before .before .before .before .before .before .before .args .unit .now in
-    let h : unitIndex u < 22 = rw (c .before .before .before .before .before .before .before .before .before .before .unit-index .ensures) at (c .before .before .before .before .before .before .before .before .before .if2 .left) in
-    rw (c .before .before .before .before .word .ensures, c .before .before .before .before .before .before .before .before .lexicon .ensures, c .before .before .before .before .before .word-number .ensures, c .before .before .before .before .before .before .before .before .before .before .before .before .unit-abbreviations .ensures, c .before .before .before .before .before .before .before .before .before .before .unit-index .ensures, word-row (unitIndex u) h) at (c .before .before .store-word .ensures)
-    ∙ word-found u (c .before .before .before .before .before .before .before .before .before .before .before .before .before .before .before .before .before .args .store .now) _ (c .before .before .before .before .before .before .before .before .before .before .before .before .before .before .refusal-of .ensures) (c .before .before .before .before .before .before .before .before .before .before .before .before .before .if1 .left) h))
+    let u = c .before .before .before .before .before .before .before .before .before .before .before .before .before .before .args .unit .now in
+    let h : unitIndex u < 22 = rw (c .before .before .before .before .before .before .before .before .before .unit-index .ensures) at (c .before .before .before .before .before .before .before .before .if2 .left) in
+    rw (c .before .before .before .before .word .ensures, c .before .before .before .before .before .before .before .lexicon .ensures, c .before .before .before .before .before .word-number .ensures, c .before .before .before .before .before .before .before .before .before .unit-index .ensures, word-row (unitIndex u) h) at (c .before .before .store-word .ensures)
+    ∙ word-found u (c .before .before .before .before .before .before .before .before .before .before .before .before .before .before .args .store .now) _ (c .before .before .before .before .before .before .before .before .before .before .before .refusal-of .ensures) (c .before .before .before .before .before .before .before .before .before .before .if1 .left) h))

@@ -1,4 +1,3 @@
-use Prim.Native.Nat.{_-_}
 use borrow.Author.Tests.{eq-eqb, ne-eqb, not-true, not-false}
 use Rattle.shapes.specs.Shapes.{hasUnit}
 use Rattle.units.proofs.Laws.{rows}
@@ -16,7 +15,7 @@ returns-2 c = rw (← c .before .before .before .before .after-last .ensures, ne
 
 returns-3 : tie.Need-returns-3
 unfolding hasUnit
-returns-3 c = rw (← c .before .before .before .before .before .before .before .before .after-last .ensures, ne-eqb _ _ (c .before .before .before .before .before .before .before .if1 .left), ← c .before .before .before .before .before .before .front .ensures, ← c .before .before .before .before .before .all-of .ensures, not-false (c .before .before .before .before .before .all-of .result) (c .before .before .before .before .if2 .left), ← c .before .tail .ensures, rows, ← c .unit-index .ensures)
+returns-3 c = rw (← c .before .before .before .before .before .before .after-last .ensures, ne-eqb _ _ (c .before .before .before .before .before .if1 .left), ← c .before .before .before .before .front .ensures, ← c .before .before .before .all-of .ensures, not-false (c .before .before .before .all-of .result) (c .before .before .if2 .left), ← c .before .tail .ensures, rows, ← c .unit-index .ensures)
 
 pub has-unit-spec : {M : Type 1} → statement M
 has-unit-spec =
@@ -27,8 +26,6 @@ has-unit-spec =
     (λ c κs. search needs)
     (λ c κs. search needs)
     returns-2
-    (λ c κs. search needs)
-    (λ c. search needs)
     (λ c κs. search needs)
     (λ c κs. search needs)
     returns-3)

@@ -3,16 +3,17 @@ use native.Mathlib.Omega.{arith}
 use mathlib.Core.Path.{_≡_, sym, _∙_}
 use Prim.Native.Nat.{_-_, _+_, _≤_}
 use lib.ListN.{drop}
-use Rattle.units.specs.Units.{unitIndex, rowsBefore, unitAbbreviations}
+use borrow.Author.Tests.{eq-eqb, ne-eqb}
+use Rattle.units.specs.Units.{unitIndex, unitAbbreviations, rowsBefore}
 use Rattle.units.proofs.Laws.{index-more, index-end}
 use Rattle.units.proofs.unit_index.Statement.{statement}
 use Rattle.units.proofs.unit_index.Tie as tie
 
 abbrev Inv-loop : tie.InvT-loop
-Inv-loop table u k₀ k = (k ≤ 22) × (unitIndex u ≡ k + rowsBefore u (drop k unitAbbreviations))
+Inv-loop u keys key k₀ k = (k ≤ 22) × (unitIndex u ≡ k + rowsBefore u (drop k unitAbbreviations))
 
 abbrev μ-loop : tie.MeasureT-loop
-μ-loop table u k₀ k = 22 - k
+μ-loop u keys key k₀ k = 22 - k
 
 pub unit-index-spec : {M : Type 1} → statement M
 unit-index-spec =
@@ -20,17 +21,20 @@ unit-index-spec =
     (tie.spec
     Inv-loop
     μ-loop
+    (λ c κs. search needs)
+    (λ c κs. search needs)
     (λ c. (omega arith, omega arith))
-    (λ c κs. search needs)
-    (λ c κs. search needs)
-    (λ c.
-    let s = rw (c .before .before .packed-row .ensures, c .before .before .before .before .before .before .before .pre) at (c .before .same .ensures) in
-    sym (c .before .before .before .before .loop .inv .1 ∙ rw (index-more (c .before .before .before .before .before .before .before .args .u .now) (c .before .before .before .before .loop .k) (omega arith), ← s, c .if1 .taken) (omega arith)))
+    (λ c. search needs)
     (λ c. search needs)
     (λ c. search needs)
     (λ c.
-    let s = rw (c .before .before .packed-row .ensures, c .before .before .before .before .before .before .before .pre) at (c .before .same .ensures) in
-    (omega arith, c .before .before .before .before .loop .inv .1 ∙ rw (index-more (c .before .before .before .before .before .before .before .args .u .now) (c .before .before .before .before .loop .k) (omega arith), ← s, c .if1 .left) (omega arith)))
+    let e = rw (c .before .before .before .before .unit-keys .ensures, c .before .before .before .unit-key .ensures) at (c .if1 .taken) in
+    sym (c .before .before .loop .inv .1 ∙ rw (index-more (c .before .before .before .before .before .before .args .u .now) (c .before .before .loop .k) (λ i. c .before .before .before .before .before .shared-slice-known .given i .fits) (omega arith), eq-eqb _ _ e) (omega arith)))
+    (λ c. search needs)
+    (λ c. search needs)
+    (λ c.
+    let e = rw (c .before .before .before .before .unit-keys .ensures, c .before .before .before .unit-key .ensures) at (c .if1 .left) in
+    (omega arith, c .before .before .loop .inv .1 ∙ rw (index-more (c .before .before .before .before .before .before .args .u .now) (c .before .before .loop .k) (λ i. c .before .before .before .before .before .shared-slice-known .given i .fits) (omega arith), ne-eqb _ _ e) (omega arith)))
     (λ c.
     let z : c .before .loop .k ≡ 22 = omega arith in
-    sym (c .before .loop .inv .1 ∙ rw (index-end (c .before .before .before .before .args .u .now) (c .before .loop .k) (omega arith)) (omega arith))))
+    sym (c .before .loop .inv .1 ∙ rw (index-end (c .before .before .before .before .before .args .u .now) (c .before .loop .k) (omega arith)) (omega arith))))

@@ -1,0 +1,12 @@
+-- The code's keys are those of the definition's rows. Assumes nothing.
+use mathlib.Core.Path.{refl}
+use Rattle.units.specs.Units.{unitKeys, unitKey, value, unitAbbreviations}
+use Rattle.units.proofs.unit_keys.Statement.{statement}
+use Rattle.units.proofs.unit_keys.Tie as tie
+
+returns : tie.Need-returns
+unfolding unitKeys unitAbbreviations unitKey value
+returns c = refl
+
+pub unit-keys-spec : {M : Type 1} → statement M
+unit-keys-spec = tie.close (tie.spec returns)

@@ -1,0 +1,13 @@
+use Rattle.units.specs.Units.{unitAbbreviations, wordNumbers, numberOf}
+use Rattle.lexicon.specs.Lexicon.{words}
+use Rattle.lists.specs.Bytes.{sameBy}
+use borrow.Author.Needs.{needs}
+use Rattle.units.proofs.word_number.Statement.{statement}
+use Rattle.units.proofs.word_number.Tie as tie
+
+returns : tie.Need-returns
+unfolding wordNumbers numberOf words unitAbbreviations sameBy
+returns c = c .byte-at .ensures
+
+pub word-number-spec : {M : Type 1} → statement M
+word-number-spec = tie.close (tie.spec (λ c κs. search needs) returns)
