@@ -16,10 +16,7 @@ use Rattle.lists.specs.Packed.{packedRow}
 use Rattle.lists.proofs.Scan.{same-long}
 use Rattle.lists.proofs.Table.{below, sameb, sameb→≡}
 use Rattle.lexicon.specs.Lexicon.{words, packed}
-use Rattle.units.specs.Units.{UnitRow, noUnit, unitAbbreviations, rowsBefore, unitIndex, isUnit, unitWord, value, unitKey, unitKeys, numberOf, wordNumbers}
-
-abbrev row : ℕ → UnitRow
-row k = getD unitAbbreviations k noUnit
+use Rattle.units.specs.Units.{unitAbbreviations, abbreviations, unitWords, before, unitIndex, isUnit, unitWord, value, unitKey, unitKeys, wordNumbers}
 
 -- two numbers of a lowest digit and a rest are equal where both parts are
 digit-same : (n b c v w : ℕ) → b < n → c < n → eqb (b + n * v) (c + n * w) ≡ eqb b c && eqb v w
@@ -61,15 +58,15 @@ text-same a u p q = go (eqb (length a) (length u)) refl
 
 -- the key tells a text of 1 to 3 bytes from every other
 key-same : (a u : List ℕ) → 1 ≤ length a → length a ≤ 3 → T (bytesb a) → Bytes u → eqb (unitKey a) (unitKey u) ≡ same a u
-unfolding unitKey
+unfolding unitKey value
 key-same a u h l p q = rw (le-leb (length a) 3 l) (go (leb (length u) 3) refl)
   where
-    go : (t : Bool) → leb (length u) 3 ≡ t → eqb (length a + 4 * value a) (cond t (length u + 4 * value u) 0) ≡ same a u
-    go true e = digit-same 4 (length a) (length u) (value a) (value u) (omega arith) (omega (arith, leb-true)) ∙ text-same a u p q
-    go false e = ne-eqb (length a + 4 * value a) 0 (λ z. omega arith) ∙ sym (same-long _ a u (λ z. omega (arith, leb-false)))
+    go : (t : Bool) → leb (length u) 3 ≡ t → eqb (length a + 256 * value a) (cond t (length u + 256 * value u) 0) ≡ same a u
+    go true e = digit-same 256 (length a) (length u) (value a) (value u) (omega arith) (omega (arith, leb-true)) ∙ text-same a u p q
+    go false e = ne-eqb (length a + 256 * value a) 0 (λ z. omega arith) ∙ sym (same-long _ a u (λ z. omega (arith, leb-false)))
 
 -- the key as the code makes it
-pub key-short : (u : List ℕ) → length u ≤ 3 → length u + 4 * (getD u 0 0 + 256 * (getD u 1 0 + 256 * getD u 2 0)) ≡ unitKey u
+pub key-short : (u : List ℕ) → length u ≤ 3 → length u + 256 * (getD u 0 0 + 256 * (getD u 1 0 + 256 * getD u 2 0)) ≡ unitKey u
 unfolding unitKey value
 key-short [] h = omega arith
 key-short (a ∷ []) h = omega arith
@@ -83,41 +80,45 @@ key-long u h = rw (lt-leb (length u) 3 h)
 
 -- each abbreviation has 1 to 3 bytes
 fine : ℕ → Bool
-fine k = leb 1 (length (row k .abbreviation)) && leb (length (row k .abbreviation)) 3 && bytesb (row k .abbreviation)
+fine k = let a = getD abbreviations k [] in leb 1 (length a) && leb (length a) 3 && bytesb a
 
 -- the key of row k tells whether its abbreviation is u
-row-same : (u : List ℕ) (k : ℕ) → Bytes u → k < 22 → eqb (getD unitKeys k 0) (unitKey u) ≡ same (row k .abbreviation) u
-unfolding fine unitAbbreviations unitKeys unitKey value all
+row-same : (u : List ℕ) (k : ℕ) → Bytes u → k < 22 → eqb (getD unitKeys k 0) (unitKey u) ≡ same (getD abbreviations k []) u
+unfolding fine abbreviations unitAbbreviations unitKeys unitKey value all
 row-same u k b h =
-    let a = row k .abbreviation in
+    let a = getD abbreviations k [] in
     let y = and-yes (leb 1 (length a) && leb (length a) 3) (bytesb a) (below fine 22 tt k h) in
     let z = and-yes (leb 1 (length a)) (leb (length a) 3) (y .0) in
-    rw (List·getD-map (λ (r : UnitRow). unitKey (r .abbreviation)) unitAbbreviations k noUnit) (key-same a u (leb→le _ _ (z .0)) (leb→le _ _ (z .1)) (y .1) b)
+    rw (List·getD-map unitKey abbreviations k []) (key-same a u (leb→le _ _ (z .0)) (leb→le _ _ (z .1)) (y .1) b)
 
 -- row k's word is the lexicon's of its number
 worded : ℕ → Bool
-worded k = sameb (packedRow 16 packed (getD wordNumbers k 0)) (row k .word)
+worded k = sameb (packedRow 16 packed (getD wordNumbers k 0)) (getD unitWords k [])
 
-pub word-row : (k : ℕ) → k < 22 → packedRow 16 packed (getD wordNumbers k 0) ≡ row k .word
-unfolding worded packedRow packed wordNumbers numberOf words unitAbbreviations sameBy
+pub word-row : (k : ℕ) → k < 22 → packedRow 16 packed (getD wordNumbers k 0) ≡ getD unitWords k []
+unfolding worded packedRow packed wordNumbers before words unitWords unitAbbreviations sameBy
 word-row k h = sameb→≡ _ _ (below worded 22 tt k h)
 
 pub rows : length unitAbbreviations ≡ 22
 unfolding unitAbbreviations
 rows = refl
 
--- the look-up from row k on: this row, or those after it
-pub index-more : (u : List ℕ) (k : ℕ) → Bytes u → k < 22 → rowsBefore u (drop k unitAbbreviations) ≡ cond (eqb (getD unitKeys k 0) (unitKey u)) 0 (suc (rowsBefore u (drop (k + 1) unitAbbreviations)))
-unfolding rowsBefore
-index-more u k b h = rw (row-same u k b h, add-one, drop-cons unitAbbreviations k noUnit (rw rows h))
+named : length abbreviations ≡ 22
+unfolding abbreviations unitAbbreviations
+named = refl
 
-pub index-end : (u : List ℕ) (k : ℕ) → 22 ≤ k → rowsBefore u (drop k unitAbbreviations) ≡ 0
-unfolding rowsBefore
-index-end u k h = rw (drop-of-length-le unitAbbreviations {i = k} (rw rows h))
+-- the look-up from row k on: this row, or those after it
+pub index-more : (u : List ℕ) (k : ℕ) → Bytes u → k < 22 → before u (drop k abbreviations) ≡ cond (eqb (getD unitKeys k 0) (unitKey u)) 0 (suc (before u (drop (k + 1) abbreviations)))
+unfolding before
+index-more u k b h = rw (row-same u k b h, add-one, drop-cons abbreviations k [] (rw named h))
+
+pub index-end : (u : List ℕ) (k : ℕ) → 22 ≤ k → before u (drop k abbreviations) ≡ 0
+unfolding before
+index-end u k h = rw (drop-of-length-le abbreviations {i = k} (rw named h))
 
 -- no abbreviation is empty
 pub empty-none : isUnit [] ≡ false
-unfolding unitAbbreviations rowsBefore sameBy
+unfolding abbreviations unitAbbreviations before sameBy
 empty-none = refl
 
 -- past the table: no unit, and no word
@@ -125,7 +126,8 @@ pub miss-none : (u : List ℕ) → 22 ≤ unitIndex u → isUnit u ≡ false
 miss-none u h = le-ltb (unitIndex u) (length unitAbbreviations) (rw rows h)
 
 pub miss-word : (u : List ℕ) → 22 ≤ unitIndex u → unitWord u ≡ []
-miss-word u h = ap (λ (r : UnitRow). r .word) (List·getD-eq-default unitAbbreviations noUnit (rw rows h))
+unfolding unitWords unitAbbreviations
+miss-word u h = List·getD-eq-default unitWords [] h
 
 -- in the table: a unit, and its word from the lexicon
 pub hit-some : (u : List ℕ) → unitIndex u < 22 → isUnit u ≡ true

@@ -16,10 +16,6 @@ pub record UnitRow : Type 0 where
 abbrev pub unit : String → String → UnitRow
 unit a w = record { abbreviation = bytes a; word = bytes w }
 
--- what stands for no row
-abbrev pub noUnit : UnitRow
-noUnit = unit "" ""
-
 unfoldable pub unitAbbreviations : List UnitRow
 unitAbbreviations =
     unit "LB" "pounds" ∷ unit "LBS" "pounds" ∷ unit "lb" "pounds" ∷ unit "lbs" "pounds"
@@ -29,14 +25,21 @@ unitAbbreviations =
     ∷ unit "MHz" "megahertz" ∷ unit "GHz" "gigahertz" ∷ unit "KB" "kilobytes" ∷ unit "GB" "gigabytes"
     ∷ unit "MB" "megabytes" ∷ unit "TB" "terabytes" ∷ []
 
--- how many rows stand before the first whose abbreviation is u
-unfoldable pub rowsBefore : List ℕ → List UnitRow → ℕ
-rowsBefore u [] = 0
-rowsBefore u (r ∷ rs) = cond (same (r .abbreviation) u) 0 (suc (rowsBefore u rs))
+-- the two columns
+unfoldable pub abbreviations : List (List ℕ)
+abbreviations = map (λ (r : UnitRow). r .abbreviation) unitAbbreviations
+
+unfoldable pub unitWords : List (List ℕ)
+unitWords = map (λ (r : UnitRow). r .word) unitAbbreviations
+
+-- how many texts stand before the first that is t
+unfoldable pub before : List ℕ → List (List ℕ) → ℕ
+before t [] = 0
+before t (s ∷ ss) = cond (same s t) 0 (suc (before t ss))
 
 -- the number of the first row whose abbreviation is u, the table's length where there is none
 abbrev pub unitIndex : List ℕ → ℕ
-unitIndex u = rowsBefore u unitAbbreviations
+unitIndex u = before u abbreviations
 
 -- some row's abbreviation is u
 abbrev pub isUnit : List ℕ → Bool
@@ -44,7 +47,7 @@ isUnit u = ltb (unitIndex u) (length unitAbbreviations)
 
 -- unit_word: the word of the first row whose abbreviation is u, nothing where there is none
 abbrev pub unitWord : List ℕ → List ℕ
-unitWord u = (getD unitAbbreviations (unitIndex u) noUnit) .word
+unitWord u = getD unitWords (unitIndex u) []
 
 -- the number whose digits in base 256 are the bytes, the first byte lowest
 unfoldable pub value : List ℕ → ℕ
@@ -53,17 +56,12 @@ value (b ∷ s) = b + 256 * value s
 
 -- a number that tells the texts of up to 3 bytes apart, 0 for a longer one
 unfoldable pub unitKey : List ℕ → ℕ
-unitKey u = cond (leb (length u) 3) (length u + 4 * value u) 0
+unitKey u = cond (leb (length u) 3) (value (length u ∷ u)) 0
 
--- the abbreviations as the code holds them
+-- the abbreviations as the code holds them: their keys
 unfoldable pub unitKeys : List ℕ
-unitKeys = map (λ (r : UnitRow). unitKey (r .abbreviation)) unitAbbreviations
-
--- how many texts stand before the first that is w
-unfoldable pub numberOf : List ℕ → List (List ℕ) → ℕ
-numberOf w [] = 0
-numberOf w (v ∷ vs) = cond (same v w) 0 (suc (numberOf w vs))
+unitKeys = map unitKey abbreviations
 
 -- the words as the code holds them: their numbers in the lexicon
 unfoldable pub wordNumbers : List ℕ
-wordNumbers = map (λ (r : UnitRow). numberOf (r .word) words) unitAbbreviations
+wordNumbers = map (λ (w : List ℕ). before w words) unitWords

@@ -12,32 +12,32 @@ fn unit_keys() -> [u32; 22]
     ensures { λ r. ⌜ r ≡ unitKeys ⌝ }
 {
     [
-        0x00010932, // LB
-        0x014d0933, // LBS
-        0x000189b2, // lb
-        0x01cd89b3, // lbs
-        0x0001d19a, // ft
-        0x0001511a, // FT
-        0x00019dae, // kg
-        0x0001b5ae, // km
-        0x0001b58e, // cm
-        0x0001b5b6, // mm
-        0x0001b1b6, // ml
-        0x0001e9be, // oz
-        0x0001e9a2, // hz
-        0x0001e922, // Hz
-        0x00016922, // HZ
-        0x01e9212f, // KHz
-        0x01e92137, // MHz
-        0x01e9211f, // GHz
-        0x0001092e, // KB
-        0x0001091e, // GB
-        0x00010936, // MB
-        0x00010952, // TB
+        0x00424c02, // LB
+        0x53424c03, // LBS
+        0x00626c02, // lb
+        0x73626c03, // lbs
+        0x00746602, // ft
+        0x00544602, // FT
+        0x00676b02, // kg
+        0x006d6b02, // km
+        0x006d6302, // cm
+        0x006d6d02, // mm
+        0x006c6d02, // ml
+        0x007a6f02, // oz
+        0x007a6802, // hz
+        0x007a4802, // Hz
+        0x005a4802, // HZ
+        0x7a484b03, // KHz
+        0x7a484d03, // MHz
+        0x7a484703, // GHz
+        0x00424b02, // KB
+        0x00424702, // GB
+        0x00424d02, // MB
+        0x00425402, // TB
     ]
 }
 
-// The key of a text: one number for its length and its bytes, 0 where these are more than 3.
+// The key of a text: its length and its bytes in one number, the length lowest; 0 where the bytes are more than 3.
 fn unit_key(u: &[u8]) -> u32
     ensures { λ r. ⌜ r ≡ unitKey (now (u .entry)) ⌝ }
 {
@@ -47,7 +47,7 @@ fn unit_key(u: &[u8]) -> u32
     let a = byte_at(u, 0) as u32;
     let b = byte_at(u, 1) as u32;
     let c = byte_at(u, 2) as u32;
-    (u.len() as u32) + 4 * (a + 256 * (b + 256 * c))
+    (u.len() as u32) + 256 * (a + 256 * (b + 256 * c))
 }
 
 // The number of the first row whose abbreviation is u, UNITS where there is none.

@@ -1,4 +1,4 @@
-use Rattle.units.specs.Units.{unitAbbreviations, wordNumbers, numberOf}
+use Rattle.units.specs.Units.{unitAbbreviations, unitWords, before, wordNumbers}
 use Rattle.lexicon.specs.Lexicon.{words}
 use Rattle.lists.specs.Bytes.{sameBy}
 use borrow.Author.Needs.{needs}
@@ -6,7 +6,7 @@ use Rattle.units.proofs.word_number.Statement.{statement}
 use Rattle.units.proofs.word_number.Tie as tie
 
 returns : tie.Need-returns
-unfolding wordNumbers numberOf words unitAbbreviations sameBy
+unfolding wordNumbers before words unitWords unitAbbreviations sameBy
 returns c = c .byte-at .ensures
 
 pub word-number-spec : {M : Type 1} → statement M
