@@ -20,6 +20,9 @@ pub const TEXT_LIMIT: usize = 65536;
 // The bytes of a block that is passed at once where they are all ASCII.
 const BLOCK: usize = 32;
 
+// The most bytes of a name that is tested byte by byte first.
+const SHORT: usize = 12;
+
 // Why a call is held back (document 01, "Calls held back").
 pub enum Refusal {
     // over-long sheet
@@ -172,28 +175,14 @@ fn is_utf8_by_steps(s: &[u8]) -> bool
     true
 }
 
-// Whether s is UTF-8, at any length.
-fn is_utf8_whole(s: &[u8]) -> bool
+// Whether s is UTF-8. Most texts are ASCII, and are told by one pass.
+pub fn is_utf8(s: &[u8]) -> bool
     ensures { λ r. ⌜ r ≡ utf8 (now (s .entry)) ⌝ }
 {
     if is_ascii(s) {
         return true;
     }
     is_utf8_by_steps(s)
-}
-
-// Whether s is UTF-8. A short name of ASCII costs a few instructions, which the compiler puts into each caller; the two
-// calls keep the rest out of there.
-pub fn is_utf8(s: &[u8]) -> bool
-    ensures { λ r. ⌜ r ≡ utf8 (now (s .entry)) ⌝ }
-{
-    if s.len() < BLOCK {
-        if all_of(ASCII, 0, s) {
-            return true;
-        }
-        return is_utf8_whole(s);
-    }
-    is_utf8_whole(s)
 }
 
 // The tests of one text, in their order: its length, and then its bytes.
@@ -209,9 +198,23 @@ pub fn admit(limit: usize, s: &[u8]) -> Answer
     Answer::Refused(Refusal::NotUtf8)
 }
 
-// The number of the refusal that is due for a text of the library, 0 where there is none.
-pub fn refusal_of(s: &[u8]) -> u8
+// The number of the refusal that is due for a text of the library, at any length.
+fn refusal_of_any(s: &[u8]) -> u8
     ensures { λ r. ⌜ r ≡ textRefusal textLimit (now (s .entry)) ⌝ }
 {
     admit(TEXT_LIMIT, s).number()
+}
+
+// The number of the refusal that is due for a text of the library, 0 where there is none. A short name of ASCII costs a few
+// instructions, which the compiler puts into each caller; the two calls keep the rest out of there.
+pub fn refusal_of(s: &[u8]) -> u8
+    ensures { λ r. ⌜ r ≡ textRefusal textLimit (now (s .entry)) ⌝ }
+{
+    if s.len() <= SHORT {
+        if all_of(ASCII, 0, s) {
+            return 0;
+        }
+        return refusal_of_any(s);
+    }
+    refusal_of_any(s)
 }
