@@ -1,13 +1,13 @@
 -- How the test of UTF-8 goes on, a character at a time or over a run of ASCII. Assumes nothing.
-use mathlib.Core.Path.{_≡_, refl, sym, ap, _∙_}
+use mathlib.Core.Path.{_≡_, refl, _∙_}
 use mathlib.Core.Bool.{Bool, true, false, cond, _&&_, and-assoc, and-true}
 use mathlib.Core.List.{List, [], _∷_}
 use Prim.Native.Nat.{ℕ, zero, suc, _+_, _≤_, _<_}
 use native.Mathlib.Omega.{arith}
-use lib.Dec.{ltb, eqb}
+use lib.Dec.{eqb}
 use lib.ListN.{length, take, drop, getD, length-drop, drop-of-length-le}
 use lib.Seq.{drop-drop, take-length, take-add}
-use borrow.Author.Tests.{eq-eqb, ne-eqb, eqb-false}
+use borrow.Author.Tests.{ne-eqb, eqb-false}
 use Rattle.lists.specs.Bytes.{all}
 use Rattle.lists.proofs.Recursion.{Local, recur-eq, cond-cong}
 use Rattle.lists.proofs.Scan.{all-more, all-append}

@@ -1,5 +1,5 @@
 -- Document 01, "Calls held back": the refusals, their numbers, their order, and what a refused call answers. Definitions only.
-use mathlib.Core.Bool.{Bool, true, false, cond, not}
+use mathlib.Core.Bool.{Bool, false, cond, not}
 use mathlib.Core.List.{List, [], _∷_}
 use Prim.Native.Nat.{ℕ, zero, suc}
 use lib.Dec.{ltb}

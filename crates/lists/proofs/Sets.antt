@@ -9,7 +9,7 @@ use lib.Dec.{leb}
 use mathlib.Core.Bool.{Bool, true, false}
 use native.Mathlib.Numerals.{add-one}
 use native.Mathlib.Omega.{arith}
-use lib.ListN.{length, take, drop, getD, set, length-set}
+use lib.ListN.{length, take, getD, set, length-set}
 use lib.Seq.{sets, sets-eq, set-out, take-nil, take-all, take-suc}
 use Rattle.lists.specs.Bytes.{over}
 

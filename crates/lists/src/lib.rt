@@ -1,9 +1,7 @@
 // Bytes of a text: reads and parts that are total, scans, comparisons and the clipped copy. Nothing here demands
 // anything of its caller, and each contract is one equation.
 ghost use mathlib.Core.Path.{_≡_};
-ghost use mathlib.Core.Bool.{cond, not, _&&_, _||_};
-ghost use Prim.Native.Nat.{_+_, _-_, _*_, min};
-ghost use lib.Dec.{eqb};
+ghost use Prim.Native.Nat.{_-_, min};
 ghost use lib.ListN.{length, take, drop, getD};
 ghost use lib.Seq.{sets};
 ghost use Rattle.lists.specs.Bytes.{all, span, afterLast, sameBy, lower, starts, ends, stripPrefix, stripSuffix, endsBy};

@@ -1,5 +1,5 @@
 -- The unit calls, case by case. Assumes nothing.
-use mathlib.Core.Path.{_≡_, refl, sym, ap, _∙_}
+use mathlib.Core.Path.{_≡_, refl, sym, _∙_}
 use mathlib.Core.Bool.{Bool, true, false, cond, not}
 use mathlib.Core.List.{List, []}
 use Prim.Native.Nat.{ℕ, _-_, _≤_, _<_}
@@ -8,14 +8,14 @@ use lib.Dec.{ltb}
 use lib.ListN.{length, drop, length-drop}
 use borrow.Author.Tests.{le-ltb}
 use Rattle.admit.specs.Utf8.{utf8}
-use Rattle.admit.specs.Refusals.{number, refusal, textLimit, textDue, textRefusal, call}
+use Rattle.admit.specs.Refusals.{number, refusal, textLimit, textDue, textRefusal}
 use Rattle.admit.specs.declared.Refusal.the-variants.{BufferTooShort}
 use Rattle.admit.proofs.Calls.{call-refused}
-use Rattle.units.specs.Units.{isUnit, unitIndex, unitWord}
+use Rattle.units.specs.Units.{unitIndex, unitWord}
 use Rattle.units.proofs.Laws.{miss-none, miss-word, hit-some}
 use Rattle.shapes.specs.Shapes.{unitAt, hasUnit, unitPart}
 use Rattle.shapes.proofs.Laws.{unit-some}
-use Rattle.patterns.specs.Calls.{noPart, unitFound, FoundPart, Stored, storeCall, wordCall}
+use Rattle.patterns.specs.Calls.{noPart, unitFound, storeCall, wordCall}
 
 -- no unit
 pub unit-none : (s : List ℕ) → length (unitPart s) ≡ 0 → unitFound s ≡ noPart
@@ -82,7 +82,7 @@ module _ (s store : List ℕ) (n : ℕ) (due : n ≡ textRefusal textLimit s) wh
   word-found z h = rw (hit-some s h, due-accepted textLimit s short (sym due ∙ z))
 
   -- an accepted text that is none
-  pub word-none : n ≡ 0 → 22 ≤ unitIndex s → record { refusal = n; value = record { found = false; size = 0; store = store } } ≡ wordCall s store
+  pub word-none : n ≡ 0 → 22 ≤ unitIndex s → record { refusal = 0; value = record { found = false; size = 0; store = store } } ≡ wordCall s store
   word-none z h =
       let l : ltb (length store) 0 ≡ false = le-ltb (length store) 0 (omega arith) in
-      rw (miss-none s h, miss-word s h, due-accepted textLimit s (ltb (length store) 0) (sym due ∙ z), l, z)
+      rw (miss-none s h, miss-word s h, due-accepted textLimit s (ltb (length store) 0) (sym due ∙ z), l)

@@ -21,6 +21,12 @@ use Rattle.patterns.specs.declared.UnitWord.{UnitWord}
 abbrev pub asVerdict : Verdict → Call Bool
 asVerdict r = record { refusal = r .refusal; value = r .yes }
 
+abbrev pub noVerdict : ℕ → Call Bool
+noVerdict n = record { refusal = n; value = false }
+
+abbrev pub verdictGiven : Bool → Call Bool
+verdictGiven v = record { refusal = 0; value = v }
+
 -- "every verdict no": a call that gives the verdict v of the text s
 abbrev pub verdictCall : List ℕ → Bool → Call Bool
 verdictCall s v = call false (textRefusal textLimit s) v

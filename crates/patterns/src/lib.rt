@@ -7,7 +7,7 @@ use lists::put;
 use shapes::TimeSplit;
 ghost use mathlib.Core.Path.{_≡_};
 ghost use Rattle.shapes.specs.Shapes.{isDigits, isAlpha, isDouble, isCommaInt, isOrdinal, isUsMoney, isIllion, isRoman, isDrOrSt, isNumberS, isLeadingZeroDigits, isSevenDigitPhone, isNDigits, isTime, isDottedAbbrev, isDigitsSlashDigits, isDigitsDashDigits};
-ghost use Rattle.patterns.specs.Calls.{asVerdict, verdictCall, asTime, timeCall, asUnit, unitCall, asWord, storeCall, wordCall};
+ghost use Rattle.patterns.specs.Calls.{asVerdict, noVerdict, verdictGiven, verdictCall, asTime, timeCall, asUnit, unitCall, asWord, storeCall, wordCall};
 
 // A shape's verdict: the refusal's number or 0, and the verdict, no where the call is refused.
 #[repr(C)]
@@ -39,20 +39,30 @@ pub struct UnitWord {
     pub len: usize,
 }
 
+// A refused call's verdict is no.
+fn refused(refusal: u8) -> Verdict
+    ensures { λ r. ⌜ asVerdict r ≡ noVerdict refusal ⌝ }
+{
+    Verdict {
+        refusal,
+        yes: false,
+    }
+}
+
+fn accepted(yes: bool) -> Verdict
+    ensures { λ r. ⌜ asVerdict r ≡ verdictGiven yes ⌝ }
+{
+    Verdict { refusal: 0, yes }
+}
+
 pub fn is_digits(s: &[u8]) -> Verdict
     ensures { λ r. ⌜ asVerdict r ≡ verdictCall (now (s .entry)) (isDigits (now (s .entry))) ⌝ }
 {
     let refusal = refusal_of(s);
     if refusal != 0 {
-        return Verdict {
-            refusal,
-            yes: false,
-        };
+        return refused(refusal);
     }
-    Verdict {
-        refusal,
-        yes: shapes::is_digits(s),
-    }
+    accepted(shapes::is_digits(s))
 }
 
 pub fn is_alpha(s: &[u8]) -> Verdict
@@ -60,15 +70,9 @@ pub fn is_alpha(s: &[u8]) -> Verdict
 {
     let refusal = refusal_of(s);
     if refusal != 0 {
-        return Verdict {
-            refusal,
-            yes: false,
-        };
+        return refused(refusal);
     }
-    Verdict {
-        refusal,
-        yes: shapes::is_alpha(s),
-    }
+    accepted(shapes::is_alpha(s))
 }
 
 pub fn is_double(s: &[u8]) -> Verdict
@@ -76,15 +80,9 @@ pub fn is_double(s: &[u8]) -> Verdict
 {
     let refusal = refusal_of(s);
     if refusal != 0 {
-        return Verdict {
-            refusal,
-            yes: false,
-        };
+        return refused(refusal);
     }
-    Verdict {
-        refusal,
-        yes: shapes::is_double(s),
-    }
+    accepted(shapes::is_double(s))
 }
 
 pub fn is_comma_int(s: &[u8]) -> Verdict
@@ -92,15 +90,9 @@ pub fn is_comma_int(s: &[u8]) -> Verdict
 {
     let refusal = refusal_of(s);
     if refusal != 0 {
-        return Verdict {
-            refusal,
-            yes: false,
-        };
+        return refused(refusal);
     }
-    Verdict {
-        refusal,
-        yes: shapes::is_comma_int(s),
-    }
+    accepted(shapes::is_comma_int(s))
 }
 
 pub fn is_ordinal(s: &[u8]) -> Verdict
@@ -108,15 +100,9 @@ pub fn is_ordinal(s: &[u8]) -> Verdict
 {
     let refusal = refusal_of(s);
     if refusal != 0 {
-        return Verdict {
-            refusal,
-            yes: false,
-        };
+        return refused(refusal);
     }
-    Verdict {
-        refusal,
-        yes: shapes::is_ordinal(s),
-    }
+    accepted(shapes::is_ordinal(s))
 }
 
 pub fn is_us_money(s: &[u8]) -> Verdict
@@ -124,15 +110,9 @@ pub fn is_us_money(s: &[u8]) -> Verdict
 {
     let refusal = refusal_of(s);
     if refusal != 0 {
-        return Verdict {
-            refusal,
-            yes: false,
-        };
+        return refused(refusal);
     }
-    Verdict {
-        refusal,
-        yes: shapes::is_us_money(s),
-    }
+    accepted(shapes::is_us_money(s))
 }
 
 pub fn is_illion(s: &[u8]) -> Verdict
@@ -140,15 +120,9 @@ pub fn is_illion(s: &[u8]) -> Verdict
 {
     let refusal = refusal_of(s);
     if refusal != 0 {
-        return Verdict {
-            refusal,
-            yes: false,
-        };
+        return refused(refusal);
     }
-    Verdict {
-        refusal,
-        yes: shapes::is_illion(s),
-    }
+    accepted(shapes::is_illion(s))
 }
 
 pub fn is_roman(s: &[u8]) -> Verdict
@@ -156,15 +130,9 @@ pub fn is_roman(s: &[u8]) -> Verdict
 {
     let refusal = refusal_of(s);
     if refusal != 0 {
-        return Verdict {
-            refusal,
-            yes: false,
-        };
+        return refused(refusal);
     }
-    Verdict {
-        refusal,
-        yes: shapes::is_roman(s),
-    }
+    accepted(shapes::is_roman(s))
 }
 
 pub fn is_dr_or_st(s: &[u8]) -> Verdict
@@ -172,15 +140,9 @@ pub fn is_dr_or_st(s: &[u8]) -> Verdict
 {
     let refusal = refusal_of(s);
     if refusal != 0 {
-        return Verdict {
-            refusal,
-            yes: false,
-        };
+        return refused(refusal);
     }
-    Verdict {
-        refusal,
-        yes: shapes::is_dr_or_st(s),
-    }
+    accepted(shapes::is_dr_or_st(s))
 }
 
 pub fn is_number_s(s: &[u8]) -> Verdict
@@ -188,15 +150,9 @@ pub fn is_number_s(s: &[u8]) -> Verdict
 {
     let refusal = refusal_of(s);
     if refusal != 0 {
-        return Verdict {
-            refusal,
-            yes: false,
-        };
+        return refused(refusal);
     }
-    Verdict {
-        refusal,
-        yes: shapes::is_number_s(s),
-    }
+    accepted(shapes::is_number_s(s))
 }
 
 pub fn is_leading_zero_digits(s: &[u8]) -> Verdict
@@ -204,15 +160,9 @@ pub fn is_leading_zero_digits(s: &[u8]) -> Verdict
 {
     let refusal = refusal_of(s);
     if refusal != 0 {
-        return Verdict {
-            refusal,
-            yes: false,
-        };
+        return refused(refusal);
     }
-    Verdict {
-        refusal,
-        yes: shapes::is_leading_zero_digits(s),
-    }
+    accepted(shapes::is_leading_zero_digits(s))
 }
 
 pub fn is_seven_digit_phone(s: &[u8]) -> Verdict
@@ -220,15 +170,9 @@ pub fn is_seven_digit_phone(s: &[u8]) -> Verdict
 {
     let refusal = refusal_of(s);
     if refusal != 0 {
-        return Verdict {
-            refusal,
-            yes: false,
-        };
+        return refused(refusal);
     }
-    Verdict {
-        refusal,
-        yes: shapes::is_seven_digit_phone(s),
-    }
+    accepted(shapes::is_seven_digit_phone(s))
 }
 
 pub fn is_n_digits(s: &[u8], n: usize) -> Verdict
@@ -236,15 +180,9 @@ pub fn is_n_digits(s: &[u8], n: usize) -> Verdict
 {
     let refusal = refusal_of(s);
     if refusal != 0 {
-        return Verdict {
-            refusal,
-            yes: false,
-        };
+        return refused(refusal);
     }
-    Verdict {
-        refusal,
-        yes: shapes::is_n_digits(s, n),
-    }
+    accepted(shapes::is_n_digits(s, n))
 }
 
 pub fn is_time(s: &[u8]) -> Verdict
@@ -252,15 +190,9 @@ pub fn is_time(s: &[u8]) -> Verdict
 {
     let refusal = refusal_of(s);
     if refusal != 0 {
-        return Verdict {
-            refusal,
-            yes: false,
-        };
+        return refused(refusal);
     }
-    Verdict {
-        refusal,
-        yes: shapes::is_time(s),
-    }
+    accepted(shapes::is_time(s))
 }
 
 pub fn split_time_meridiem(s: &[u8]) -> SplitTime
@@ -274,7 +206,7 @@ pub fn split_time_meridiem(s: &[u8]) -> SplitTime
         };
     }
     SplitTime {
-        refusal,
+        refusal: 0,
         split: shapes::split_time_meridiem(s),
     }
 }
@@ -284,15 +216,9 @@ pub fn is_dotted_abbrev(s: &[u8]) -> Verdict
 {
     let refusal = refusal_of(s);
     if refusal != 0 {
-        return Verdict {
-            refusal,
-            yes: false,
-        };
+        return refused(refusal);
     }
-    Verdict {
-        refusal,
-        yes: shapes::is_dotted_abbrev(s),
-    }
+    accepted(shapes::is_dotted_abbrev(s))
 }
 
 pub fn is_digits_slash_digits(s: &[u8]) -> Verdict
@@ -300,15 +226,9 @@ pub fn is_digits_slash_digits(s: &[u8]) -> Verdict
 {
     let refusal = refusal_of(s);
     if refusal != 0 {
-        return Verdict {
-            refusal,
-            yes: false,
-        };
+        return refused(refusal);
     }
-    Verdict {
-        refusal,
-        yes: shapes::is_digits_slash_digits(s),
-    }
+    accepted(shapes::is_digits_slash_digits(s))
 }
 
 pub fn is_digits_dash_digits(s: &[u8]) -> Verdict
@@ -316,15 +236,9 @@ pub fn is_digits_dash_digits(s: &[u8]) -> Verdict
 {
     let refusal = refusal_of(s);
     if refusal != 0 {
-        return Verdict {
-            refusal,
-            yes: false,
-        };
+        return refused(refusal);
     }
-    Verdict {
-        refusal,
-        yes: shapes::is_digits_dash_digits(s),
-    }
+    accepted(shapes::is_digits_dash_digits(s))
 }
 
 pub fn split_unit(s: &[u8]) -> SplitUnit
@@ -342,7 +256,7 @@ pub fn split_unit(s: &[u8]) -> SplitUnit
     let unit = shapes::split_unit(s);
     if unit.len() == 0 {
         return SplitUnit {
-            refusal,
+            refusal: 0,
             yes: false,
             offset: 0,
             len: 0,
@@ -350,7 +264,7 @@ pub fn split_unit(s: &[u8]) -> SplitUnit
     }
     let offset = s.len() - unit.len();
     SplitUnit {
-        refusal,
+        refusal: 0,
         yes: true,
         offset,
         len: unit.len(),
@@ -391,7 +305,7 @@ pub fn unit_word(unit: &[u8], store: &mut [u8]) -> UnitWord
     let k = units::unit_index(unit);
     if units::UNITS <= k {
         return UnitWord {
-            refusal,
+            refusal: 0,
             yes: false,
             len: 0,
         };

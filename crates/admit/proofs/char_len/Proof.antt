@@ -1,4 +1,3 @@
-use Prim.Native.Nat.{_-_}
 use borrow.Author.Needs.{needs}
 use Rattle.admit.proofs.char_len.Statement.{statement}
 use Rattle.admit.proofs.char_len.Tie as tie

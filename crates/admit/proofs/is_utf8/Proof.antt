@@ -1,5 +1,4 @@
 use mathlib.Core.Path.{sym, _∙_}
-use Prim.Native.Nat.{_-_}
 use Rattle.admit.proofs.Utf8.{utf8-all}
 use borrow.Author.Needs.{needs}
 use Rattle.admit.proofs.is_utf8.Statement.{statement}

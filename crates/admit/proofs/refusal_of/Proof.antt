@@ -1,6 +1,5 @@
 use native.Mathlib.Omega.{arith}
 use mathlib.Core.Path.{sym, _∙_}
-use Prim.Native.Nat.{_-_}
 use lib.ListN.{length}
 use borrow.Author.Tests.{le-ltb}
 use Rattle.admit.proofs.Utf8.{utf8-all}

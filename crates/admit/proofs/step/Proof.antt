@@ -1,5 +1,4 @@
 use native.Mathlib.Omega.{arith}
-use Prim.Native.Nat.{_-_}
 use borrow.Author.Tests.{ne-eqb}
 use Rattle.lists.specs.Classes.{ascii}
 use Rattle.lists.proofs.Scan.{span-all, span-le}

@@ -1,6 +1,3 @@
-use Prim.Native.Nat.{_-_}
-use lib.Dec.{eqb}
-use lib.ListN.{take}
 use borrow.Author.Tests.{eq-eqb, ne-eqb}
 use borrow.Author.Needs.{needs}
 use Rattle.lists.proofs.ends_with.Statement.{statement}

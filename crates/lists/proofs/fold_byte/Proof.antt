@@ -1,4 +1,3 @@
-use Prim.Native.Nat.{_-_}
 use borrow.Author.Needs.{needs}
 use Rattle.lists.proofs.fold_byte.Statement.{statement}
 use Rattle.lists.proofs.fold_byte.Tie as tie

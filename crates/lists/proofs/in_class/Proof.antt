@@ -1,6 +1,4 @@
 use mathlib.Core.Bool.{false}
-use mathlib.Core.List.{List}
-use Prim.Native.Nat.{_-_}
 use Rattle.lists.specs.Classes.{classes}
 use Rattle.lists.proofs.Table.{none-of}
 use lib.ListN.{List·getD-eq-default}

@@ -1,5 +1,4 @@
 use native.Mathlib.Omega.{arith}
-use Prim.Native.Nat.{_-_}
 use Rattle.lists.specs.Packed.{packedRow}
 use Rattle.lists.proofs.Scan.{product}
 use borrow.Author.Needs.{needs}

@@ -2,7 +2,7 @@ use borrow.Author.Needs.{needs}
 use native.Mathlib.Omega.{arith}
 use mathlib.Core.Path.{_≡_, refl, _∙_}
 use Prim.Native.Nat.{_-_, _≤_, _<_}
-use lib.ListN.{length, take, length-take, length-set}
+use lib.ListN.{length, take, length-set}
 use lib.Seq.{sets, length-take-le}
 use Rattle.lists.proofs.Sets.{sets-take-suc, sets-min}
 use Prim.Native.Nat.{zero-le}

@@ -1,6 +1,6 @@
 -- The loop keeps that the scan of the whole text is i and the scan of what is left. Assumes nothing.
 use borrow.Author.Needs.{needs}
-use mathlib.Core.Path.{_≡_, refl, sym, _∙_}
+use mathlib.Core.Path.{_≡_, sym, _∙_}
 use borrow.Author.Tests.{not-true, not-false}
 use Prim.Native.Nat.{_-_, _+_}
 use native.Mathlib.Nat.{zero-add}

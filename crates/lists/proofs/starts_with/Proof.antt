@@ -1,4 +1,3 @@
-use Prim.Native.Nat.{_-_}
 use borrow.Author.Needs.{needs}
 use Rattle.lists.proofs.starts_with.Statement.{statement}
 use Rattle.lists.proofs.starts_with.Tie as tie

@@ -1,5 +1,3 @@
-use Prim.Native.Nat.{_-_}
-use lib.ListN.{take}
 use borrow.Author.Needs.{needs}
 use Rattle.lists.proofs.strip_prefix.Statement.{statement}
 use Rattle.lists.proofs.strip_prefix.Tie as tie

@@ -1,5 +1,3 @@
-use Prim.Native.Nat.{_-_}
-use lib.ListN.{take}
 use borrow.Author.Needs.{needs}
 use Rattle.lists.proofs.strip_suffix.Statement.{statement}
 use Rattle.lists.proofs.strip_suffix.Tie as tie

@@ -1,5 +1,4 @@
 use mathlib.Core.Path.{sym}
-use Prim.Native.Nat.{_-_}
 use Rattle.admit.proofs.Calls.{call-refused, call-accepted}
 use Rattle.patterns.proofs.Laws.{unit-none, unit-found, unit-le}
 use borrow.Author.Needs.{needs}
@@ -9,4 +8,4 @@ use Rattle.patterns.proofs.split_unit.Tie as tie
 pub split-unit-spec : {M : Type 1} → statement M
 split-unit-spec =
     tie.close
-    (tie.spec (λ c κs. search needs) (λ c. call-refused _ _ _ _ (c .if1 .taken) (c .before .refusal-of .ensures)) (λ c κs. search needs) (λ c. call-accepted _ _ _ _ _ (c .before .before .if1 .left) (c .before .before .before .refusal-of .ensures) (sym (unit-none _ (rw (c .before .split-unit .ensures) at (c .if2 .taken))))) (λ c. rw (c .before .split-unit .ensures) (unit-le _)) (λ c. let f = unit-found (c .before .before .before .before .before .args .s .now) (rw (c .before .split-unit .ensures) at (c .if2 .left)) in call-accepted _ _ _ _ _ (c .before .before .if1 .left) (c .before .before .before .refusal-of .ensures) (rw (c .before .split-unit .ensures) f)))
+    (tie.spec (λ c κs. search needs) (λ c. call-refused _ _ _ _ (c .if1 .taken) (c .before .refusal-of .ensures)) (λ c κs. search needs) (λ c. call-accepted _ _ _ _ (rw (c .before .before .if1 .left) at (c .before .before .before .refusal-of .ensures)) (sym (unit-none _ (rw (c .before .split-unit .ensures) at (c .if2 .taken))))) (λ c. rw (c .before .split-unit .ensures) (unit-le _)) (λ c. let f = unit-found (c .before .before .before .before .before .args .s .now) (rw (c .before .split-unit .ensures) at (c .if2 .left)) in call-accepted _ _ _ _ (rw (c .before .before .if1 .left) at (c .before .before .before .refusal-of .ensures)) (rw (c .before .split-unit .ensures) f)))

@@ -1,5 +1,5 @@
 use mathlib.Core.Path.{_∙_}
-use Prim.Native.Nat.{_-_, _<_}
+use Prim.Native.Nat.{_<_}
 use Rattle.units.specs.Units.{unitIndex}
 use Rattle.units.proofs.Laws.{word-row}
 use Rattle.patterns.proofs.Laws.{word-refused, word-found, word-none}

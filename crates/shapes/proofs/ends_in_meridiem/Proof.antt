@@ -1,4 +1,3 @@
-use Prim.Native.Nat.{_-_}
 use borrow.Author.Needs.{needs}
 use Rattle.shapes.proofs.ends_in_meridiem.Statement.{statement}
 use Rattle.shapes.proofs.ends_in_meridiem.Tie as tie

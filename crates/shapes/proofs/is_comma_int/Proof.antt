@@ -1,5 +1,4 @@
 use mathlib.Core.Path.{sym}
-use Prim.Native.Nat.{_-_}
 use Rattle.shapes.proofs.Laws.{comma-more, comma-none}
 use borrow.Author.Needs.{needs}
 use Rattle.shapes.proofs.is_comma_int.Statement.{statement}

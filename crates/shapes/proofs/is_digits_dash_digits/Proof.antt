@@ -1,4 +1,3 @@
-use Prim.Native.Nat.{_-_}
 use Rattle.shapes.specs.Shapes.{isDigitsDashDigits}
 use Rattle.lists.proofs.Parts.{has-span}
 use Rattle.shapes.proofs.Laws.{dash-all}

@@ -1,4 +1,3 @@
-use Prim.Native.Nat.{_-_}
 use Rattle.shapes.specs.Shapes.{isDottedAbbrev}
 use Rattle.lists.proofs.Parts.{split-two}
 use borrow.Author.Needs.{needs}

@@ -1,4 +1,3 @@
-use Prim.Native.Nat.{_-_}
 use borrow.Author.Needs.{needs}
 use Rattle.shapes.proofs.is_dr_or_st.Statement.{statement}
 use Rattle.shapes.proofs.is_dr_or_st.Tie as tie

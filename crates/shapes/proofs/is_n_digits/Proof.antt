@@ -1,4 +1,3 @@
-use Prim.Native.Nat.{_-_}
 use borrow.Author.Needs.{needs}
 use Rattle.shapes.proofs.is_n_digits.Statement.{statement}
 use Rattle.shapes.proofs.is_n_digits.Tie as tie

@@ -1,4 +1,3 @@
-use Prim.Native.Nat.{_-_}
 use Rattle.shapes.specs.Shapes.{isOrdinal}
 use borrow.Author.Needs.{needs}
 use Rattle.shapes.proofs.is_ordinal.Statement.{statement}

@@ -1,4 +1,3 @@
-use Prim.Native.Nat.{_-_}
 use borrow.Author.Needs.{needs}
 use Rattle.shapes.proofs.is_roman.Statement.{statement}
 use Rattle.shapes.proofs.is_roman.Tie as tie

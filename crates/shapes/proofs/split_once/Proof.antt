@@ -1,4 +1,3 @@
-use Prim.Native.Nat.{_-_}
 use borrow.Author.Tests.{lt-ltb, le-ltb}
 use Rattle.shapes.specs.Shapes.{splitOnce}
 use borrow.Author.Needs.{needs}

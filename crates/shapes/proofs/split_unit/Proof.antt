@@ -1,4 +1,3 @@
-use Prim.Native.Nat.{_-_}
 use borrow.Author.Needs.{needs}
 use Rattle.shapes.proofs.split_unit.Statement.{statement}
 use Rattle.shapes.proofs.split_unit.Tie as tie

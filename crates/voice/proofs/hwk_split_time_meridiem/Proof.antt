@@ -1,5 +1,4 @@
 use mathlib.Core.Path.{ap, _∙_}
-use Prim.Native.Nat.{_-_}
 use Rattle.voice.specs.AtC.{timeAtC}
 use borrow.Author.Needs.{needs}
 use Rattle.voice.proofs.hwk_split_time_meridiem.Statement.{statement}

@@ -1,4 +1,3 @@
-use Prim.Native.Nat.{_-_}
 use borrow.Author.Needs.{needs}
 use Rattle.voice.proofs.time_at_c.Statement.{statement}
 use Rattle.voice.proofs.time_at_c.Tie as tie
