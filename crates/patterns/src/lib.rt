@@ -43,10 +43,8 @@ pub struct UnitWord {
 fn refused(refusal: u8) -> Verdict
     ensures { λ r. ⌜ asVerdict r ≡ noVerdict refusal ⌝ }
 {
-    Verdict {
-        refusal,
-        yes: false,
-    }
+    let yes = false;
+    Verdict { refusal, yes }
 }
 
 fn accepted(yes: bool) -> Verdict

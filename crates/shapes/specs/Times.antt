@@ -27,7 +27,7 @@ timeSplit s =
     (At sep (sep + 1) (length s - 2))
     Nothing
 
--- the three as parts of the name s: hour, minute, meridiem
+-- the three as parts of the name s
 abbrev pub hourOf : TimeSplit → List ℕ → List ℕ
 hourOf (At hour minute meridiem) s = take hour s
 hourOf Nothing s = []
