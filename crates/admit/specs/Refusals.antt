@@ -32,8 +32,8 @@ abbrev pub firstDue : (Refusal → Bool) → List Refusal → ℕ
 firstDue due [] = 0
 firstDue due (r ∷ rs) = cond (due r) (number r) (firstDue due rs)
 
-abbrev pub refusal : (Refusal → Bool) → ℕ
-refusal due = firstDue due order
+abbrev pub numberDue : (Refusal → Bool) → ℕ
+numberDue due = firstDue due order
 
 -- "a text has more than 65,536 bytes"
 abbrev pub textLimit : ℕ
@@ -49,7 +49,7 @@ textDue limit s short BufferTooShort = short
 
 -- the number that is due where a call is given one text and no buffer
 abbrev pub textRefusal : ℕ → List ℕ → ℕ
-textRefusal limit s = refusal (textDue limit s false)
+textRefusal limit s = numberDue (textDue limit s false)
 
 -- what a call answers: its number, and its values, the buffers' final bytes among them
 pub record Call (A : Type 0) : Type 0 where

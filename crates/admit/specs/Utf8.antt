@@ -49,7 +49,8 @@ utf8Step rest s = cond (eqb (length s) 0) true (cond (eqb (charLen s) 0) false (
 unfoldable pub utf8 : List ℕ → Bool
 utf8 = recur false utf8Step
 
--- what a step at the front of s answers: n bytes that the test of the rest decides for, or 0 where s is not UTF-8
+-- what a step at the front of s answers: n bytes that the test of the rest decides for, or 0 where s is not UTF-8; and
+-- that they are few enough for a sum of places
 pub record Passed (s : List ℕ) (n : ℕ) : Type 0 where
   pub few : n ≤ length s + 4
   pub decides : 0 < length s → utf8 s ≡ cond (eqb n 0) false (utf8 (drop n s))

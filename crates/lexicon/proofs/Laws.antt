@@ -2,13 +2,14 @@
 use mathlib.Core.Path.{_≡_}
 use mathlib.Core.Bool.{Bool}
 use Prim.Native.Nat.{ℕ, _<_}
+use Rattle.lists.specs.Bytes.{same, sameBy}
 use Rattle.lists.specs.Packed.{packedRow}
-use Rattle.lists.proofs.Table.{below, sameb, sameb→≡}
+use Rattle.lists.proofs.Table.{below, same→≡}
 use Rattle.lexicon.specs.Lexicon.{words, wordOf, packed}
 
 holds : ℕ → Bool
-holds k = sameb (packedRow 16 packed k) (wordOf k)
+holds k = same (packedRow 16 packed k) (wordOf k)
 
 pub word-row : (k : ℕ) → k < 16 → packedRow 16 packed k ≡ wordOf k
-unfolding holds packedRow wordOf words packed
-word-row k h = sameb→≡ _ _ (below holds 16 tt k h)
+unfolding holds packedRow wordOf words packed sameBy
+word-row k h = same→≡ _ _ (below holds 16 tt k h)

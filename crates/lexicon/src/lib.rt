@@ -6,7 +6,7 @@ ghost use Rattle.lists.specs.Packed.{packedRow};
 ghost use Rattle.lexicon.specs.Lexicon.{packed};
 
 // The bytes of a row of the table.
-pub const ROW: u8 = 16;
+const ROW: u8 = 16;
 
 // The table.
 pub fn lexicon() -> [u8; 256]

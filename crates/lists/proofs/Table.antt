@@ -6,42 +6,32 @@ use Prim.Native.Nat.{ℕ, zero, suc, _≤_, _<_}
 use native.Mathlib.Omega.{arith}
 use native.Mathlib.Decide.{decLt}
 use lib.Dec.{T, eqb, eqb→eq}
+use mir.Facts.{and-yes}
+use Rattle.lists.specs.Bytes.{same, sameBy}
 
 -- the test f passes at each number below n
 abbrev pub upto : (ℕ → Bool) → ℕ → Bool
 upto f zero = true
 upto f (suc n) = f n && upto f n
 
-and-left : (a b : Bool) → T (a && b) → T a
-and-left true b t = tt
-and-left false b t = t
-
-and-right : (a b : Bool) → T (a && b) → T b
-and-right true b t = t
-and-right false b t = absurd t
-
 pub below : (f : ℕ → Bool) (n : ℕ) → T (upto f n) → (k : ℕ) → k < n → T (f k)
 below f zero t k h = absurd (omega arith)
-below f (suc n) t k h = pick (below f n (and-right (f n) (upto f n) t) k) (decLt k n)
+below f (suc n) t k h = pick (below f n (and-yes (f n) (upto f n) t .1) k) (decLt k n)
   where
     pick : (k < n → T (f k)) → Dec (k < n) → T (f k)
     pick r (yes l) = r l
-    pick r (no g) = let e : n ≡ k = omega arith in rw e at (and-left (f n) (upto f n) t)
+    pick r (no g) = let e : n ≡ k = omega arith in rw e at (and-yes (f n) (upto f n) t .0)
 
--- the same bytes, as a test that computes
-abbrev pub sameb : List ℕ → List ℕ → Bool
-sameb [] [] = true
-sameb [] (y ∷ ys) = false
-sameb (x ∷ xs) [] = false
-sameb (x ∷ xs) (y ∷ ys) = eqb x y && sameb xs ys
-
-pub sameb→≡ : (x y : List ℕ) → T (sameb x y) → x ≡ y
-sameb→≡ [] [] t = refl
-sameb→≡ [] (y ∷ ys) t = absurd t
-sameb→≡ (x ∷ xs) [] t = absurd t
-sameb→≡ (x ∷ xs) (y ∷ ys) t =
-    let e : x ≡ y = eqb→eq x y (and-left (eqb x y) (sameb xs ys) t) in
-    let r : xs ≡ ys = sameb→≡ xs ys (and-right (eqb x y) (sameb xs ys) t) in
+-- texts that pass the test of sameness are equal
+pub same→≡ : (x y : List ℕ) → T (same x y) → x ≡ y
+unfolding sameBy
+same→≡ [] [] t = refl
+same→≡ [] (y ∷ ys) t = absurd t
+same→≡ (x ∷ xs) [] t = absurd t
+same→≡ (x ∷ xs) (y ∷ ys) t =
+    let a = and-yes (eqb x y) (same xs ys) t in
+    let e : x ≡ y = eqb→eq x y (a .0) in
+    let r : xs ≡ ys = same→≡ xs ys (a .1) in
     cc
 
 -- what the last arm of a `match` on k knows: k is none of the numbers below n

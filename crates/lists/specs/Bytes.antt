@@ -45,7 +45,7 @@ same = sameBy (λ b. b)
 
 -- A to Z lowered, any other byte as it is
 abbrev pub lower : ℕ → ℕ
-lower b = cond (leb 65 b && leb b 90) (b + 32) b
+lower b = cond (leb (code "A") b && leb b (code "Z")) (b + 32) b
 
 -- the text starts with the byte c
 abbrev pub starts : ℕ → List ℕ → Bool

@@ -2,6 +2,7 @@
 use mathlib.Core.Bool.{Bool, true, false, not, _&&_, _||_}
 use mathlib.Core.List.{List, [], _∷_}
 use Prim.Native.Nat.{ℕ}
+use Prim.Native.Char.{code}
 use lib.Dec.{leb, ltb, eqb}
 use lib.ListN.{getD}
 use Rattle.lists.specs.Bytes.{lower}
@@ -12,25 +13,25 @@ ascii b = ltb b 128
 
 -- 0 to 9
 abbrev pub digit : ℕ → Bool
-digit b = leb 48 b && leb b 57
+digit b = leb (code "0") b && leb b (code "9")
 
 -- A to Z, a to z
 abbrev pub letter : ℕ → Bool
-letter b = (leb 65 b && leb b 90) || (leb 97 b && leb b 122)
+letter b = (leb (code "A") b && leb b (code "Z")) || (leb (code "a") b && leb b (code "z"))
 
 abbrev pub digitOrComma : ℕ → Bool
-digitOrComma b = digit b || eqb b 44
+digitOrComma b = digit b || eqb b (code ",")
 
 abbrev pub digitOrDash : ℕ → Bool
-digitOrDash b = digit b || eqb b 45
+digitOrDash b = digit b || eqb b (code "-")
 
 -- V, I, X
 abbrev pub romanTail : ℕ → Bool
-romanTail b = eqb b 86 || eqb b 73 || eqb b 88
+romanTail b = eqb b (code "V") || eqb b (code "I") || eqb b (code "X")
 
 -- neither a colon nor a point
 abbrev pub colonNorPoint : ℕ → Bool
-colonNorPoint b = not (eqb b 58 || eqb b 46)
+colonNorPoint b = not (eqb b (code ":") || eqb b (code "."))
 
 abbrev pub except : ℕ → ℕ → Bool
 except c b = not (eqb b c)

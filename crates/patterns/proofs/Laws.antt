@@ -8,7 +8,7 @@ use lib.Dec.{ltb}
 use lib.ListN.{length, drop, length-drop}
 use borrow.Author.Tests.{le-ltb}
 use Rattle.admit.specs.Utf8.{utf8}
-use Rattle.admit.specs.Refusals.{number, refusal, textLimit, textDue, textRefusal}
+use Rattle.admit.specs.Refusals.{number, numberDue, textLimit, textDue, textRefusal}
 use Rattle.admit.specs.declared.Refusal.the-variants.{BufferTooShort}
 use Rattle.admit.proofs.Calls.{call-refused}
 use Rattle.units.specs.Units.{unitIndex, unitWord}
@@ -53,7 +53,7 @@ abbrev tests : Bool → Bool → Bool → ℕ
 tests long good short = cond long 1 (cond (not good) 2 (cond short 5 0))
 
 -- a text that is refused is refused whatever the buffer's length
-due-refused : (limit : ℕ) (s : List ℕ) (short : Bool) (n : ℕ) → (n ≡ 0 → ⊥) → n ≡ textRefusal limit s → n ≡ refusal (textDue limit s short)
+due-refused : (limit : ℕ) (s : List ℕ) (short : Bool) (n : ℕ) → (n ≡ 0 → ⊥) → n ≡ textRefusal limit s → n ≡ numberDue (textDue limit s short)
 due-refused limit s short n z h = go (ltb limit (length s)) (utf8 s) h
   where
     go : (long good : Bool) → n ≡ tests long good false → n ≡ tests long good short
@@ -62,7 +62,7 @@ due-refused limit s short n z h = go (ltb limit (length s)) (utf8 s) h
     go false true h = absurd (z h)
 
 -- in an accepted text the buffer's length decides
-due-accepted : (limit : ℕ) (s : List ℕ) (short : Bool) → textRefusal limit s ≡ 0 → refusal (textDue limit s short) ≡ cond short (number BufferTooShort) 0
+due-accepted : (limit : ℕ) (s : List ℕ) (short : Bool) → textRefusal limit s ≡ 0 → numberDue (textDue limit s short) ≡ cond short (number BufferTooShort) 0
 due-accepted limit s short h = go (ltb limit (length s)) (utf8 s) h
   where
     go : (long good : Bool) → tests long good false ≡ 0 → tests long good short ≡ cond short (number BufferTooShort) 0
@@ -75,7 +75,7 @@ module _ (s store : List ℕ) (n : ℕ) (due : n ≡ textRefusal textLimit s) wh
   short = ltb (length store) (length (unitWord s))
 
   pub word-refused : (n ≡ 0 → ⊥) → record { refusal = n; value = record { found = false; size = 0; store = store } } ≡ wordCall s store
-  word-refused z = call-refused _ _ n (refusal (textDue textLimit s short)) z (due-refused textLimit s short n z due)
+  word-refused z = call-refused _ _ n (numberDue (textDue textLimit s short)) z (due-refused textLimit s short n z due)
 
   -- an accepted text that is a unit
   pub word-found : n ≡ 0 → unitIndex s < 22 → storeCall (unitWord s) store ≡ wordCall s store

@@ -4,7 +4,7 @@ use mathlib.Core.List.{List}
 use Prim.Native.Nat.{ℕ}
 use lib.Dec.{ltb}
 use lib.ListN.{length}
-use Rattle.admit.specs.Refusals.{number, refusal, textLimit, textDue, textRefusal, Call, call}
+use Rattle.admit.specs.Refusals.{number, numberDue, textLimit, textDue, textRefusal, Call, call}
 use Rattle.admit.specs.declared.Refusal.the-variants.{BufferTooShort}
 use Rattle.lists.specs.Bytes.{over}
 use Rattle.units.specs.Units.{isUnit, unitWord}
@@ -77,5 +77,5 @@ storeCall word store =
 abbrev pub wordCall : List ℕ → List ℕ → Call Stored
 wordCall s store =
     call (record { found = false; size = 0; store = store })
-    (refusal (textDue textLimit s (ltb (length store) (length (unitWord s)))))
+    (numberDue (textDue textLimit s (ltb (length store) (length (unitWord s)))))
     (record { found = isUnit s; size = length (unitWord s); store = over (unitWord s) store })

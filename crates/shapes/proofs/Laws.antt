@@ -10,12 +10,12 @@ use borrow.Author.Tests.{ne-eqb, ltb-true, leb-true, eqb-true}
 use Rattle.lists.specs.Bytes.{all, span, split, onto, allParts, filled}
 use Rattle.lists.specs.Classes.{digit, digitOrComma, digitOrDash, except}
 use Rattle.lists.proofs.Parts.{split-some, split-more, split-last}
-use Rattle.shapes.specs.Shapes.{isDigits, isThreeDigits, isCommaGroups, isCommaInt, isNDigits, isPhoneParts, isHourMinute, isSevenDigitPhone, isTime, splitOnce, unitAt, hasUnit}
+use Rattle.shapes.specs.Shapes.{isDigits, isCommaGroups, isCommaInt, isNDigits, isPhoneParts, isHourMinute, isSevenDigitPhone, isTime, splitOnce, unitAt, hasUnit}
 use Rattle.units.specs.Units.{isUnit}
 use Rattle.units.proofs.Laws.{empty-none}
 
 -- a comma
-pub comma-more : (s : List ℕ) → span (except 44) s < length s → isCommaInt s ≡ isDigits (take (span (except 44) s) s) && leb (length (take (span (except 44) s) s)) 3 && allParts isThreeDigits (split 44 (drop (span (except 44) s + 1) s))
+pub comma-more : (s : List ℕ) → span (except 44) s < length s → isCommaInt s ≡ isDigits (take (span (except 44) s) s) && leb (length (take (span (except 44) s) s)) 3 && allParts (isNDigits 3) (split 44 (drop (span (except 44) s + 1) s))
 unfolding isCommaGroups
 comma-more s h =
     let g = split-some 44 (drop (span (except 44) s + 1) s) in

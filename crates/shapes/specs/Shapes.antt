@@ -1,7 +1,8 @@
--- The shape verdicts of patterns.rs, each written from the Rust function of its name, in that file's order. Definitions only.
+-- The shape verdicts of patterns.rs, each written from the Rust function of its name, in that file's order but for is_n_digits, which others use. Definitions only.
 use mathlib.Core.Bool.{Bool, false, cond, not, _&&_, _||_}
 use mathlib.Core.List.{List, [], _∷_}
 use Prim.Native.Nat.{ℕ, _+_, _-_}
+use Prim.Native.Char.{code}
 use lib.Dec.{leb, ltb, eqb}
 use lib.ListN.{length, take, drop, getD}
 use Rattle.lists.specs.Bytes.{bytes, all, span, afterLast, has, same, sameBy, lower, starts, ends, stripPrefix, stripSuffix, endsBy, split, allParts, filled}
@@ -11,16 +12,19 @@ use Rattle.units.specs.Units.{isUnit}
 unfoldable pub isDigits : List ℕ → Bool
 isDigits s = not (eqb (length s) 0) && all digit s
 
+abbrev pub isNDigits : ℕ → List ℕ → Bool
+isNDigits n s = eqb (length s) n && isDigits s
+
 unfoldable pub isAlpha : List ℕ → Bool
 isAlpha s = not (eqb (length s) 0) && all letter s
 
 -- strip_prefix(['+', '-'])
 abbrev pub stripSign : List ℕ → List ℕ
-stripSign s = cond (starts 43 s || starts 45 s) (drop 1 s) s
+stripSign s = cond (starts (code "+") s || starts (code "-") s) (drop 1 s) s
 
 -- the end of is_double: an exponent, or nothing
 unfoldable pub isExponent : List ℕ → Bool
-isExponent s = cond (starts 101 s || starts 69 s) (isDigits (stripSign (drop 1 s))) (eqb (length s) 0)
+isExponent s = cond (starts (code "e") s || starts (code "E") s) (isDigits (stripSign (drop 1 s))) (eqb (length s) 0)
 
 -- is_double past its minus: digits, a point with digits, an exponent
 unfoldable pub isUnsigned : List ℕ → Bool
@@ -28,24 +32,21 @@ isUnsigned s =
     let int = span digit s in
     let rest = drop int s in
     let frac = span digit (drop 1 rest) in
-    cond (starts 46 rest)
+    cond (starts (code ".") rest)
     (not (eqb int 0 && eqb frac 0) && isExponent (drop frac (drop 1 rest)))
     (not (eqb int 0) && isExponent rest)
 
 -- "one leading minus and no plus"
 abbrev pub isDouble : List ℕ → Bool
-isDouble s = isUnsigned (stripPrefix 45 s)
-
-abbrev pub isThreeDigits : List ℕ → Bool
-isThreeDigits s = eqb (length s) 3 && isDigits s
+isDouble s = isUnsigned (stripPrefix (code "-") s)
 
 unfoldable pub isCommaGroups : List (List ℕ) → Bool
 isCommaGroups [] = false
-isCommaGroups (first ∷ groups) = isDigits first && leb (length first) 3 && not (eqb (length groups) 0) && allParts isThreeDigits groups
+isCommaGroups (first ∷ groups) = isDigits first && leb (length first) 3 && not (eqb (length groups) 0) && allParts (isNDigits 3) groups
 
 -- "a comma, a first group of 1 to 3 digits and further groups of 3"
 abbrev pub isCommaInt : List ℕ → Bool
-isCommaInt s = isCommaGroups (split 44 s)
+isCommaInt s = isCommaGroups (split (code ",") s)
 
 -- the byte starts a character (is_char_boundary)
 abbrev pub startsChar : ℕ → Bool
@@ -66,10 +67,10 @@ unfoldable pub isAmount : List ℕ → Bool
 isAmount s =
     let whole = span digitOrComma s in
     let rest = drop whole s in
-    not (eqb whole 0) && cond (starts 46 rest) (isDigits (drop 1 rest)) (eqb (length rest) 0)
+    not (eqb whole 0) && cond (starts (code ".") rest) (isDigits (drop 1 rest)) (eqb (length rest) 0)
 
 abbrev pub isUsMoney : List ℕ → Bool
-isUsMoney s = starts 36 s && isAmount (drop 1 s)
+isUsMoney s = starts (code "$") s && isAmount (drop 1 s)
 
 abbrev pub isIllion : List ℕ → Bool
 isIllion s = endsBy (λ b. b) (bytes "illion") s
@@ -81,19 +82,16 @@ isSmallRoman s =
     || same s (bytes "VI") || same s (bytes "VII") || same s (bytes "VIII") || same s (bytes "IX")
 
 abbrev pub isRoman : List ℕ → Bool
-isRoman s = isSmallRoman s || (starts 88 s && all romanTail (drop 1 s))
+isRoman s = isSmallRoman s || (starts (code "X") s && all romanTail (drop 1 s))
 
 abbrev pub isDrOrSt : List ℕ → Bool
 isDrOrSt s = sameBy lower s (bytes "dr") || sameBy lower s (bytes "st")
 
 abbrev pub isNumberS : List ℕ → Bool
-isNumberS s = leb 2 (length s) && ends 115 s && isDigits (take (length s - 1) s)
+isNumberS s = leb 2 (length s) && ends (code "s") s && isDigits (take (length s - 1) s)
 
 abbrev pub isLeadingZeroDigits : List ℕ → Bool
-isLeadingZeroDigits s = ltb 1 (length s) && starts 48 s && isDigits s
-
-abbrev pub isNDigits : ℕ → List ℕ → Bool
-isNDigits n s = eqb (length s) n && isDigits s
+isLeadingZeroDigits s = ltb 1 (length s) && starts (code "0") s && isDigits s
 
 -- split_once(c): c stands in the text, and both, a test, passes what stands before the first c and what stands after it
 unfoldable pub splitOnce : ℕ → (List ℕ → List ℕ → Bool) → List ℕ → Bool
@@ -103,30 +101,30 @@ abbrev pub isPhoneParts : List ℕ → List ℕ → Bool
 isPhoneParts a b = isNDigits 3 a && isNDigits 4 b
 
 abbrev pub isSevenDigitPhone : List ℕ → Bool
-isSevenDigitPhone = splitOnce 45 isPhoneParts
+isSevenDigitPhone = splitOnce (code "-") isPhoneParts
 
 -- an hour of 1 or 2 digits, and a minute of 2 of which the first is at most 5: "hours aren't limited"
 unfoldable pub isHourMinute : List ℕ → List ℕ → Bool
-isHourMinute h m = leb 1 (length h) && leb (length h) 2 && isDigits h && isNDigits 2 m && leb (getD m 0 0) 53
+isHourMinute h m = leb 1 (length h) && leb (length h) 2 && isDigits h && isNDigits 2 m && leb (getD m 0 0) (code "5")
 
 abbrev pub isTime : List ℕ → Bool
-isTime = splitOnce 58 isHourMinute
+isTime = splitOnce (code ":") isHourMinute
 
 abbrev pub isOneLetter : List ℕ → Bool
 isOneLetter s = eqb (length s) 1 && isAlpha s
 
 unfoldable pub isDottedAbbrev : List ℕ → Bool
-isDottedAbbrev s = let parts = split 46 (stripSuffix 46 s) in leb 2 (length parts) && allParts isOneLetter parts
+isDottedAbbrev s = let parts = split (code ".") (stripSuffix (code ".") s) in leb 2 (length parts) && allParts isOneLetter parts
 
 abbrev pub areDigits : List ℕ → List ℕ → Bool
 areDigits a b = isDigits a && isDigits b
 
 abbrev pub isDigitsSlashDigits : List ℕ → Bool
-isDigitsSlashDigits = splitOnce 47 areDigits
+isDigitsSlashDigits = splitOnce (code "/") areDigits
 
 -- "drops empty parts"
 unfoldable pub isDigitsDashDigits : List ℕ → Bool
-isDigitsDashDigits s = let parts = filled (split 45 s) in leb 2 (length parts) && has 45 s && allParts isDigits parts
+isDigitsDashDigits s = let parts = filled (split (code "-") s) in leb 2 (length parts) && has (code "-") s && allParts isDigits parts
 
 -- split_unit: where the unit starts, "after the last digit"
 abbrev pub unitAt : List ℕ → ℕ

@@ -3,11 +3,11 @@ use mathlib.Core.Bool.{Bool, false}
 use mathlib.Core.List.{List, [], _∷_}
 use Prim.Native.Nat.{ℕ}
 use lib.ListN.{getD}
-use Rattle.shapes.specs.Shapes.{isThreeDigits, isOneLetter, isPhoneParts, isHourMinute, areDigits}
+use Rattle.shapes.specs.Shapes.{isNDigits, isOneLetter, isPhoneParts, isHourMinute, areDigits}
 
 -- the tests of a part between separators
 abbrev pub passes : ℕ → List ℕ → Bool
-passes k = getD (isThreeDigits ∷ isOneLetter ∷ []) k (λ s. false)
+passes k = getD (isNDigits 3 ∷ isOneLetter ∷ []) k (λ s. false)
 
 -- the tests of the two parts at a first separator
 abbrev pub bothPass : ℕ → List ℕ → List ℕ → Bool

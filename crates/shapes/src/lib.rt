@@ -69,7 +69,7 @@ pub fn is_alpha(s: &[u8]) -> bool
 fn strip_sign(s: &[u8]) -> &[u8]
     ensures { λ r. ⌜ now r ≡ stripSign (now (s .entry)) ⌝ }
 {
-    if starts_with(s, 43) | starts_with(s, 45) {
+    if starts_with(s, b'+') | starts_with(s, b'-') {
         return tail(s, 1);
     }
     s
@@ -78,7 +78,7 @@ fn strip_sign(s: &[u8]) -> &[u8]
 fn is_exponent(s: &[u8]) -> bool
     ensures { λ r. ⌜ r ≡ isExponent (now (s .entry)) ⌝ }
 {
-    if starts_with(s, 101) | starts_with(s, 69) {
+    if starts_with(s, b'e') | starts_with(s, b'E') {
         return is_digits(strip_sign(tail(s, 1)));
     }
     s.len() == 0
@@ -89,7 +89,7 @@ fn is_unsigned(s: &[u8]) -> bool
 {
     let int = span_of(DIGIT, 0, s);
     let rest = tail(s, int);
-    if starts_with(rest, 46) {
+    if starts_with(rest, b'.') {
         let after = tail(rest, 1);
         let frac = span_of(DIGIT, 0, after);
         return !((int == 0) & (frac == 0)) & is_exponent(tail(after, frac));
@@ -100,7 +100,7 @@ fn is_unsigned(s: &[u8]) -> bool
 pub fn is_double(s: &[u8]) -> bool
     ensures { λ r. ⌜ r ≡ isDouble (now (s .entry)) ⌝ }
 {
-    is_unsigned(strip_prefix(s, 45))
+    is_unsigned(strip_prefix(s, b'-'))
 }
 
 // Whether a part between separators passes.
@@ -135,12 +135,12 @@ fn all_parts(test: u8, c: u8, s: &[u8]) -> bool
 pub fn is_comma_int(s: &[u8]) -> bool
     ensures { λ r. ⌜ r ≡ isCommaInt (now (s .entry)) ⌝ }
 {
-    let n = span_of(NOT, 44, s);
+    let n = span_of(NOT, b',', s);
     if s.len() <= n {
         return false;
     }
     let first = front(s, n);
-    is_digits(first) & (first.len() <= 3) & all_parts(THREE_DIGITS, 44, tail(s, n + 1))
+    is_digits(first) & (first.len() <= 3) & all_parts(THREE_DIGITS, b',', tail(s, n + 1))
 }
 
 fn is_ordinal_suffix(s: &[u8]) -> bool
@@ -170,7 +170,7 @@ fn is_amount(s: &[u8]) -> bool
 {
     let whole = span_of(DIGIT_OR_COMMA, 0, s);
     let rest = tail(s, whole);
-    if starts_with(rest, 46) {
+    if starts_with(rest, b'.') {
         return (whole != 0) & is_digits(tail(rest, 1));
     }
     (whole != 0) & (rest.len() == 0)
@@ -179,7 +179,7 @@ fn is_amount(s: &[u8]) -> bool
 pub fn is_us_money(s: &[u8]) -> bool
     ensures { λ r. ⌜ r ≡ isUsMoney (now (s .entry)) ⌝ }
 {
-    starts_with(s, 36) & is_amount(tail(s, 1))
+    starts_with(s, b'$') & is_amount(tail(s, 1))
 }
 
 pub fn is_illion(s: &[u8]) -> bool
@@ -205,7 +205,7 @@ fn is_small_roman(s: &[u8]) -> bool
 pub fn is_roman(s: &[u8]) -> bool
     ensures { λ r. ⌜ r ≡ isRoman (now (s .entry)) ⌝ }
 {
-    is_small_roman(s) | (starts_with(s, 88) & all_of(ROMAN_TAIL, 0, tail(s, 1)))
+    is_small_roman(s) | (starts_with(s, b'X') & all_of(ROMAN_TAIL, 0, tail(s, 1)))
 }
 
 pub fn is_dr_or_st(s: &[u8]) -> bool
@@ -217,13 +217,13 @@ pub fn is_dr_or_st(s: &[u8]) -> bool
 pub fn is_number_s(s: &[u8]) -> bool
     ensures { λ r. ⌜ r ≡ isNumberS (now (s .entry)) ⌝ }
 {
-    (2 <= s.len()) & ends_with(s, 115) & is_digits(without_back(s, 1))
+    (2 <= s.len()) & ends_with(s, b's') & is_digits(without_back(s, 1))
 }
 
 pub fn is_leading_zero_digits(s: &[u8]) -> bool
     ensures { λ r. ⌜ r ≡ isLeadingZeroDigits (now (s .entry)) ⌝ }
 {
-    (1 < s.len()) & starts_with(s, 48) & is_digits(s)
+    (1 < s.len()) & starts_with(s, b'0') & is_digits(s)
 }
 
 pub fn is_n_digits(s: &[u8], n: usize) -> bool
@@ -235,7 +235,7 @@ pub fn is_n_digits(s: &[u8], n: usize) -> bool
 fn is_hour_minute(h: &[u8], m: &[u8]) -> bool
     ensures { λ r. ⌜ r ≡ isHourMinute (now (h .entry)) (now (m .entry)) ⌝ }
 {
-    (1 <= h.len()) & (h.len() <= 2) & is_digits(h) & is_n_digits(m, 2) & (byte_at(m, 0) <= 53)
+    (1 <= h.len()) & (h.len() <= 2) & is_digits(h) & is_n_digits(m, 2) & (byte_at(m, 0) <= b'5')
 }
 
 // Whether the two parts at a first separator pass.
@@ -268,7 +268,7 @@ pub fn is_seven_digit_phone(s: &[u8]) -> bool
     if s.len() != 8 {
         return false;
     }
-    split_once(PHONE, 45, s)
+    split_once(PHONE, b'-', s)
 }
 
 pub fn is_time(s: &[u8]) -> bool
@@ -278,7 +278,7 @@ pub fn is_time(s: &[u8]) -> bool
     if 5 < s.len() {
         return false;
     }
-    split_once(HOUR_MINUTE, 58, s)
+    split_once(HOUR_MINUTE, b':', s)
 }
 
 fn ends_in_meridiem(s: &[u8]) -> bool
@@ -311,14 +311,14 @@ pub fn split_time_meridiem(s: &[u8]) -> TimeSplit
 pub fn is_dotted_abbrev(s: &[u8]) -> bool
     ensures { λ r. ⌜ r ≡ isDottedAbbrev (now (s .entry)) ⌝ }
 {
-    let core = strip_suffix(s, 46);
-    (span_of(NOT, 46, core) < core.len()) & all_parts(ONE_LETTER, 46, core)
+    let core = strip_suffix(s, b'.');
+    (span_of(NOT, b'.', core) < core.len()) & all_parts(ONE_LETTER, b'.', core)
 }
 
 pub fn is_digits_slash_digits(s: &[u8]) -> bool
     ensures { λ r. ⌜ r ≡ isDigitsSlashDigits (now (s .entry)) ⌝ }
 {
-    split_once(TWO_NUMBERS, 47, s)
+    split_once(TWO_NUMBERS, b'/', s)
 }
 
 // What a part of n bytes adds to the count of parts that are not empty.
@@ -348,7 +348,7 @@ fn filled_parts(c: u8, s: &[u8]) -> usize
 pub fn is_digits_dash_digits(s: &[u8]) -> bool
     ensures { λ r. ⌜ r ≡ isDigitsDashDigits (now (s .entry)) ⌝ }
 {
-    (2 <= filled_parts(45, s)) & (span_of(NOT, 45, s) < s.len()) & all_of(DIGIT_OR_DASH, 0, s)
+    (2 <= filled_parts(b'-', s)) & (span_of(NOT, b'-', s) < s.len()) & all_of(DIGIT_OR_DASH, 0, s)
 }
 
 fn has_unit(s: &[u8]) -> bool

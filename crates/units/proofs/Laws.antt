@@ -14,8 +14,9 @@ use borrow.Author.Tests.{lt-ltb, le-ltb, le-leb, lt-leb, leb-true, leb-false, eq
 use Rattle.lists.specs.Bytes.{all, same, sameBy}
 use Rattle.lists.specs.Packed.{packedRow}
 use Rattle.lists.proofs.Scan.{same-long}
-use Rattle.lists.proofs.Table.{below, sameb, sameb→≡}
-use Rattle.lexicon.specs.Lexicon.{words, packed}
+use Rattle.lists.proofs.Table.{below, same→≡}
+use Rattle.lexicon.specs.Lexicon.{words, wordOf, packed}
+use Rattle.lexicon.proofs.Laws as lexicon
 use Rattle.units.specs.Units.{unitAbbreviations, abbreviations, unitWords, before, unitIndex, isUnit, unitWord, value, unitKey, unitKeys, wordNumbers}
 
 -- two numbers of a lowest digit and a rest are equal where both parts are
@@ -93,11 +94,13 @@ row-same u k b h =
 
 -- row k's word is the lexicon's of its number
 worded : ℕ → Bool
-worded k = sameb (packedRow 16 packed (getD wordNumbers k 0)) (getD unitWords k [])
+worded k = ltb (getD wordNumbers k 0) 16 && same (wordOf (getD wordNumbers k 0)) (getD unitWords k [])
 
 pub word-row : (k : ℕ) → k < 22 → packedRow 16 packed (getD wordNumbers k 0) ≡ getD unitWords k []
-unfolding worded packedRow packed wordNumbers before words unitWords unitAbbreviations sameBy
-word-row k h = sameb→≡ _ _ (below worded 22 tt k h)
+unfolding worded wordNumbers before words wordOf unitWords unitAbbreviations sameBy
+word-row k h =
+    let y = and-yes (ltb (getD wordNumbers k 0) 16) (same (wordOf (getD wordNumbers k 0)) (getD unitWords k [])) (below worded 22 tt k h) in
+    lexicon.word-row (getD wordNumbers k 0) (ltb→lt _ _ (y .0)) ∙ same→≡ _ _ (y .1)
 
 pub rows : length unitAbbreviations ≡ 22
 unfolding unitAbbreviations
