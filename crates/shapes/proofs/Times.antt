@@ -1,50 +1,42 @@
--- What the offsets of a time stand for: an hour and a minute that pass, and parts that join to the name. Assumes nothing.
+-- The offsets of a time stand for its parts. Assumes nothing.
 use mathlib.Core.Path.{_≡_, refl, sym}
 use mathlib.Core.Bool.{Bool, true, false, cond, _&&_}
-use mathlib.Core.List.{List, _∷_, _++_}
-use Prim.Native.Nat.{ℕ, suc, _+_, _-_, _≤_}
+use mathlib.Core.List.{List, [], _∷_}
+use Prim.Native.Nat.{ℕ, zero, suc, _+_, _-_}
 use native.Mathlib.Omega.{arith}
 use lib.Dec.{ltb}
-use lib.ListN.{length, take, drop, getD, take-append-drop}
-use lib.Seq.{split-at, drop-drop, length-take-le}
+use lib.ListN.{length, take, drop}
+use lib.Seq.{take-take, length-take-le, take-nil}
 use borrow.Author.Tests.{ltb-true}
 use Rattle.shapes.specs.Shapes.{isHourMinute}
-use Rattle.shapes.specs.Times.{endsInMeridiem, separatorAt, timeSplit, hourOf, minuteOf, meridiemOf}
+use Rattle.shapes.specs.Times.{endsInMeridiem, separatorAt, timeOf, parts, none, timeParts, timeSplit, partsOf, SplitsTime}
+use Rattle.shapes.specs.declared.TimeSplit.{TimeSplit}
 use Rattle.shapes.specs.declared.TimeSplit.the-variants.{At, Nothing}
 
--- the offsets lie in the name, in their order
-pub record Placed (s : List ℕ) (hour minute meridiem : ℕ) : Type 0 where
-  pub next : minute ≡ hour + 1
-  pub ordered : minute ≤ meridiem
-  pub last : meridiem + 2 ≤ length s
+-- what follows the first m of the first n bytes
+drop-take : (m n : ℕ) (s : List ℕ) → drop m (take n s) ≡ take (n - m) (drop m s)
+drop-take zero n s = let e : n - 0 ≡ n = omega arith in rw e
+drop-take (suc m) zero s = let e : 0 - suc m ≡ 0 = omega arith in rw e
+drop-take (suc m) (suc n) [] = sym (take-nil (suc n - suc m))
+drop-take (suc m) (suc n) (b ∷ s) = let e : suc n - suc m ≡ n - m = omega arith in rw e (drop-take m n s)
 
-pub split-placed : (s : List ℕ) (h m d : ℕ) → timeSplit s ≡ At h m d → Placed s h m d
-unfolding timeSplit
-split-placed s h m d = go (endsInMeridiem s) (ltb sep (length time)) refl (isHourMinute (take sep time) (drop (sep + 1) time))
+pub split-parts : (s : List ℕ) → partsOf (timeSplit s) s ≡ timeParts s
+unfolding timeSplit timeParts
+split-parts s = go (endsInMeridiem s) (ltb sep (length (timeOf s))) refl (isHourMinute (take sep (timeOf s)) (drop (sep + 1) (timeOf s)))
   where
-    time : List ℕ
-    time = take (length s - 2) s
-
     sep : ℕ
-    sep = separatorAt time
+    sep = separatorAt (timeOf s)
 
-    go : (a b : Bool) → ltb sep (length time) ≡ b → (t : Bool) → cond (a && (b && t)) (At sep (sep + 1) (length s - 2)) Nothing ≡ At h m d → Placed s h m d
-    go true true e true q =
-        let x : sep ≡ h = cc in
-        let y : sep + 1 ≡ m = cc in
-        let z : length s - 2 ≡ d = cc in
-        let l = ltb-true sep (length time) e in
-        let k : length time ≡ length s - 2 = length-take-le (length s - 2) s (omega arith) in
-        record { next = omega arith; ordered = omega arith; last = omega arith }
-    go true true e false q = absurd (let z : _≡_ {A = ℕ} 0 1 = cc in omega arith)
-    go true false e t q = absurd (let z : _≡_ {A = ℕ} 0 1 = cc in omega arith)
-    go false b e t q = absurd (let z : _≡_ {A = ℕ} 0 1 = cc in omega arith)
+    go : (a b : Bool) → ltb sep (length (timeOf s)) ≡ b → (t : Bool)
+        → partsOf (cond (a && (b && t)) (At sep (sep + 1) (length s - 2)) Nothing) s
+        ≡ cond (a && (b && t)) (parts (take sep (timeOf s)) (drop (sep + 1) (timeOf s)) (drop (length s - 2) s)) none
+    go true true e true =
+        let l = ltb-true sep (length (timeOf s)) e in
+        let k : length (timeOf s) ≡ length s - 2 = length-take-le (length s - 2) s (omega arith) in
+        rw (take-take sep (length s - 2) s (omega arith), drop-take (sep + 1) (length s - 2) s)
+    go true true e false = refl
+    go true false e t = refl
+    go false b e t = refl
 
--- hour, separator, minute and meridiem are the name
-pub split-joined : (s : List ℕ) (h m d : ℕ) → timeSplit s ≡ At h m d → hourOf (At h m d) s ++ (getD s h 0 ∷ (minuteOf (At h m d) s ++ meridiemOf (At h m d) s)) ≡ s
-split-joined s h m d e =
-    let p = split-placed s h m d e in
-    let k : m + (d - m) ≡ d = omega arith in
-    let n : m ≡ suc h = omega arith in
-    let r : take (d - m) (drop m s) ++ drop d s ≡ drop m s = rw (drop-drop, k) at (take-append-drop (d - m) (drop m s)) in
-    rw (r, n) (sym (split-at s h 0 (omega arith)))
+pub splits : (s : List ℕ) (r : TimeSplit) → r ≡ timeSplit s → SplitsTime s r
+splits s r e = record { offsets = e; named = rw e (split-parts s) }

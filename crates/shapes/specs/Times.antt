@@ -1,6 +1,7 @@
 -- split_time_meridiem of patterns.rs: its answer as offsets, and what the offsets stand for. Definitions only.
+use mathlib.Core.Path.{_≡_}
 use mathlib.Core.Bool.{Bool, cond, _&&_, _||_}
-use mathlib.Core.List.{List, []}
+use mathlib.Core.List.{List}
 use Prim.Native.Nat.{ℕ, _+_, _-_}
 use lib.Dec.{ltb}
 use lib.ListN.{length, take, drop}
@@ -19,23 +20,36 @@ abbrev pub separatorAt : List ℕ → ℕ
 separatorAt time = span colonNorPoint time
 
 -- "answers hour, minute and meridiem, or none"
+pub data TimeParts : Type 0 where
+  parts : (hour minute meridiem : List ℕ) → TimeParts
+  none : TimeParts
+
+-- the time without its meridiem
+abbrev pub timeOf : List ℕ → List ℕ
+timeOf s = take (length s - 2) s
+
+-- am or pm at the end, and before it an hour, a separator and a minute
+abbrev pub isMeridiemTime : List ℕ → Bool
+isMeridiemTime s =
+    let sep = separatorAt (timeOf s) in
+    endsInMeridiem s && (ltb sep (length (timeOf s)) && isHourMinute (take sep (timeOf s)) (drop (sep + 1) (timeOf s)))
+
+-- split_time_meridiem, as the Rust has it
+unfoldable pub timeParts : List ℕ → TimeParts
+timeParts s =
+    let sep = separatorAt (timeOf s) in
+    cond (isMeridiemTime s) (parts (take sep (timeOf s)) (drop (sep + 1) (timeOf s)) (drop (length s - 2) s)) none
+
+-- the same as offsets: where the hour ends, where the minute starts, and where it ends and the meridiem starts
 unfoldable pub timeSplit : List ℕ → TimeSplit
-timeSplit s =
-    let time = take (length s - 2) s in
-    let sep = separatorAt time in
-    cond (endsInMeridiem s && (ltb sep (length time) && isHourMinute (take sep time) (drop (sep + 1) time)))
-    (At sep (sep + 1) (length s - 2))
-    Nothing
+timeSplit s = let sep = separatorAt (timeOf s) in cond (isMeridiemTime s) (At sep (sep + 1) (length s - 2)) Nothing
 
--- the three as parts of the name s
-abbrev pub hourOf : TimeSplit → List ℕ → List ℕ
-hourOf (At hour minute meridiem) s = take hour s
-hourOf Nothing s = []
+-- what the offsets stand for in the name s
+abbrev pub partsOf : TimeSplit → List ℕ → TimeParts
+partsOf (At hour minute meridiem) s = parts (take hour s) (take (meridiem - minute) (drop minute s)) (drop meridiem s)
+partsOf Nothing s = none
 
-abbrev pub minuteOf : TimeSplit → List ℕ → List ℕ
-minuteOf (At hour minute meridiem) s = take (meridiem - minute) (drop minute s)
-minuteOf Nothing s = []
-
-abbrev pub meridiemOf : TimeSplit → List ℕ → List ℕ
-meridiemOf (At hour minute meridiem) s = drop meridiem s
-meridiemOf Nothing s = []
+-- what split_time_meridiem answers of the name s: these offsets, and so these parts
+pub record SplitsTime (s : List ℕ) (r : TimeSplit) : Type 0 where
+  pub offsets : r ≡ timeSplit s
+  pub named : partsOf r s ≡ timeParts s

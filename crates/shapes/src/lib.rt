@@ -29,7 +29,7 @@ ghost use Prim.Native.Nat.{min};
 ghost use lib.ListN.{length};
 ghost use Rattle.lists.specs.Bytes.{split, allParts, filled};
 ghost use Rattle.shapes.specs.Shapes.{isDigits, isAlpha, stripSign, isExponent, isUnsigned, isDouble, isCommaInt, isOrdinalSuffix, isOrdinal, isAmount, isUsMoney, isIllion, isSmallRoman, isRoman, isDrOrSt, isNumberS, isLeadingZeroDigits, isSevenDigitPhone, isNDigits, splitOnce, isHourMinute, isTime, isDottedAbbrev, isDigitsSlashDigits, isDigitsDashDigits, hasUnit, unitPart};
-ghost use Rattle.shapes.specs.Times.{endsInMeridiem, timeSplit};
+ghost use Rattle.shapes.specs.Times.{endsInMeridiem, SplitsTime};
 ghost use Rattle.shapes.specs.Tests.{passes, bothPass};
 
 // The tests of a part between separators, by number.
@@ -288,7 +288,7 @@ fn ends_in_meridiem(s: &[u8]) -> bool
 }
 
 pub fn split_time_meridiem(s: &[u8]) -> TimeSplit
-    ensures { λ r. ⌜ r ≡ timeSplit (now (s .entry)) ⌝ }
+    ensures { λ r. ⌜ SplitsTime (now (s .entry)) r ⌝ }
 {
     if !ends_in_meridiem(s) {
         return TimeSplit::Nothing;

@@ -4,25 +4,26 @@ use Prim.Native.Nat.{_-_, min}
 use lib.ListN.{length, length-take}
 use borrow.Author.Tests.{lt-ltb, le-ltb, not-true, not-false}
 use Rattle.shapes.specs.Times.{timeSplit}
+use Rattle.shapes.proofs.Times.{splits}
 use borrow.Author.Needs.{needs}
 use Rattle.shapes.proofs.split_time_meridiem.Statement.{statement}
 use Rattle.shapes.proofs.split_time_meridiem.Tie as tie
 
 returns : tie.Need-returns
 unfolding timeSplit
-returns c = rw (← c .before .ends-in-meridiem .ensures, not-true (c .before .ends-in-meridiem .result) (c .if1 .taken))
+returns c = splits _ _ (rw (← c .before .ends-in-meridiem .ensures, not-true (c .before .ends-in-meridiem .result) (c .if1 .taken)))
 
 returns-2 : tie.Need-returns-2
 unfolding timeSplit
-returns-2 c = rw (← c .before .before .before .before .ends-in-meridiem .ensures, not-false (c .before .before .before .before .ends-in-meridiem .result) (c .before .before .before .if1 .left), ← c .before .before .without-back .ensures, ← c .before .span-of .ensures, le-ltb _ _ (c .if2 .taken))
+returns-2 c = splits _ _ (rw (← c .before .before .before .before .ends-in-meridiem .ensures, not-false (c .before .before .before .before .ends-in-meridiem .result) (c .before .before .before .if1 .left), ← c .before .before .without-back .ensures, ← c .before .span-of .ensures, le-ltb _ _ (c .if2 .taken)))
 
 returns-3 : tie.Need-returns-3
 unfolding timeSplit
-returns-3 c = let m : min (length (c .before .before .before .before .before .before .before .before .before .before .args .s .now) - 2) (length (c .before .before .before .before .before .before .before .before .before .before .args .s .now)) ≡ length (c .before .before .before .before .before .before .before .before .before .before .args .s .now) - 2 = omega arith in rw (← c .before .before .before .before .before .before .before .before .ends-in-meridiem .ensures, not-false (c .before .before .before .before .before .before .before .before .ends-in-meridiem .result) (c .before .before .before .before .before .before .before .if1 .left), ← c .before .before .before .before .before .before .without-back .ensures, ← c .before .before .before .before .before .span-of .ensures, lt-ltb _ _ (c .before .before .before .before .if2 .left), ← c .before .before .before .front .ensures, ← c .before .before .tail .ensures, ← c .before .is-hour-minute .ensures, c .if3 .taken, c .before .before .before .before .before .before .without-back .ensures, length-take, m)
+returns-3 c = let m : min (length (c .before .before .before .before .before .before .before .before .before .before .args .s .now) - 2) (length (c .before .before .before .before .before .before .before .before .before .before .args .s .now)) ≡ length (c .before .before .before .before .before .before .before .before .before .before .args .s .now) - 2 = omega arith in splits _ _ (rw (← c .before .before .before .before .before .before .before .before .ends-in-meridiem .ensures, not-false (c .before .before .before .before .before .before .before .before .ends-in-meridiem .result) (c .before .before .before .before .before .before .before .if1 .left), ← c .before .before .before .before .before .before .without-back .ensures, ← c .before .before .before .before .before .span-of .ensures, lt-ltb _ _ (c .before .before .before .before .if2 .left), ← c .before .before .before .front .ensures, ← c .before .before .tail .ensures, ← c .before .is-hour-minute .ensures, c .if3 .taken, c .before .before .before .before .before .before .without-back .ensures, length-take, m))
 
 returns-4 : tie.Need-returns-4
 unfolding timeSplit
-returns-4 c = rw (← c .before .before .before .before .before .before .before .before .ends-in-meridiem .ensures, not-false (c .before .before .before .before .before .before .before .before .ends-in-meridiem .result) (c .before .before .before .before .before .before .before .if1 .left), ← c .before .before .before .before .before .before .without-back .ensures, ← c .before .before .before .before .before .span-of .ensures, lt-ltb _ _ (c .before .before .before .before .if2 .left), ← c .before .before .before .front .ensures, ← c .before .before .tail .ensures, ← c .before .is-hour-minute .ensures, c .if3 .left)
+returns-4 c = splits _ _ (rw (← c .before .before .before .before .before .before .before .before .ends-in-meridiem .ensures, not-false (c .before .before .before .before .before .before .before .before .ends-in-meridiem .result) (c .before .before .before .before .before .before .before .if1 .left), ← c .before .before .before .before .before .before .without-back .ensures, ← c .before .before .before .before .before .span-of .ensures, lt-ltb _ _ (c .before .before .before .before .if2 .left), ← c .before .before .before .front .ensures, ← c .before .before .tail .ensures, ← c .before .is-hour-minute .ensures, c .if3 .left))
 
 pub split-time-meridiem-spec : {M : Type 1} → statement M
 split-time-meridiem-spec =
