@@ -4,7 +4,7 @@ set -euo pipefail
 cd "$(dirname "$0")/.."
 
 tests/reference.sh
-[ -e target/staticlib/libvoice.a ] || rt staticlib voice
+tests/library.sh
 mkdir -p target/bench
 rustc --edition 2021 -C opt-level=3 -o target/bench/bench bench/bench.rs \
     -L target/reference --extern reference=target/reference/libreference.rlib \

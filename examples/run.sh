@@ -4,7 +4,7 @@ set -euo pipefail
 names=("$@")
 cd "$(dirname "$0")/.."
 
-[ -e target/staticlib/libvoice.a ] || rt staticlib voice
+tests/library.sh
 mkdir -p target/examples
 gcc -std=c99 -pedantic -Wall -Wextra -Werror -g -fsanitize=address,undefined -fno-sanitize-recover=all \
     -Iinclude -o target/examples/voice_unit examples/voice_unit.c target/staticlib/libvoice.a

@@ -1,6 +1,6 @@
 /* howhakiru: the reader of the voice unit, for C.
  *
- * Link target/staticlib/libvoice.a, which `rt staticlib voice` writes for x86-64 Linux; it needs no other library.
+ * Link target/staticlib/libvoice.a, which `rt staticlib voice` writes for x86-64 Linux. Of the C library it needs memcpy alone.
  *
  *     const char *name = "9:30";
  *     hwk_verdict v = hwk_is_time((const uint8_t *)name, strlen(name));
@@ -17,7 +17,7 @@
  * tested in the order of their numbers below. A refused call answers its number with every other field 0, and leaves every
  * lent buffer as it was. In an accepted call the bytes of a buffer past the result stay as they were.
  *
- * Nothing is allocated and no call recurses; each needs less than 4 KiB of stack. Digits, letters and cases are ASCII's.
+ * Nothing is allocated and no call recurses; each needs less than 1 KiB of stack. Digits, letters and cases are ASCII's.
  */
 #ifndef HOWHAKIRU_H
 #define HOWHAKIRU_H

@@ -23,7 +23,7 @@ elif [ "$status" -ne 0 ]; then
     exit "$status"
 fi
 
-[ -e target/staticlib/libvoice.a ] || rt staticlib voice
+tests/library.sh
 mkdir -p target/compare
 rustc --edition 2021 -C opt-level=3 -o target/compare/harness tests/harness.rs \
     -L target/reference --extern reference=target/reference/libreference.rlib \

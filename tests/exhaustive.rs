@@ -1,4 +1,4 @@
-//! Every text of a few pieces over small alphabets, one alphabet for each family of shapes.
+//! Every text of a few pieces: over one alphabet of every piece, and over one for each family of shapes.
 
 use crate::comparison::Comparison;
 
@@ -64,7 +64,16 @@ const THEMES: &[Theme] = &[
     },
 ];
 
-pub fn run(comparison: &mut Comparison) {
+// Everything that some shape looks for, in one alphabet.
+const EVERY_PIECE: &[&str] = &[
+    "0", "1", "5", "9", "+", "-", ".", ",", ":", "/", "%", "$", "a", "p", "m", "A", "M", "e", "E", "s", "t", "h", "n", "d",
+    "r", "k", "g", "l", "b", "I", "V", "X", " ", "é", "𐍈",
+];
+
+/// `most` bounds the texts over the one alphabet of every piece.
+pub fn run(comparison: &mut Comparison, most: usize) {
+    comparison.begin("every piece");
+    each_text(&mut Vec::new(), most, EVERY_PIECE, &mut |text| comparison.every_call(text, 0));
     for theme in THEMES {
         comparison.begin(theme.name);
         each_text(&mut Vec::new(), theme.most, theme.pieces, &mut |text| comparison.every_call(text, 0));

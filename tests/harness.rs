@@ -20,6 +20,9 @@ mod voice;
 use comparison::Comparison;
 use random::Random;
 
+/// From this many seconds on there is time for every text of five pieces.
+const LONG: u64 = 600;
+
 fn main() {
     let arguments: Vec<u64> = std::env::args().skip(1).filter_map(|word| word.parse().ok()).collect();
     let [seconds, seed] = arguments[..] else {
@@ -29,7 +32,7 @@ fn main() {
     println!("compare: seed {seed}, {seconds} seconds");
     let start = Instant::now();
     let mut comparison = Comparison::new(seed);
-    fixed(&mut comparison);
+    fixed(&mut comparison, if seconds < LONG { 4 } else { 5 });
     println!("compare: fixed groups took {} s", start.elapsed().as_secs());
     let mut random = Random::new(seed);
     loop {
@@ -41,11 +44,12 @@ fn main() {
     comparison.finish();
 }
 
-fn fixed(comparison: &mut Comparison) {
+/// `most`: how many pieces of the alphabet of every piece a text has at most.
+fn fixed(comparison: &mut Comparison, most: usize) {
     comparison.null_pointers();
     short::named(comparison);
     short::one_byte_changed(comparison);
-    exhaustive::run(comparison);
+    exhaustive::run(comparison, most);
     utf8::exhaustive(comparison);
     utf8::placed(comparison);
     long::limits(comparison);

@@ -1,12 +1,18 @@
 #!/usr/bin/env bash
-# The header must compile alone, as C99 and as C++.
+# The header must compile alone, as C99 and as C++, and its constants and layouts must be the library's.
 set -euo pipefail
 cd "$(dirname "$0")/.."
 
-strict=(-pedantic -Wall -Wextra -Werror -fsyntax-only)
-gcc -x c -std=c99 "${strict[@]}" include/howhakiru.h
+strict=(-pedantic -Wall -Wextra -Werror)
+gcc -x c -std=c99 "${strict[@]}" -fsyntax-only include/howhakiru.h
 if command -v g++ >/dev/null; then
-    g++ -x c++ -std=c++11 "${strict[@]}" include/howhakiru.h
+    g++ -x c++ -std=c++11 "${strict[@]}" -fsyntax-only include/howhakiru.h
 else
     echo "header: g++ is not installed, so C++ is left out"
 fi
+
+tests/library.sh
+mkdir -p target/header
+gcc -std=c99 "${strict[@]}" -g -fsanitize=address,undefined -fno-sanitize-recover=all -Iinclude \
+    -o target/header/constants tests/constants.c target/staticlib/libvoice.a
+target/header/constants
