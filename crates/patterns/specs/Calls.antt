@@ -21,9 +21,11 @@ use Rattle.patterns.specs.declared.UnitWord.{UnitWord}
 abbrev pub asVerdict : Verdict → Call Bool
 asVerdict r = record { refusal = r .refusal; value = r .yes }
 
+-- what a refused call answers
 abbrev pub noVerdict : ℕ → Call Bool
 noVerdict n = record { refusal = n; value = false }
 
+-- what an accepted one does
 abbrev pub verdictGiven : Bool → Call Bool
 verdictGiven v = record { refusal = 0; value = v }
 
@@ -66,7 +68,7 @@ pub record Stored : Type 0 where
 abbrev pub asWord : UnitWord → List ℕ → Call Stored
 asWord r store = record { refusal = r .refusal; value = record { found = r .yes; size = r .len; store = store } }
 
--- an accepted text's word goes to the store, or it is too short
+-- the word of an accepted text goes to the store, or the store is too short for it
 abbrev pub storeCall : List ℕ → List ℕ → Call Stored
 storeCall word store =
     call (record { found = false; size = 0; store = store })
