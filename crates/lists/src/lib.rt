@@ -127,14 +127,14 @@ pub fn in_class(k: u8, c: u8, b: u8) -> bool
     ensures { λ r. ⌜ r ≡ inClass k c b ⌝ }
 {
     match k {
-        0 => b < 128,
-        1 => (b'0' <= b) & (b <= b'9'),
-        2 => ((b'A' <= b) & (b <= b'Z')) | ((b'a' <= b) & (b <= b'z')),
-        3 => ((b'0' <= b) & (b <= b'9')) | (b == b','),
-        4 => ((b'0' <= b) & (b <= b'9')) | (b == b'-'),
-        5 => (b == b'V') | (b == b'I') | (b == b'X'),
-        6 => !((b == b':') | (b == b'.')),
-        7 => b != c,
+        ASCII => b < 128,
+        DIGIT => (b'0' <= b) & (b <= b'9'),
+        LETTER => ((b'A' <= b) & (b <= b'Z')) | ((b'a' <= b) & (b <= b'z')),
+        DIGIT_OR_COMMA => ((b'0' <= b) & (b <= b'9')) | (b == b','),
+        DIGIT_OR_DASH => ((b'0' <= b) & (b <= b'9')) | (b == b'-'),
+        ROMAN_TAIL => (b == b'V') | (b == b'I') | (b == b'X'),
+        COLON_NOR_POINT => !((b == b':') | (b == b'.')),
+        NOT => b != c,
         _ => false,
     }
 }
@@ -184,7 +184,10 @@ pub fn after_last(k: u8, c: u8, s: &[u8]) -> usize
 pub fn fold_byte(lowered: bool, b: u8) -> u8
     ensures { λ r. ⌜ r ≡ folded lowered b ⌝ }
 {
-    if lowered { to_lower(b) } else { b }
+    match lowered {
+        EXACT => b,
+        LOWERED => to_lower(b),
+    }
 }
 
 // Whether t is s, with A to Z lowered where that is asked.

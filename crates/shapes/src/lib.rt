@@ -108,8 +108,8 @@ fn part_passes(test: u8, s: &[u8]) -> bool
     ensures { λ r. ⌜ r ≡ passes test (now (s .entry)) ⌝ }
 {
     match test {
-        0 => is_n_digits(s, 3),
-        1 => (s.len() == 1) & is_alpha(s),
+        THREE_DIGITS => is_n_digits(s, 3),
+        ONE_LETTER => (s.len() == 1) & is_alpha(s),
         _ => false,
     }
 }
@@ -243,9 +243,9 @@ fn pair_passes(test: u8, a: &[u8], b: &[u8]) -> bool
     ensures { λ r. ⌜ r ≡ bothPass test (now (a .entry)) (now (b .entry)) ⌝ }
 {
     match test {
-        0 => is_n_digits(a, 3) & is_n_digits(b, 4),
-        1 => is_hour_minute(a, b),
-        2 => is_digits(a) & is_digits(b),
+        PHONE => is_n_digits(a, 3) & is_n_digits(b, 4),
+        HOUR_MINUTE => is_hour_minute(a, b),
+        TWO_NUMBERS => is_digits(a) & is_digits(b),
         _ => false,
     }
 }
