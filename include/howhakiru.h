@@ -17,7 +17,9 @@
  * tested in the order of their numbers below. A refused call answers its number with every other field 0, and leaves every
  * lent buffer as it was. In an accepted call the bytes of a buffer past the result stay as they were.
  *
- * Nothing is allocated and no call recurses; each needs less than 1 KiB of stack. Digits, letters and cases are ASCII's.
+ * Nothing is allocated and no call recurses; each needs less than 1 KiB of stack. (Where a program is linked dynamically and
+ * bound lazily, its first call of memcpy, ours or another, needs the dynamic linker's own few KiB on top.) Digits, letters and
+ * cases are ASCII's.
  */
 #ifndef HOWHAKIRU_H
 #define HOWHAKIRU_H

@@ -3,6 +3,7 @@ use mathlib.Core.List.{List, [], _∷_, map}
 use Prim.Native.Nat.{ℕ}
 use lib.ListN.{getD}
 use Rattle.lists.specs.Bytes.{bytes}
+use Rattle.lists.specs.Packed.{packs}
 
 unfoldable pub words : List (List ℕ)
 words =
@@ -14,8 +15,6 @@ words =
 unfoldable pub wordOf : ℕ → List ℕ
 wordOf k = getD words k []
 
--- the words as the code holds them: rows of 16 bytes, a length, the letters, and padding
+-- the words as the code holds them: in rows of 16 bytes
 unfoldable pub packed : List ℕ
-packed =
-    bytes
-    "\u{6}pounds.........\u{4}feet...........\tkilograms......\nkilometers.....\u{b}centimeters....\u{b}millimeters....\u{b}milliliters....\u{6}ounces.........\u{5}hertz..........\tkilohertz......\tmegahertz......\tgigahertz......\tkilobytes......\tgigabytes......\tmegabytes......\tterabytes......"
+packed = packs 16 words

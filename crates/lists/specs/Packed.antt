@@ -1,7 +1,16 @@
--- Texts packed into rows of one width: a length, the bytes, and padding. Definitions only.
-use mathlib.Core.List.{List}
-use Prim.Native.Nat.{ℕ, _+_, _*_}
-use lib.ListN.{take, drop, getD}
+-- Texts packed into rows of one width. Definitions only.
+use mathlib.Core.List.{List, [], _∷_, _++_}
+use Prim.Native.Nat.{ℕ, _+_, _-_, _*_}
+use Prim.Native.Char.{code}
+use lib.ListN.{length, take, drop, getD, replicate}
+
+-- a text as a row of w bytes: its length, its bytes, and points
+unfoldable pub pack : ℕ → List ℕ → List ℕ
+pack w s = length s ∷ (s ++ replicate (w - 1 - length s) (code "."))
+
+unfoldable pub packs : ℕ → List (List ℕ) → List ℕ
+packs w [] = []
+packs w (s ∷ ss) = pack w s ++ packs w ss
 
 -- the text in row k of a table whose rows are w bytes wide
 unfoldable pub packedRow : ℕ → List ℕ → ℕ → List ℕ

@@ -1,0 +1,82 @@
+/* What the header says of stack: each call runs on a painted stack of its own, and what it touched is counted.
+ * Link with -z now: else the first memcpy counts what the dynamic linker takes to find it. */
+#define _XOPEN_SOURCE 600
+#include <assert.h>
+#include <stdio.h>
+#include <string.h>
+#include <ucontext.h>
+
+#include "howhakiru.h"
+
+#define PAINT 0xC3
+#define MOST 1024 /* the header's bound */
+
+typedef hwk_verdict verdict(const uint8_t *s, size_t s_len);
+
+static verdict *const verdicts[] = {
+    hwk_is_digits, hwk_is_alpha, hwk_is_double, hwk_is_comma_int, hwk_is_ordinal, hwk_is_us_money, hwk_is_illion,
+    hwk_is_roman, hwk_is_dr_or_st, hwk_is_number_s, hwk_is_leading_zero_digits, hwk_is_seven_digit_phone, hwk_is_time,
+    hwk_is_dotted_abbrev, hwk_is_digits_slash_digits, hwk_is_digits_dash_digits,
+};
+
+static const char *const names[] = {
+    "", "9:30am", "5kg", "kg", "mm", "-1.5e+10", "1,234,567", "U.S.A.", "1998-1999", "caf\xc3\xa9", "\xed\xa0\x80", "XIV",
+};
+
+static uint8_t stack[65536], sheet[HWK_TEXT_LIMIT], store[64];
+static const uint8_t *text;
+static size_t text_len, which;
+
+static void nothing(void) {}
+static void one_verdict(void) { verdicts[which](text, text_len); }
+static void n_digits(void) { hwk_is_n_digits(text, text_len, 4); }
+static void split_time(void) { hwk_split_time_meridiem(text, text_len); }
+static void split_unit(void) { hwk_split_unit(text, text_len); }
+static void unit_word(void) { hwk_unit_word(text, text_len, store, sizeof store); }
+
+/* The bytes that f touches, its way in and out included. */
+static size_t touched(void (*f)(void))
+{
+    static ucontext_t here, there;
+    size_t clean = 0;
+
+    memset(stack, PAINT, sizeof stack);
+    assert(getcontext(&there) == 0);
+    there.uc_stack.ss_sp = stack;
+    there.uc_stack.ss_size = sizeof stack;
+    there.uc_link = &here;
+    makecontext(&there, f, 0);
+    assert(swapcontext(&here, &there) == 0);
+    while (clean < sizeof stack && stack[clean] == PAINT) clean++;
+    return sizeof stack - clean;
+}
+
+static size_t larger(size_t a, size_t b) { return a < b ? b : a; }
+
+static size_t most_of_calls(void)
+{
+    size_t most = 0;
+
+    for (which = 0; which < sizeof verdicts / sizeof verdicts[0]; which++) most = larger(most, touched(one_verdict));
+    most = larger(most, touched(n_digits));
+    most = larger(most, touched(split_time));
+    most = larger(most, touched(split_unit));
+    return larger(most, touched(unit_word));
+}
+
+int main(void)
+{
+    size_t most = 0, i;
+
+    for (i = 0; i < sizeof names / sizeof names[0]; i++) {
+        text = (const uint8_t *)names[i];
+        text_len = strlen(names[i]);
+        most = larger(most, most_of_calls());
+    }
+    for (i = 0; i < sizeof sheet; i++) sheet[i] = i % 2 == 0 ? 0xC3 : 0xA9;
+    text = sheet;
+    text_len = sizeof sheet;
+    most = larger(most, most_of_calls()) - touched(nothing);
+    printf("header: the calls need %lu bytes of stack at most\n", (unsigned long)most);
+    return most < MOST ? 0 : 1;
+}
