@@ -1,20 +1,91 @@
 -- The words that are called, by number. Definitions only.
-use mathlib.Core.List.{List, [], _∷_, map}
+use mathlib.Core.List.{List, [], _∷_, _++_, map}
 use Prim.Native.Nat.{ℕ}
-use lib.ListN.{getD}
+use Prim.Native.String.{String}
+use lib.ListN.{take, drop, getD}
 use Rattle.lists.specs.Bytes.{bytes}
-use Rattle.lists.specs.Packed.{packs}
+use Rattle.lists.specs.LittleEndian.{leValue}
+use Rattle.lists.specs.Packed.{pack}
+
+-- the words of the unit abbreviations
+unfoldable pub units : List String
+units =
+    "pounds" ∷ "feet" ∷ "kilograms" ∷ "kilometers" ∷ "centimeters" ∷ "millimeters" ∷ "milliliters" ∷ "ounces"
+    ∷ "hertz" ∷ "kilohertz" ∷ "megahertz" ∷ "gigahertz" ∷ "kilobytes" ∷ "gigabytes" ∷ "megabytes" ∷ "terabytes" ∷ []
+
+-- the tables of numbers.rs: ONES, TEENS, TENS, and with "hundred" its scales, smallest first
+unfoldable pub ones : List String
+ones = "zero" ∷ "one" ∷ "two" ∷ "three" ∷ "four" ∷ "five" ∷ "six" ∷ "seven" ∷ "eight" ∷ "nine" ∷ []
+
+unfoldable pub teens : List String
+teens =
+    "ten" ∷ "eleven" ∷ "twelve" ∷ "thirteen" ∷ "fourteen" ∷ "fifteen" ∷ "sixteen"
+    ∷ "seventeen" ∷ "eighteen" ∷ "nineteen" ∷ []
+
+unfoldable pub tens : List String
+tens = "zero" ∷ "ten" ∷ "twenty" ∷ "thirty" ∷ "forty" ∷ "fifty" ∷ "sixty" ∷ "seventy" ∷ "eighty" ∷ "ninety" ∷ []
+
+unfoldable pub scales : List String
+scales = "hundred" ∷ "thousand" ∷ "million" ∷ "billion" ∷ []
+
+-- their ordinal forms, in the same order: ORDINAL_ONES, ORDINAL_TEENS, ORDINAL_TENS, and those of `ordinal_form`
+unfoldable pub ordinalOnes : List String
+ordinalOnes = "zeroth" ∷ "first" ∷ "second" ∷ "third" ∷ "fourth" ∷ "fifth" ∷ "sixth" ∷ "seventh" ∷ "eighth" ∷ "ninth" ∷ []
+
+unfoldable pub ordinalTeens : List String
+ordinalTeens =
+    "tenth" ∷ "eleventh" ∷ "twelfth" ∷ "thirteenth" ∷ "fourteenth" ∷ "fifteenth"
+    ∷ "sixteenth" ∷ "seventeenth" ∷ "eighteenth" ∷ "nineteenth" ∷ []
+
+unfoldable pub ordinalTens : List String
+ordinalTens =
+    "zeroth" ∷ "tenth" ∷ "twentieth" ∷ "thirtieth" ∷ "fortieth" ∷ "fiftieth"
+    ∷ "sixtieth" ∷ "seventieth" ∷ "eightieth" ∷ "ninetieth" ∷ []
+
+unfoldable pub ordinalScales : List String
+ordinalScales = "hundredth" ∷ "thousandth" ∷ "millionth" ∷ "billionth" ∷ []
+
+-- the other words of numbers.rs
+unfoldable pub others : List String
+others = "oh" ∷ "point" ∷ "minus" ∷ "plus" ∷ "e" ∷ []
+
+-- the words that have ordinal forms, and those forms
+unfoldable pub cardinals : List String
+cardinals = ones ++ (teens ++ (tens ++ scales))
+
+unfoldable pub ordinals : List String
+ordinals = ordinalOnes ++ (ordinalTeens ++ (ordinalTens ++ ordinalScales))
 
 unfoldable pub words : List (List ℕ)
-words =
-    map bytes
-    ("pounds" ∷ "feet" ∷ "kilograms" ∷ "kilometers" ∷ "centimeters" ∷ "millimeters" ∷ "milliliters" ∷ "ounces"
-    ∷ "hertz" ∷ "kilohertz" ∷ "megahertz" ∷ "gigahertz" ∷ "kilobytes" ∷ "gigabytes" ∷ "megabytes" ∷ "terabytes" ∷ [])
+words = map bytes (units ++ (cardinals ++ (ordinals ++ others)))
+
+-- where in `words` each table starts
+abbrev pub onesAt : ℕ
+onesAt = 16
+
+abbrev pub teensAt : ℕ
+teensAt = 26
+
+abbrev pub tensAt : ℕ
+tensAt = 36
+
+abbrev pub scalesAt : ℕ
+scalesAt = 46
+
+-- how far after each cardinal word its ordinal form stands
+abbrev pub ordinalStep : ℕ
+ordinalStep = 34
+
+abbrev pub othersAt : ℕ
+othersAt = 84
 
 -- the word of a number, nothing where there is none
 unfoldable pub wordOf : ℕ → List ℕ
 wordOf k = getD words k []
 
--- the words as the code holds them: in rows of 16 bytes
-unfoldable pub packed : List ℕ
-packed = packs 16 words
+-- a word as the code holds it: the two halves of its row of 16 bytes, as numbers
+unfoldable pub lowOf : ℕ → ℕ
+lowOf k = leValue (take 8 (pack 16 (wordOf k)))
+
+unfoldable pub highOf : ℕ → ℕ
+highOf k = leValue (drop 8 (pack 16 (wordOf k)))

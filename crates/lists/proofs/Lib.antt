@@ -3,3 +3,4 @@ pub mod Parts
 pub mod Sets
 pub mod Table
 pub mod Recursion
+pub mod Rows

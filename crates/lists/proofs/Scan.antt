@@ -1,16 +1,15 @@
--- Laws of `all`, `span`, `afterLast` and `sameBy` along a list, over the test, for loops that count. Assumes nothing.
+-- Laws of `all`, `span`, `count`, `afterLast` and `sameBy` along a list, over the test, for loops that count. Assumes nothing.
 use mathlib.Core.Path.{_≡_, refl, sym, ap, _∙_}
 use mathlib.Core.Bool.{Bool, true, false, cond, _&&_, and-false, and-assoc}
 use mathlib.Core.List.{List, [], _∷_, _++_}
-use Prim.Native.Nat.{ℕ, zero, suc, _+_, _-_, _*_, _≤_, _<_}
-use native.Mathlib.Nat.{mul-le-mul-left}
+use Prim.Native.Nat.{ℕ, zero, suc, _+_, _-_, _≤_, _<_}
 use native.Mathlib.Numerals.{add-one}
 use native.Mathlib.Omega.{arith}
 use lib.Dec.{eqb}
 use lib.ListN.{length, take, drop, getD, length-drop, drop-of-length-le, List·getD-eq-default}
 use lib.Seq.{drop-cons, take-all, take-suc, length-take-le}
 use borrow.Author.Tests.{ne-eqb}
-use Rattle.lists.specs.Bytes.{all, span, afterLast, sameBy}
+use Rattle.lists.specs.Bytes.{all, span, count, afterLast, sameBy}
 
 module _ (p : ℕ → Bool) (s : List ℕ) (i : ℕ) where
   -- what a loop keeps: the bytes before i passed
@@ -53,6 +52,19 @@ span-le p (b ∷ s) = go (p b) (span-le p s)
     go true h = omega arith
     go false h = omega arith
 
+-- what a count keeps: what is counted, and the count of what is left
+pub count-more : (p : ℕ → Bool) (s : List ℕ) (i n : ℕ) → i < length s → count p s ≡ n + count p (drop i s) → count p s ≡ (n + cond (p (getD s i 0)) 1 0) + count p (drop (i + 1) s)
+unfolding count
+count-more p s i n h e = e ∙ rw (add-one, drop-cons s i 0) (go (p (getD s i 0)))
+  where
+    go : (t : Bool) → n + cond t (suc (count p (drop (suc i) s))) (count p (drop (suc i) s)) ≡ (n + cond t 1 0) + count p (drop (suc i) s)
+    go true = omega arith
+    go false = omega arith
+
+pub count-end : (p : ℕ → Bool) (s : List ℕ) (i n : ℕ) → length s ≤ i → count p s ≡ n + count p (drop i s) → n ≡ count p s
+unfolding count
+count-end p s i n h e = sym (e ∙ rw (drop-of-length-le s) (omega arith))
+
 -- one byte more at the end
 last-snoc : (p : ℕ → Bool) (s : List ℕ) (x : ℕ) → afterLast p (s ++ (x ∷ [])) ≡ cond (p x) (suc (length s)) (afterLast p s)
 unfolding afterLast
@@ -93,10 +105,6 @@ past s i h = sym (List·getD-eq-default s 0 h)
 -- a part that runs to the end, as the borrow checker states `&s[n..]`
 pub rest : (s : List ℕ) (n : ℕ) → take (length s - n) (drop n s) ≡ drop n s
 rest s n = take-all (length s - n) (drop n s) (simp length-drop (omega arith))
-
--- where a row of a packed table starts
-pub product : (w k : ℕ) → w < 256 → k < 256 → w * k < 65536
-product w k h g = let m : w * k ≤ w * 255 = mul-le-mul-left w (omega arith) in omega arith
 
 pub all-append : (p : ℕ → Bool) (s t : List ℕ) → all p (s ++ t) ≡ all p s && all p t
 unfolding all

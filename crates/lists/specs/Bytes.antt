@@ -27,6 +27,16 @@ unfoldable pub afterLast : (ℕ → Bool) → List ℕ → ℕ
 afterLast p [] = 0
 afterLast p (b ∷ s) = cond (eqb (afterLast p s) 0) (cond (p b) 1 0) (suc (afterLast p s))
 
+-- how many bytes pass p
+unfoldable pub count : (ℕ → Bool) → List ℕ → ℕ
+count p [] = 0
+count p (b ∷ s) = cond (p b) (suc (count p s)) (count p s)
+
+-- the bytes that pass p
+unfoldable pub keep : (ℕ → Bool) → List ℕ → List ℕ
+keep p [] = []
+keep p (b ∷ s) = cond (p b) (b ∷ keep p s) (keep p s)
+
 -- c is one of the bytes
 unfoldable pub has : ℕ → List ℕ → Bool
 has c [] = false

@@ -36,9 +36,22 @@ colonNorPoint b = not (eqb b (code ":") || eqb b (code "."))
 abbrev pub except : ℕ → ℕ → Bool
 except c b = not (eqb b c)
 
--- the classes by number; c is for the last alone
+abbrev pub nonDigit : ℕ → Bool
+nonDigit b = not (digit b)
+
+-- neither e nor E
+abbrev pub notE : ℕ → Bool
+notE b = not (eqb b (code "e") || eqb b (code "E"))
+
+-- a byte of a character that is not its first
+abbrev pub continuation : ℕ → Bool
+continuation b = leb 0x80 b && leb b 0xBF
+
+-- the classes by number; c is for `except` alone
 abbrev pub classes : ℕ → List (ℕ → Bool)
-classes c = ascii ∷ digit ∷ letter ∷ digitOrComma ∷ digitOrDash ∷ romanTail ∷ colonNorPoint ∷ except c ∷ []
+classes c =
+    ascii ∷ digit ∷ letter ∷ digitOrComma ∷ digitOrDash ∷ romanTail ∷ colonNorPoint ∷ except c
+    ∷ nonDigit ∷ notE ∷ continuation ∷ []
 
 -- the class of a number, empty where there is none
 abbrev pub inClass : ℕ → ℕ → ℕ → Bool

@@ -1,12 +1,13 @@
 // Bytes of a text: reads and parts that are total, scans, comparisons and the clipped copy. Nothing here demands
 // anything of its caller, and each contract is one equation.
 ghost use mathlib.Core.Path.{_≡_};
-ghost use Prim.Native.Nat.{_-_, min};
+ghost use mathlib.Core.Bool.{cond};
+ghost use Prim.Native.Nat.{_-_, _≤_, min};
 ghost use lib.ListN.{length, take, drop, getD};
 ghost use lib.Seq.{sets};
-ghost use Rattle.lists.specs.Bytes.{all, span, afterLast, sameBy, lower, starts, ends, stripPrefix, stripSuffix, endsBy};
+ghost use Rattle.lists.specs.Bytes.{all, span, count, afterLast, sameBy, lower, starts, ends, stripPrefix, stripSuffix, endsBy};
 ghost use Rattle.lists.specs.Classes.{inClass, folded};
-ghost use Rattle.lists.specs.Packed.{packedRow};
+ghost use Rattle.lists.specs.Packed.{unpack};
 
 // The classes of bytes by number. Numbers and no enum: a scan with a constant is then compiled to that class alone.
 pub const ASCII: u8 = 0;
@@ -24,6 +25,12 @@ pub const ROMAN_TAIL: u8 = 5;
 pub const COLON_NOR_POINT: u8 = 6;
 // Every byte but one, which the scan is given beside the class. For any other class it is given 0.
 pub const NOT: u8 = 7;
+
+pub const NON_DIGIT: u8 = 8;
+
+pub const NOT_E: u8 = 9;
+
+pub const CONTINUATION: u8 = 10;
 
 // What a comparison does to each byte of its first text: nothing, or A to Z are lowered.
 pub const EXACT: bool = false;
@@ -135,6 +142,9 @@ pub fn in_class(k: u8, c: u8, b: u8) -> bool
         ROMAN_TAIL => (b == b'V') | (b == b'I') | (b == b'X'),
         COLON_NOR_POINT => !((b == b':') | (b == b'.')),
         NOT => b != c,
+        NON_DIGIT => !((b'0' <= b) & (b <= b'9')),
+        NOT_E => !((b == b'e') | (b == b'E')),
+        CONTINUATION => (0x80 <= b) & (b <= 0xBF),
         _ => false,
     }
 }
@@ -151,6 +161,25 @@ pub fn all_of(k: u8, c: u8, s: &[u8]) -> bool
         i += 1;
     }
     true
+}
+
+fn tally(yes: bool) -> usize
+    ensures { λ r. ⌜ (r ≡ cond yes 1 0) × (r ≤ 1) ⌝ }
+{
+    if yes { 1 } else { 0 }
+}
+
+// How many bytes are of the class k.
+pub fn count_of(k: u8, c: u8, s: &[u8]) -> usize
+    ensures { λ r. ⌜ r ≡ count (inClass k c) (now (s .entry)) ⌝ }
+{
+    let mut n = 0;
+    let mut i = 0;
+    while i < s.len() {
+        n += tally(in_class(k, c, s[i]));
+        i += 1;
+    }
+    n
 }
 
 // How many bytes at the front are of the class k.
@@ -217,12 +246,11 @@ pub fn ends_same(lowered: bool, s: &[u8], t: &[u8]) -> bool
     false
 }
 
-// The text in row k of a table whose rows are w bytes wide.
-pub fn packed_row(t: &[u8], w: u8, k: u8) -> &[u8]
-    ensures { λ r. ⌜ now r ≡ packedRow w (now (t .entry)) k ⌝ }
+// The text in a row of fixed width.
+pub fn unpacked(row: &[u8]) -> &[u8]
+    ensures { λ r. ⌜ now r ≡ unpack (now (row .entry)) ⌝ }
 {
-    let at = (w as usize) * (k as usize);
-    front(tail(t, at + 1), byte_at(t, at) as usize)
+    front(tail(row, 1), byte_at(row, 0) as usize)
 }
 
 // How many of n bytes from index `at` on fall within len bytes.

@@ -1,7 +1,7 @@
 use mathlib.Core.Bool.{false}
+use lib.ListN.{List·getD-eq-default}
 use Rattle.lists.specs.Classes.{classes}
 use Rattle.lists.proofs.Table.{none-of}
-use lib.ListN.{List·getD-eq-default}
 use Rattle.lists.proofs.in_class.Statement.{statement}
 use Rattle.lists.proofs.in_class.Tie as tie
 
@@ -17,4 +17,7 @@ in-class-spec =
     (λ c. rw (c .match .keys6))
     (λ c. rw (c .match .keys7))
     (λ c. rw (c .match .keys8))
-    (λ c. rw (List·getD-eq-default (classes (c .before .args .c)) (λ b. false) {n = c .before .args .k} (none-of (c .before .args .k) 8 (c .match .rest)))))
+    (λ c. rw (c .match .keys9))
+    (λ c. rw (c .match .keys10))
+    (λ c. rw (c .match .keys11))
+    (λ c. rw (List·getD-eq-default (classes (c .before .args .c)) (λ b. false) {n = c .before .args .k} (none-of (c .before .args .k) 11 (c .match .rest)))))

@@ -1,0 +1,29 @@
+-- Numbers as bytes, and texts in rows, at every width. Assumes nothing.
+use mathlib.Core.Path.{_≡_, refl, ap, _∙_}
+use mathlib.Core.List.{List, [], _∷_, _++_}
+use Prim.Native.Nat.{ℕ, zero, suc, _+_, _-_, _*_, _^_, _/_, _%_, _<_}
+use native.Mathlib.Nat.{pow-suc}
+use native.Mathlib.Omega.{arith}
+use lib.ListN.{length, take, getD, replicate}
+use lib.Seq.{take-append-seam}
+use Rattle.lists.specs.LittleEndian.{leValue, leBytes}
+use Rattle.lists.specs.Packed.{pack, unpack}
+
+pub leBytes-length : (w n : ℕ) → length (leBytes w n) ≡ w
+unfolding leBytes
+leBytes-length zero n = refl
+leBytes-length (suc w) n = ap suc (leBytes-length w (n / 256))
+
+-- a number that fits in w bytes is read back from them
+pub leBytes-value : (w n : ℕ) → n < 256 ^ w → leValue (leBytes w n) ≡ n
+unfolding leBytes leValue
+leBytes-value zero n h = omega arith
+leBytes-value (suc w) n h =
+    let p = pow-suc 256 w in
+    let r : leValue (leBytes w (n / 256)) ≡ n / 256 = leBytes-value w (n / 256) (omega arith) in
+    omega arith
+
+-- a row gives its text back
+pub unpack-pack : (w : ℕ) (s : List ℕ) → unpack (pack w s) ≡ s
+unfolding unpack pack
+unpack-pack w s = take-append-seam s (replicate (w - 1 - length s) 0)

@@ -1,0 +1,32 @@
+use mathlib.Core.Path.{_≡_}
+use Prim.Native.Nat.{_+_, _-_, _≤_, zero-le}
+use native.Mathlib.Omega.{arith}
+use lib.ListN.{length, drop}
+use Rattle.lists.specs.Bytes.{count}
+use Rattle.lists.specs.Classes.{inClass}
+use Rattle.lists.proofs.Scan.{count-more, count-end}
+use borrow.Author.Needs.{needs}
+use Rattle.lists.proofs.count_of.Statement.{statement}
+use Rattle.lists.proofs.count_of.Tie as tie
+
+abbrev Inv-loop : tie.InvT-loop
+Inv-loop k c s n₀ i₀ n i = (i ≤ length s) × (n ≤ i) × (count (inClass k c) s ≡ n + count (inClass k c) (drop i s))
+
+abbrev μ-loop : tie.MeasureT-loop
+μ-loop k c s n₀ i₀ n i = length s - i
+
+pub count-of-spec : {M : Type 1} → statement M
+count-of-spec =
+    tie.close
+    (tie.spec
+    Inv-loop
+    μ-loop
+    (λ c. (zero-le, zero-le, omega arith))
+    (λ c. search needs)
+    (λ c κs. search needs)
+    (λ c κs. search needs)
+    (λ c. omega (arith, c .tally .ensures .1))
+    (λ c. search needs)
+    (λ c. search needs)
+    (λ c. (omega arith, omega (arith, c .tally .ensures .1), rw (c .tally .ensures .0, c .before .in-class .ensures) (count-more _ (c .before .before .before .before .before .before .args .s .now) (c .before .before .before .before .loop .i) (c .before .before .before .before .loop .n) (omega arith) (c .before .before .before .before .loop .inv .2))))
+    (λ c. count-end _ (c .before .before .before .args .s .now) (c .before .loop .i) (c .before .loop .n) (omega arith) (c .before .loop .inv .2)))
