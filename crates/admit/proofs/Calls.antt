@@ -1,7 +1,14 @@
 -- A refused call gives its number and nothing else, an accepted one what it gives. Assumes nothing.
 use mathlib.Core.Path.{_≡_, refl}
+use mathlib.Core.Bool.{Bool, true, false, cond, not}
+use mathlib.Core.List.{List}
 use Prim.Native.Nat.{ℕ, zero, suc}
-use Rattle.admit.specs.Refusals.{call}
+use native.Mathlib.Omega.{arith}
+use lib.Dec.{ltb}
+use lib.ListN.{length}
+use Rattle.admit.specs.Utf8.{utf8}
+use Rattle.admit.specs.Refusals.{number, numberDue, textDue, textRefusal, call}
+use Rattle.admit.specs.declared.Refusal.the-variants.{BufferTooShort}
 
 refused : {A : Type 0} (nothing given : A) (n : ℕ) → (n ≡ 0 → ⊥) → record { refusal = n; value = nothing } ≡ call nothing n given
 refused nothing given zero h = absurd (h refl)
@@ -13,3 +20,25 @@ call-refused nothing given m n h e = rw (← e) (refused nothing given m h)
 
 pub call-accepted : {A : Type 0} (nothing given value : A) (n : ℕ) → 0 ≡ n → value ≡ given → record { refusal = 0; value = value } ≡ call nothing n given
 call-accepted nothing given value n e v = rw (← e, v)
+
+-- the tests of a text and its buffers, as numbers
+abbrev tests : Bool → Bool → Bool → ℕ
+tests long good short = cond long 1 (cond (not good) 2 (cond short 5 0))
+
+-- a text that is refused is refused whatever the buffer's length
+pub due-refused : (limit : ℕ) (s : List ℕ) (short : Bool) (n : ℕ) → (n ≡ 0 → ⊥) → n ≡ textRefusal limit s → n ≡ numberDue (textDue limit s short)
+due-refused limit s short n z h = go (ltb limit (length s)) (utf8 s) h
+  where
+    go : (long good : Bool) → n ≡ tests long good false → n ≡ tests long good short
+    go true good h = h
+    go false false h = h
+    go false true h = absurd (z h)
+
+-- in an accepted text the buffer's length decides
+pub due-accepted : (limit : ℕ) (s : List ℕ) (short : Bool) → textRefusal limit s ≡ 0 → numberDue (textDue limit s short) ≡ cond short (number BufferTooShort) 0
+due-accepted limit s short h = go (ltb limit (length s)) (utf8 s) h
+  where
+    go : (long good : Bool) → tests long good false ≡ 0 → tests long good short ≡ cond short (number BufferTooShort) 0
+    go true good h = absurd (omega arith)
+    go false false h = absurd (omega arith)
+    go false true h = refl

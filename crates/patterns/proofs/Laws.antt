@@ -10,7 +10,7 @@ use borrow.Author.Tests.{le-ltb}
 use Rattle.admit.specs.Utf8.{utf8}
 use Rattle.admit.specs.Refusals.{number, numberDue, textLimit, textDue, textRefusal}
 use Rattle.admit.specs.declared.Refusal.the-variants.{BufferTooShort}
-use Rattle.admit.proofs.Calls.{call-refused}
+use Rattle.admit.proofs.Calls.{call-refused, due-refused, due-accepted}
 use Rattle.units.specs.Units.{unitIndex, unitWord}
 use Rattle.units.proofs.Laws.{miss-none, miss-word, hit-some}
 use Rattle.shapes.specs.Shapes.{unitAt, hasUnit, unitPart}
@@ -47,28 +47,6 @@ unit-le s = go (hasUnit s)
     go : (t : Bool) → length (cond t (drop (unitAt s) s) []) ≤ length s
     go true = simp length-drop (omega arith)
     go false = omega arith
-
--- the tests of a text and one buffer, as numbers
-abbrev tests : Bool → Bool → Bool → ℕ
-tests long good short = cond long 1 (cond (not good) 2 (cond short 5 0))
-
--- a text that is refused is refused whatever the buffer's length
-due-refused : (limit : ℕ) (s : List ℕ) (short : Bool) (n : ℕ) → (n ≡ 0 → ⊥) → n ≡ textRefusal limit s → n ≡ numberDue (textDue limit s short)
-due-refused limit s short n z h = go (ltb limit (length s)) (utf8 s) h
-  where
-    go : (long good : Bool) → n ≡ tests long good false → n ≡ tests long good short
-    go true good h = h
-    go false false h = h
-    go false true h = absurd (z h)
-
--- in an accepted text the buffer's length decides
-due-accepted : (limit : ℕ) (s : List ℕ) (short : Bool) → textRefusal limit s ≡ 0 → numberDue (textDue limit s short) ≡ cond short (number BufferTooShort) 0
-due-accepted limit s short h = go (ltb limit (length s)) (utf8 s) h
-  where
-    go : (long good : Bool) → tests long good false ≡ 0 → tests long good short ≡ cond short (number BufferTooShort) 0
-    go true good h = absurd (omega arith)
-    go false false h = absurd (omega arith)
-    go false true h = refl
 
 module _ (s store : List ℕ) (n : ℕ) (due : n ≡ textRefusal textLimit s) where
   abbrev short : Bool

@@ -1,0 +1,5 @@
+pub mod Words
+pub mod Cardinal
+pub mod Ordinal
+pub mod Value
+pub mod Walk

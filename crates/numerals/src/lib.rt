@@ -1,0 +1,5 @@
+// Words of whole numbers, said into the writing layer: digits one by one, cardinal and ordinal numbers.
+pub mod few;
+pub mod held;
+pub mod number;
+pub mod saying;

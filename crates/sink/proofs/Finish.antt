@@ -1,0 +1,124 @@
+-- What a run of words leaves in the buffers, and what a call answers that measures first. Assumes nothing.
+use mathlib.Core.Path.{_≡_, refl, sym, ap, _∙_}
+use mathlib.Core.Bool.{Bool, true, false, _||_}
+use mathlib.Core.Logic.{⊎-elim}
+use mathlib.Core.List.{List, [], _∷_, _++_}
+use Prim.Native.Nat.{ℕ, _+_, _*_, _≤_, _<_, min}
+use native.Mathlib.Nat.{add-zero, zero-add}
+use native.Mathlib.Omega.{arith}
+use lib.Dec.{ltb}
+use lib.ListN.{length, length-append}
+use lib.Seq.{sets}
+use borrow.Author.Tests.{ltb-false, le-ltb, lt-ltb}
+use Rattle.lists.specs.Bytes.{over}
+use Rattle.lists.specs.LittleEndian.{leBytes}
+use Rattle.lists.proofs.Sets.{sets-append, sets-front, le-or-lt}
+use Rattle.admit.specs.Refusals.{textLimit, textRefusal, numberDue, textDue}
+use Rattle.admit.proofs.Calls.{call-refused, call-accepted, due-refused, due-accepted}
+use Rattle.sink.specs.Sink.{top, pairOf, pairBytes, Sink, sink, emit, emitAll}
+use Rattle.sink.specs.Words.{storeOf, tableOf, nothingWritten, written, shortFor, short, wordsCall, asWords, startPen, spokenBy, refusedBy}
+use Rattle.sink.specs.declared.Pen.{Pen}
+use Rattle.sink.specs.declared.Spoken.{Spoken}
+
+-- one run of words after the other
+pub emitAll-append : (ws vs : List (List ℕ)) (s : Sink) → emitAll (ws ++ vs) s ≡ emitAll vs (emitAll ws s)
+unfolding emitAll
+emitAll-append [] vs s = refl
+emitAll-append (w ∷ ws) vs s = emitAll-append ws vs (emit w s)
+
+-- the places move alike on all buffers
+emitAll-at : (ws : List (List ℕ)) (s : Sink) → s .at ≤ top → emitAll ws s .at ≡ min (s .at + length (storeOf ws)) top
+unfolding emitAll emit storeOf
+emitAll-at [] s h = omega arith
+emitAll-at (w ∷ ws) s h = emitAll-at ws (emit w s) (omega arith) ∙ simp length-append (omega arith)
+
+emitAll-words : (ws : List (List ℕ)) (s : Sink) → s .words ≤ top → emitAll ws s .words ≡ min (s .words + length ws) top
+unfolding emitAll emit
+emitAll-words [] s h = omega arith
+emitAll-words (w ∷ ws) s h = emitAll-words ws (emit w s) (omega arith) ∙ omega arith
+
+-- where all fits below the largest number, the words' bytes stand in the store and their pairs in the table
+abbrev after : List (List ℕ) → Sink → Sink
+after ws s =
+    record {
+      store = sets (s .store) (s .at) (storeOf ws);
+      table = sets (s .table) (pairBytes * s .words) (tableOf (s .at) ws);
+      at = s .at + length (storeOf ws);
+      words = s .words + length ws;
+    }
+
+emitAll-is : (ws : List (List ℕ)) (s : Sink) → s .at + length (storeOf ws) ≤ top → s .words + length ws ≤ top → emitAll ws s ≡ after ws s
+unfolding emitAll emit storeOf tableOf pairOf leBytes
+emitAll-is [] s h k = λ j. record { store = s .store; table = s .table; at = sym (add-zero (s .at)) j; words = sym (add-zero (s .words)) j }
+emitAll-is (w ∷ ws) s h k =
+    let b = storeOf ws in
+    let n : length (w ++ b) ≡ length w + length b = length-append w b in
+    let a : min (s .at + length w) top ≡ s .at + length w = omega arith in
+    let e : pairBytes * min (s .words + 1) top ≡ pairBytes * s .words + pairBytes = omega arith in
+    let es : after ws (emit w s) .store ≡ after (w ∷ ws) s .store = rw a (sym (sets-append (s .store) (s .at) w b)) in
+    let et : after ws (emit w s) .table ≡ after (w ∷ ws) s .table = rw (a, e) (sym (sets-append (s .table) (pairBytes * s .words) (pairOf (s .at) (length w)) (tableOf (s .at + length w) ws))) in
+    let ea : after ws (emit w s) .at ≡ after (w ∷ ws) s .at = omega arith in
+    let ew : after ws (emit w s) .words ≡ after (w ∷ ws) s .words = omega arith in
+    emitAll-is ws (emit w s) (omega arith) (omega arith) ∙ (λ j. record { store = es j; table = et j; at = ea j; words = ew j })
+
+tableOf-length : (at : ℕ) (ws : List (List ℕ)) → length (tableOf at ws) ≡ pairBytes * length ws
+unfolding tableOf pairOf leBytes
+tableOf-length at [] = refl
+tableOf-length at (w ∷ ws) = omega (arith, tableOf-length (at + length w) ws)
+
+-- two tests against one bound that hold alike are the same
+ltb-same : (a b l : ℕ) → (l < a → l < b) → (l < b → l < a) → ltb l a ≡ ltb l b
+ltb-same a b l f g =
+    ⊎-elim (λ (h : a ≤ l). le-ltb l a h ∙ sym (le-ltb l b (⊎-elim (λ (k : b ≤ l). k) (λ (k : l < b). let q : l < a = g k in omega arith) (le-or-lt b l))))
+    (λ (h : l < a). lt-ltb l a h ∙ sym (lt-ltb l b (f h)))
+    (le-or-lt a l)
+
+or-left : (a b : Bool) → (a || b) ≡ false → a ≡ false
+or-left false b e = refl
+or-left true b e = e
+
+or-right : (a b : Bool) → (a || b) ≡ false → b ≡ false
+or-right false b e = e
+or-right true b e = let z : _≡_ {A = Bool} true false = e in cc
+
+-- ws are the words of the text s, whose refusal n is tested first; st and tb are the lent buffers
+module _ (s : List ℕ) (ws : List (List ℕ)) (st tb : List ℕ) (n : ℕ) (due : n ≡ textRefusal textLimit s) where
+  abbrev isShort : Bool
+  isShort = short ws st tb
+
+  -- a text that is refused
+  pub text-refused : {r : Spoken} → (n ≡ 0 → ⊥) → r ≡ refusedBy n → asWords r st tb ≡ wordsCall s ws st tb
+  unfolding wordsCall
+  text-refused z e = rw e (call-refused _ _ n (numberDue (textDue textLimit s isShort)) z (due-refused textLimit s isShort n z due))
+
+  -- m is where the pen stood after the same words on other buffers
+  module _ (z : n ≡ 0) (hs : length st < top) (ht : length tb < top) (x y x₀ y₀ : List ℕ) {m p₀ : Pen} (e₀ : p₀ ≡ startPen) (e : sink x y m ≡ emitAll ws (sink x₀ y₀ p₀)) where
+    measured : shortFor (m .at) (m .words) (length st) (length tb) ≡ isShort
+    measured =
+        let s₀ = sink x₀ y₀ p₀ in
+        let i : p₀ .at ≡ 0 = ap (λ (p : Pen). p .at) e₀ in
+        let j : p₀ .words ≡ 0 = ap (λ (p : Pen). p .words) e₀ in
+        let a : m .at ≡ min (p₀ .at + length (storeOf ws)) top = ap (λ (q : Sink). q .at) e ∙ emitAll-at ws s₀ (omega arith) in
+        let w : m .words ≡ min (p₀ .words + length ws) top = ap (λ (q : Sink). q .words) e ∙ emitAll-words ws s₀ (omega arith) in
+        rw (ltb-same (m .at) (length (storeOf ws)) (length st) (λ h. omega arith) (λ h. omega arith), ltb-same (pairBytes * m .words) (pairBytes * length ws) (length tb) (λ h. omega arith) (λ h. omega arith))
+
+    -- a buffer is too short
+    pub short-refused : {f : Bool} → f ≡ shortFor (m .at) (m .words) (length st) (length tb) → f ≡ true → {r : Spoken} → r ≡ refusedBy 5 → asWords r st tb ≡ wordsCall s ws st tb
+    unfolding wordsCall
+    short-refused g t q = rw (q, due-accepted textLimit s isShort (sym due ∙ z), sym measured ∙ sym g ∙ t)
+
+    -- both are long enough, and the same words are written to them
+    pub all-written : {f : Bool} → f ≡ shortFor (m .at) (m .words) (length st) (length tb) → f ≡ false
+        → {st′ tb′ : List ℕ} {p p₁ : Pen} → p₁ ≡ startPen → sink st′ tb′ p ≡ emitAll ws (sink st tb p₁)
+        → {r : Spoken} → r ≡ spokenBy p → asWords r st′ tb′ ≡ wordsCall s ws st tb
+    unfolding wordsCall
+    all-written g t {st′} {tb′} {p} {p₁} e₁ d q =
+        let f : isShort ≡ false = sym measured ∙ sym g ∙ t in
+        let fs : length (storeOf ws) ≤ length st = ltb-false _ _ (or-left (ltb (length st) (length (storeOf ws))) (ltb (length tb) (pairBytes * length ws)) f) in
+        let ft : pairBytes * length ws ≤ length tb = ltb-false _ _ (or-right (ltb (length st) (length (storeOf ws))) (ltb (length tb) (pairBytes * length ws)) f) in
+        let all : sink st′ tb′ p ≡ after ws (sink st tb startPen) = d ∙ ap (λ (k : Pen). emitAll ws (sink st tb k)) e₁ ∙ emitAll-is ws (sink st tb startPen) (omega arith) (omega arith) in
+        let es : st′ ≡ over (storeOf ws) st = ap (λ (k : Sink). k .store) all ∙ sets-front st (storeOf ws) fs in
+        let et : tb′ ≡ over (tableOf 0 ws) tb = ap (λ (k : Sink). k .table) all ∙ sets-front tb (tableOf 0 ws) (omega (arith, tableOf-length 0 ws)) in
+        let ea : p .at ≡ length (storeOf ws) = ap (λ (k : Sink). k .at) all ∙ zero-add (length (storeOf ws)) in
+        let ew : p .words ≡ length ws = ap (λ (k : Sink). k .words) all ∙ zero-add (length ws) in
+        rw (q, due-accepted textLimit s isShort (sym due ∙ z), f) (λ j. record { refusal = 0; value = record { words = ew j; bytes = ea j; store = es j; table = et j } })

@@ -1,0 +1,20 @@
+use Rattle.sink.specs.Sink.{emit}
+use borrow.Author.Needs.{needs}
+use Rattle.sink.proofs.word.Statement.{statement}
+use Rattle.sink.proofs.word.Tie as tie
+
+returns : tie.Need-returns
+unfolding emit
+returns c = cc
+
+pub word-spec : {M : Type 1} → statement M
+word-spec =
+    tie.close
+    (tie.spec
+    (λ c κs. search needs)
+    (λ c κs. search needs)
+    (λ c κs. search needs)
+    (λ c κs. search needs)
+    (λ c. search needs)
+    (λ c. search needs)
+    returns)

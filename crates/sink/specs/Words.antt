@@ -1,0 +1,66 @@
+-- Document 01, "Number words": what a call that gives words answers, and leaves in the lent buffers. Definitions only.
+use mathlib.Core.Bool.{Bool, _||_}
+use mathlib.Core.List.{List, [], _∷_, _++_}
+use Prim.Native.Nat.{ℕ, _+_, _*_}
+use lib.Dec.{ltb}
+use lib.ListN.{length}
+use Rattle.lists.specs.Bytes.{over}
+use Rattle.admit.specs.Refusals.{numberDue, textLimit, textDue, Call, call}
+use Rattle.sink.specs.Sink.{pairOf, pairBytes}
+use Rattle.sink.specs.declared.Pen.{Pen}
+use Rattle.sink.specs.declared.Spoken.{Spoken}
+
+-- "Words come back end to end in a byte store"
+unfoldable pub storeOf : List (List ℕ) → List ℕ
+storeOf [] = []
+storeOf (w ∷ ws) = w ++ storeOf ws
+
+-- "with a table of pairs of offset and length sorted by offset, one pair a word"; the first word starts at `at`
+unfoldable pub tableOf : ℕ → List (List ℕ) → List ℕ
+tableOf at [] = []
+tableOf at (w ∷ ws) = pairOf at (length w) ++ tableOf (at + length w) ws
+
+-- the counts, and the two buffers' final bytes
+pub record Written : Type 0 where
+  pub words : ℕ
+  pub bytes : ℕ
+  pub store : List ℕ
+  pub table : List ℕ
+
+-- "every count 0", and "writes nothing"
+abbrev pub nothingWritten : List ℕ → List ℕ → Written
+nothingWritten store table = record { words = 0; bytes = 0; store = store; table = table }
+
+-- "bytes past the result stay"
+abbrev pub written : List (List ℕ) → List ℕ → List ℕ → Written
+written ws store table =
+    record { words = length ws; bytes = length (storeOf ws); store = over (storeOf ws) store; table = over (tableOf 0 ws) table }
+
+-- "a lent output buffer is smaller than the whole result"
+abbrev pub shortFor : ℕ → ℕ → ℕ → ℕ → Bool
+shortFor bytes words store table = ltb store bytes || ltb table (pairBytes * words)
+
+abbrev pub short : List (List ℕ) → List ℕ → List ℕ → Bool
+short ws store table = shortFor (length (storeOf ws)) (length ws) (length store) (length table)
+
+-- the call that reads the text s as the words ws
+unfoldable pub wordsCall : List ℕ → List (List ℕ) → List ℕ → List ℕ → Call Written
+wordsCall s ws store table =
+    call (nothingWritten store table)
+    (numberDue (textDue textLimit s (short ws store table)))
+    (written ws store table)
+
+-- an answer, with the buffers as the call leaves them
+abbrev pub asWords : Spoken → List ℕ → List ℕ → Call Written
+asWords r store table = record { refusal = r .refusal; value = record { words = r .words; bytes = r .bytes; store = store; table = table } }
+
+-- a pen at the start of both buffers
+abbrev pub startPen : Pen
+startPen = record { at = 0; words = 0 }
+
+-- what an accepted call answers where its pen stands at p
+abbrev pub spokenBy : Pen → Spoken
+spokenBy p = record { refusal = 0; words = p .words; bytes = p .at }
+
+abbrev pub refusedBy : ℕ → Spoken
+refusedBy n = record { refusal = n; words = 0; bytes = 0 }

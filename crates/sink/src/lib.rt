@@ -1,0 +1,122 @@
+// The writing layer. A word goes to the store and its pair of offset and length to the table, each as far as it falls within its
+// buffer, and the pen moves on in any case: on empty buffers the same walk only measures.
+use lists::put;
+ghost use mathlib.Core.Path.{_≡_};
+ghost use Prim.Native.Nat.{_+_, _*_, min};
+ghost use lib.ListN.{length};
+ghost use lib.Seq.{sets};
+ghost use Rattle.sink.specs.Sink.{top, pairOf, pairBytes, sink, emit};
+ghost use Rattle.sink.specs.Words.{shortFor, startPen, spokenBy, refusedBy};
+
+const TOP: usize = 0xffff_ffff_ffff_ffff;
+
+// The bytes of a pair.
+const PAIR: usize = 8;
+
+// The place of the next byte in the store, and of the next pair in the table.
+pub struct Pen {
+    pub at: usize,
+    pub words: usize,
+}
+
+// A call's answer: the refusal's number or 0, the count of words and the count of their bytes.
+#[repr(C)]
+pub struct Spoken {
+    pub refusal: u8,
+    pub words: usize,
+    pub bytes: usize,
+}
+
+// a + b, or the largest number.
+fn plus(a: usize, b: usize) -> usize
+    ensures { λ r. ⌜ r ≡ min (a + b) top ⌝ }
+{
+    if b <= TOP - a { a + b } else { TOP }
+}
+
+// An offset and a length, four bytes each.
+fn pair(at: usize, size: usize) -> [u8; 8]
+    ensures { λ r. ⌜ r ≡ pairOf at size ⌝ }
+{
+    let at1 = at / 256;
+    let at2 = at1 / 256;
+    let at3 = at2 / 256;
+    let size1 = size / 256;
+    let size2 = size1 / 256;
+    let size3 = size2 / 256;
+    [
+        (at % 256) as u8,
+        (at1 % 256) as u8,
+        (at2 % 256) as u8,
+        (at3 % 256) as u8,
+        (size % 256) as u8,
+        (size1 % 256) as u8,
+        (size2 % 256) as u8,
+        (size3 % 256) as u8,
+    ]
+}
+
+// Stores a pair as number `words` of the table.
+fn put_pair(table: &mut [u8], words: usize, at: usize, size: usize)
+    ensures { λ _. ⌜ now (table .exit) ≡ sets (now (table .entry)) (pairBytes * words) (pairOf at size) ⌝ }
+{
+    // No table is that long, and the product could not be had.
+    if words < 0x1000_0000_0000_0000 {
+        put(table, PAIR * words, &pair(at, size));
+    }
+}
+
+// Stores one word and its pair.
+pub fn word(store: &mut [u8], table: &mut [u8], pen: Pen, w: &[u8]) -> Pen
+    ensures { λ r. ⌜ sink (now (store .exit)) (now (table .exit)) r ≡ emit (now (w .entry)) (sink (now (store .entry)) (now (table .entry)) pen) ⌝ }
+{
+    put_pair(table, pen.words, pen.at, w.len());
+    put(store, pen.at, w);
+    Pen {
+        at: plus(pen.at, w.len()),
+        words: plus(pen.words, 1),
+    }
+}
+
+impl Pen {
+    pub fn start() -> Self
+        ensures { λ r. ⌜ r ≡ startPen ⌝ }
+    {
+        Pen { at: 0, words: 0 }
+    }
+
+    // Whether a buffer of these lengths is smaller than what was measured.
+    pub fn short(self, store: usize, table: usize) -> bool
+        ensures { λ r. ⌜ r ≡ shortFor (self .at) (self .words) store table ⌝ }
+    {
+        if store < self.at {
+            return true;
+        }
+        if table / PAIR < self.words {
+            return true;
+        }
+        false
+    }
+
+    pub fn spoken(self) -> Spoken
+        ensures { λ r. ⌜ r ≡ spokenBy self ⌝ }
+    {
+        Spoken {
+            refusal: 0,
+            words: self.words,
+            bytes: self.at,
+        }
+    }
+}
+
+impl Spoken {
+    pub fn refused(refusal: u8) -> Self
+        ensures { λ r. ⌜ r ≡ refusedBy refusal ⌝ }
+    {
+        Spoken {
+            refusal,
+            words: 0,
+            bytes: 0,
+        }
+    }
+}
