@@ -10,9 +10,12 @@ use Rattle.lists.specs.Classes.{digit}
 use Rattle.lists.specs.Recur.{recur}
 use Rattle.numerals.specs.Words.{Word, one, teen, ten, hundred, scale}
 
+abbrev pub digitValue : ℕ → ℕ
+digitValue b = b - code "0"
+
 -- "non-digits are dropped first"
 unfoldable pub clean : List ℕ → List ℕ
-clean s = map (λ b. b - code "0") (keep digit s)
+clean s = map digitValue (keep digit s)
 
 -- `"00": none; else a pair reads as tens and ones`
 unfoldable pub pair : ℕ → ℕ → List Word

@@ -81,6 +81,16 @@ fn hold_cardinal(ds: &[u8], store: &mut [u8], table: &mut [u8], h: Held) -> Held
     hold_cardinal(tail(ds, split), store, table, g)
 }
 
+// Says the cardinal number of up to twelve digits, given by their values.
+pub fn say_few(ds: &[u8], store: &mut [u8], table: &mut [u8], pen: Pen) -> Pen
+    requires { ⌜ length (now ds) ≤ 12 ⌝ }
+    ensures { λ r. ⌜ sink (now (store .exit)) (now (table .exit)) r ≡ emitAll (spelled (cardinalFew (now (ds .entry)))) (sink (now (store .entry)) (now (table .entry)) pen) ⌝ }
+{
+    let start = Held { pen, last: NONE };
+    let h = hold_cardinal(ds, store, table, start);
+    flush(store, table, h)
+}
+
 // Says the cardinal number of the digits of s.
 pub fn say_cardinal(s: &[u8], store: &mut [u8], table: &mut [u8], pen: Pen) -> Pen
     ensures { λ r. ⌜ sink (now (store .exit)) (now (table .exit)) r ≡ emitAll (spelled (cardinal (now (s .entry)))) (sink (now (store .entry)) (now (table .entry)) pen) ⌝ }
@@ -90,14 +100,12 @@ pub fn say_cardinal(s: &[u8], store: &mut [u8], table: &mut [u8], pen: Pen) -> P
         return say_digits(s, store, table, pen);
     }
     let d = few.d;
-    let start = Held { pen, last: NONE };
-    let h = hold_cardinal(front(&d, few.n), store, table, start);
-    flush(store, table, h)
+    say_few(front(&d, few.n), store, table, pen)
 }
 
 // Says more digits than have a cardinal reading one by one, the last of them in its ordinal form.
 fn say_long_ordinal(s: &[u8], store: &mut [u8], table: &mut [u8], pen: Pen) -> Pen
-    ensures { λ r. ⌜ 12 < length (clean (now (s .entry))) → sink (now (store .exit)) (now (table .exit)) r ≡ emitAll (spelled (ordinal (now (s .entry)))) (sink (now (store .entry)) (now (table .entry)) pen) ⌝ }
+    ensures { λ r. ⌜ (12 < length (clean (now (s .entry))) → sink (now (store .exit)) (now (table .exit)) r ≡ emitAll (spelled (ordinal (now (s .entry)))) (sink (now (store .entry)) (now (table .entry)) pen)) ⌝ }
 {
     let most = front(s, after_last(DIGIT, 0, s));
     let before = without_back(most, 1);

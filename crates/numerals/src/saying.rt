@@ -4,12 +4,10 @@ use lists::unpacked;
 use sink::Pen;
 use sink::word;
 ghost use mathlib.Core.Path.{_≡_};
-ghost use Prim.Native.Nat.{_-_};
-ghost use Prim.Native.Char.{code};
 ghost use Rattle.lexicon.specs.Lexicon.{wordOf};
 ghost use Rattle.sink.specs.Sink.{sink, emit, emitAll};
 ghost use Rattle.numerals.specs.Words.{spelled};
-ghost use Rattle.numerals.specs.Cardinal.{clean, digits};
+ghost use Rattle.numerals.specs.Cardinal.{digitValue, digits};
 ghost use mathlib.Core.List.{_∷_, []};
 
 // Says word number k of the lexicon.
@@ -48,7 +46,7 @@ pub fn say_digits(s: &[u8], store: &mut [u8], table: &mut [u8], pen: Pen) -> Pen
 
 // The value of a digit; 0 for a byte below the digits.
 pub fn digit_value(b: u8) -> u8
-    ensures { λ r. ⌜ r ≡ b - code "0" ⌝ }
+    ensures { λ r. ⌜ r ≡ digitValue b ⌝ }
 {
     if b'0' <= b { b - b'0' } else { 0 }
 }

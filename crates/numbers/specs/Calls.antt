@@ -1,0 +1,30 @@
+-- What the public calls of numbers.rs' functions answer. Definitions only.
+use mathlib.Core.List.{List}
+use Prim.Native.Nat.{ℕ}
+use Rattle.admit.specs.Refusals.{textLimit, textRefusal, Call, call}
+use Rattle.numerals.specs.Words.{Word}
+use Rattle.numerals.specs.Cardinal.{cardinal, digits}
+use Rattle.numerals.specs.Ordinal.{ordinal}
+use Rattle.readings.specs.Year.{year}
+use Rattle.readings.specs.Real.{real}
+use Rattle.readings.specs.Letters.{letters}
+use Rattle.readings.specs.Roman.{romanValue}
+use Rattle.numbers.specs.declared.Reader.{Reader}
+use Rattle.numbers.specs.declared.Reader.the-variants.{Cardinal, Ordinal, Year, Digits, Real, Letters}
+use Rattle.numbers.specs.declared.Numeral.{Numeral}
+
+-- the words that each reader reads a text as
+abbrev pub wordsBy : Reader → List ℕ → List Word
+wordsBy Cardinal s = cardinal s
+wordsBy Ordinal s = ordinal s
+wordsBy Year s = year s
+wordsBy Digits s = digits s
+wordsBy Real s = real s
+wordsBy Letters s = letters s
+
+abbrev pub asNumeral : Numeral → Call ℕ
+asNumeral r = record { refusal = r .refusal; value = r .value }
+
+-- roman_value: "every count and value 0" where it is refused; it lends no buffer
+abbrev pub romanCall : List ℕ → Call ℕ
+romanCall s = call 0 (textRefusal textLimit s) (romanValue s)

@@ -1,0 +1,24 @@
+-- numbers.rs, `letters`: document 01 says "as the Rust". Definitions only.
+use mathlib.Core.Bool.{cond}
+use mathlib.Core.List.{List, [], _∷_, map}
+use Prim.Native.Nat.{ℕ}
+use Prim.Native.Char.{code}
+use lib.Dec.{eqb}
+use lib.ListN.{getD}
+use Rattle.lists.specs.Bytes.{bytes, lower, onto}
+use Rattle.lists.specs.Classes.{continuation}
+use Rattle.numerals.specs.Words.{Word, other}
+
+-- the characters of a text, each a list of its bytes: a byte that no continuation follows is a character's last
+unfoldable pub chars : List ℕ → List (List ℕ)
+chars [] = []
+chars (b ∷ s) = cond (continuation (getD s 0 0)) (onto b (chars s)) ((b ∷ []) ∷ chars s)
+
+-- the letter a is the word _a, another ASCII character itself, A to Z lowered, and a character of several bytes itself
+unfoldable pub letterWord : List ℕ → List ℕ
+letterWord [] = []
+letterWord (b ∷ []) = cond (eqb (lower b) (code "a")) (bytes "_a") (lower b ∷ [])
+letterWord (b ∷ c ∷ s) = b ∷ c ∷ s
+
+unfoldable pub letters : List ℕ → List Word
+letters s = map (λ c. other (letterWord c)) (chars s)

@@ -1,0 +1,5 @@
+pub mod Year
+pub mod Real
+pub mod Letters
+pub mod Roman
+pub mod Walk

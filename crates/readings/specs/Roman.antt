@@ -1,0 +1,30 @@
+-- Document 01, "Number words": `roman_value`. Definitions only.
+use mathlib.Core.Bool.{Bool, false, cond, _||_}
+use mathlib.Core.List.{List, [], _∷_, map}
+use Prim.Native.Nat.{ℕ, _+_, _-_}
+use lib.Dec.{ltb}
+use Rattle.lists.specs.Bytes.{bytes, has}
+
+-- the value of a character, in either case; 0 for a foreign one, each byte of a longer character among them
+unfoldable pub numeral : ℕ → ℕ
+numeral b =
+    cond (has b (bytes "Ii")) 1 (cond (has b (bytes "Vv")) 5 (cond (has b (bytes "Xx")) 10 (cond (has b (bytes "Ll")) 50
+    (cond (has b (bytes "Cc")) 100 (cond (has b (bytes "Dd")) 500 (cond (has b (bytes "Mm")) 1000 0))))))
+
+-- some value after v is larger
+unfoldable pub larger : ℕ → List ℕ → Bool
+larger v [] = false
+larger v (w ∷ ws) = ltb v w || larger v ws
+
+-- "a letter with any larger one after it subtracts": the sum of those that add, and of those that subtract
+unfoldable pub added : List ℕ → ℕ
+added [] = 0
+added (v ∷ vs) = cond (larger v vs) 0 v + added vs
+
+unfoldable pub taken : List ℕ → ℕ
+taken [] = 0
+taken (v ∷ vs) = cond (larger v vs) v 0 + taken vs
+
+-- "below 0 gives 0; one foreign character gives 0": `-` of numbers stays at 0
+unfoldable pub romanValue : List ℕ → ℕ
+romanValue s = cond (has 0 (map numeral s)) 0 (added (map numeral s) - taken (map numeral s))
