@@ -1,3 +1,5 @@
 pub mod Digits
 pub mod Holding
 pub mod Cardinal
+pub mod Every
+pub mod Forms
