@@ -3,3 +3,4 @@ pub mod Holding
 pub mod Cardinal
 pub mod Every
 pub mod Forms
+pub mod Value
