@@ -8,7 +8,7 @@ use native.Mathlib.Omega.{arith}
 use lib.Dec.{leb, eqb}
 use lib.ListN.{length, getD, take, drop, set, length-append, drop-of-length-le}
 use lib.Seq.{drop-cons, take-suc-set, length-take-le}
-use borrow.Author.Tests.{le-leb, lt-leb, eqb-true}
+use borrow.Author.Tests.{le-leb, lt-leb, eqb-true, eqb-false}
 use Rattle.lists.specs.Bytes.{keep, afterLast}
 use Rattle.lists.specs.Classes.{digit, except}
 use Rattle.numerals.specs.Words.{Word, one, spell, spelled}
@@ -48,7 +48,7 @@ pub clean-high : (b : ℕ) → 48 ≤ b → 57 < b → clean (b ∷ []) ≡ []
 unfolding clean keep
 clean-high b h k = rw (le-leb 48 b h, lt-leb b 57 k)
 
-map-append : (s t : List ℕ) → map one (s ++ t) ≡ map one s ++ map one t
+pub map-append : (s t : List ℕ) → map one (s ++ t) ≡ map one s ++ map one t
 map-append [] t = refl
 map-append (d ∷ s) t = ap (λ (ws : List Word). one d ∷ ws) (map-append s t)
 
@@ -61,6 +61,10 @@ spelled-append (w ∷ ws) vs = ap (λ (l : List (List ℕ)). spell w ∷ l) (spe
 pub digits-at : (s : List ℕ) (i : ℕ) → i < length s → spelled (digits (drop i s)) ≡ spelled (digits (getD s i 0 ∷ [])) ++ spelled (digits (drop (i + 1) s))
 unfolding digits
 digits-at s i h = rw (clean-at s i h, map-append (clean (getD s i 0 ∷ [])) (clean (drop (i + 1) s))) (spelled-append _ _)
+
+no-clean : clean [] ≡ []
+unfolding clean keep
+no-clean = refl
 
 pub no-digits : spelled (digits []) ≡ []
 unfolding digits clean keep spelled
@@ -94,3 +98,38 @@ module _ (s d : List ℕ) (n i : ℕ) (h : i < length s) (e : clean s ≡ take n
 pub pick-end : (s d : List ℕ) (n i : ℕ) → length s ≤ i → clean s ≡ take n d ++ clean (drop i s) → take n d ≡ clean s
 unfolding clean keep
 pick-end s d n i h e = sym (e ∙ rw (drop-of-length-le s h) (append-nil (take n d)))
+
+-- ---- the last digit
+
+last-none : (s : List ℕ) → afterLast digit s ≡ 0 → clean s ≡ []
+unfolding afterLast
+last-none [] e = no-clean
+last-none (b ∷ s) e = go (digit b) (eqb (afterLast digit s) 0) refl refl e (last-none s)
+  where
+    go : (t u : Bool) → digit b ≡ t → eqb (afterLast digit s) 0 ≡ u → cond u (cond t 1 0) (suc (afterLast digit s)) ≡ 0 → (afterLast digit s ≡ 0 → clean s ≡ []) → clean (b ∷ s) ≡ []
+    go true true d z e r = absurd (omega arith)
+    go false true d z e r = clean-cons b s ∙ rw d (r (eqb-true (afterLast digit s) 0 z))
+    go t false d z e r = absurd (omega arith)
+
+pub clean-last : (s : List ℕ) → (afterLast digit s ≡ 0 → ⊥) → clean s ≡ clean (take (afterLast digit s - 1) s) ++ digitValue (getD s (afterLast digit s - 1) 0) ∷ []
+unfolding afterLast
+clean-last [] n = absurd (n refl)
+clean-last (b ∷ s) n = go (digit b) (eqb (afterLast digit s) 0) refl refl n (clean-last s)
+  where
+    k : ℕ
+    k = afterLast digit s
+
+    more : (m : ℕ) → k ≡ suc m → clean s ≡ clean (take m s) ++ digitValue (getD s m 0) ∷ [] → clean (b ∷ s) ≡ clean (take (suc k - 1) (b ∷ s)) ++ digitValue (getD (b ∷ s) (suc k - 1) 0) ∷ []
+    more m e r =
+        let q : suc k - 1 ≡ suc m = omega arith in
+        clean-append (b ∷ []) s ∙ rw (q, r, clean-append (b ∷ []) (take m s)) (sym (append-assoc (clean (b ∷ [])) (clean (take m s)) (digitValue (getD s m 0) ∷ [])))
+
+    go : (t u : Bool) → digit b ≡ t → eqb k 0 ≡ u → (cond u (cond t 1 0) (suc k) ≡ 0 → ⊥)
+        → ((k ≡ 0 → ⊥) → clean s ≡ clean (take (k - 1) s) ++ digitValue (getD s (k - 1) 0) ∷ [])
+        → clean (b ∷ s) ≡ clean (take (cond u (cond t 1 0) (suc k) - 1) (b ∷ s)) ++ digitValue (getD (b ∷ s) (cond u (cond t 1 0) (suc k) - 1) 0) ∷ []
+    go true true d z n r = clean-cons b s ∙ rw (d, last-none s (eqb-true k 0 z), no-clean)
+    go false true d z n r = absurd (n refl)
+    go t false d z n r = more (k - 1) (let q = eqb-false k 0 z in omega arith) (r (eqb-false k 0 z))
+
+pub last-some : (s : List ℕ) → 0 < length (clean s) → afterLast digit s ≡ 0 → ⊥
+last-some s h e = let q = ap length (last-none s e) in omega arith

@@ -33,3 +33,7 @@ every-all P f (a ∷ s) = (f a, every-all P f s)
 pub every-imply : {A : Type 0} (P Q : A → Type 0) → ((a : A) → P a → Q a) → (s : List A) → Every P s → Every Q s
 every-imply P Q f [] h = tt
 every-imply P Q f (a ∷ s) h = (f a (h .0), every-imply P Q f s (h .1))
+
+pub every-last : {A : Type 0} (P : A → Type 0) (s : List A) (x : A) → Every P (s ++ x ∷ []) → P x
+every-last P [] x h = h .0
+every-last P (a ∷ s) x h = every-last P s x (h .1)

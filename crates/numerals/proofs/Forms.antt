@@ -149,6 +149,10 @@ pub record Formed (w : Word) : Type 0 where
 formed : (w : Word) (k : ℕ) → k < ordinalStep → numberOf w ≡ onesAt + k → Formed w
 formed w k h e = record { place = k; within = h; number = e }
 
+pub zero-formed : Formed (one 0)
+unfolding numberOf
+zero-formed = formed (one 0) 0 (omega arith) refl
+
 pub formed-said : Says (λ d. d < 10) Formed
 unfolding numberOf
 formed-said =
@@ -173,7 +177,7 @@ pub form-number : (k : ℕ) → k < ordinalStep → ordinalForm (wordOf (onesAt 
 unfolding formHolds ordinalForm formIn lexicon
 form-number k h = same→≡ _ _ (below formHolds ordinalStep tt k h)
 
-formed-numeral : (w : Word) → Formed w → Numeral w
+pub formed-numeral : (w : Word) → Formed w → Numeral w
 unfolding numberOf
 formed-numeral (one d) f = refl
 formed-numeral (teen d) f = refl
@@ -209,9 +213,9 @@ formed-listed w f =
 
 -- so no last word takes "th" at its end
 pub no-th : (s : List ℕ) → Every Listed (orZero (cardinal s))
-unfolding orZero cardinal numberOf
+unfolding orZero cardinal
 no-th s = go (cardinalOf (clean s)) (cardinal-formed (clean s) (clean-digits s))
   where
     go : (ws : List Word) → Every Formed ws → Every Listed (orZero ws)
-    go [] h = (formed-listed (one 0) (formed (one 0) 0 (omega arith) refl), tt)
+    go [] h = (formed-listed (one 0) zero-formed, tt)
     go (w ∷ ws) h = every-imply Formed Listed formed-listed (w ∷ ws) h

@@ -3,4 +3,5 @@ pub mod Holding
 pub mod Cardinal
 pub mod Every
 pub mod Forms
+pub mod Flushing
 pub mod Value
