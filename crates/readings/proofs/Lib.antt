@@ -1,0 +1,2 @@
+pub mod RealLaws
+pub mod LetterLaws
