@@ -1,0 +1,4 @@
+pub mod Said
+pub mod RealLaws
+pub mod PartLaws
+pub mod LetterLaws
