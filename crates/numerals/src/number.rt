@@ -19,7 +19,6 @@ use lists::after_last;
 use lists::byte_at;
 use lists::front;
 use lists::tail;
-use lists::without_back;
 use sink::Pen;
 ghost use mathlib.Core.Path.{_≡_};
 ghost use mathlib.Core.List.{map};
@@ -105,12 +104,12 @@ pub fn say_cardinal(s: &[u8], store: &mut [u8], table: &mut [u8], pen: Pen) -> P
 
 // Says more digits than have a cardinal reading one by one, the last of them in its ordinal form.
 fn say_long_ordinal(s: &[u8], store: &mut [u8], table: &mut [u8], pen: Pen) -> Pen
-    ensures { λ r. ⌜ (12 < length (clean (now (s .entry))) → sink (now (store .exit)) (now (table .exit)) r ≡ emitAll (spelled (ordinal (now (s .entry)))) (sink (now (store .entry)) (now (table .entry)) pen)) ⌝ }
+    requires { ⌜ 12 < length (clean (now s)) ⌝ }
+    ensures { λ r. ⌜ sink (now (store .exit)) (now (table .exit)) r ≡ emitAll (spelled (ordinal (now (s .entry)))) (sink (now (store .entry)) (now (table .entry)) pen) ⌝ }
 {
-    let most = front(s, after_last(DIGIT, 0, s));
-    let before = without_back(most, 1);
-    let d = digit_value(byte_at(s, before.len()));
-    let p = say_digits(before, store, table, pen);
+    let at = after_last(DIGIT, 0, s) - 1;
+    let p = say_digits(front(s, at), store, table, pen);
+    let d = digit_value(byte_at(s, at));
     say(ONES + ORDINAL + d as usize, store, table, p)
 }
 

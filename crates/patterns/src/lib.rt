@@ -4,6 +4,7 @@ use admit::Answer;
 use admit::Refusal;
 use admit::refusal_of;
 use lists::put;
+use lists::unpacked;
 use shapes::TimeSplit;
 ghost use mathlib.Core.Path.{_≡_};
 ghost use Rattle.shapes.specs.Shapes.{isDigits, isAlpha, isDouble, isCommaInt, isOrdinal, isUsMoney, isIllion, isRoman, isDrOrSt, isNumberS, isLeadingZeroDigits, isSevenDigitPhone, isNDigits, isTime, isDottedAbbrev, isDigitsSlashDigits, isDigitsDashDigits};
@@ -308,6 +309,6 @@ pub fn unit_word(unit: &[u8], store: &mut [u8]) -> UnitWord
             len: 0,
         };
     }
-    let lex = lexicon::lexicon();
-    store_word(lexicon::word(&lex, units::word_number(k)), store)
+    let row = lexicon::row(units::word_number(k) as usize);
+    store_word(unpacked(&row), store)
 }

@@ -12,12 +12,12 @@ use lib.Seq.{drop-cons}
 use mir.Facts.{and-yes}
 use borrow.Author.Tests.{lt-ltb, le-ltb, le-leb, lt-leb, leb-true, leb-false, eq-eqb, ne-eqb, eqb-true, eqb-false}
 use Rattle.lists.specs.Bytes.{all, same, sameBy}
-use Rattle.lists.specs.Packed.{packedRow}
+use Rattle.lists.specs.LittleEndian.{leValue}
 use Rattle.lists.proofs.Scan.{same-long}
 use Rattle.lists.proofs.Table.{below, same→≡}
-use Rattle.lexicon.specs.Lexicon.{words, wordOf, packed}
-use Rattle.lexicon.proofs.Laws as lexicon
-use Rattle.units.specs.Units.{unitAbbreviations, abbreviations, unitWords, before, unitIndex, isUnit, unitWord, value, unitKey, unitKeys, wordNumbers}
+use Rattle.lexicon.specs.Lexicon.{wordOf}
+use Rattle.lexicon.proofs.Laws.{lexicon}
+use Rattle.units.specs.Units.{unitAbbreviations, abbreviations, unitWords, before, unitIndex, isUnit, unitWord, unitKey, unitKeys, wordNumbers}
 
 -- two numbers of a lowest digit and a rest are equal where both parts are
 digit-same : (n b c v w : ℕ) → b < n → c < n → eqb (b + n * v) (c + n * w) ≡ eqb b c && eqb v w
@@ -40,35 +40,35 @@ abbrev bytesb : List ℕ → Bool
 bytesb s = all (λ b. ltb b 256) s
 
 -- texts of one length are the same where their values are
-value-same : (a u : List ℕ) → T (bytesb a) → Bytes u → length a ≡ length u → eqb (value a) (value u) ≡ same a u
-unfolding value all sameBy
+value-same : (a u : List ℕ) → T (bytesb a) → Bytes u → length a ≡ length u → eqb (leValue a) (leValue u) ≡ same a u
+unfolding leValue all sameBy
 value-same [] [] t q e = refl
 value-same [] (c ∷ u) t q e = absurd (omega arith)
 value-same (b ∷ a) [] t q e = absurd (omega arith)
 value-same (b ∷ a) (c ∷ u) t q e =
     let y = and-yes (ltb b 256) (bytesb a) t in
-    rw (digit-same 256 b c (value a) (value u) (ltb→lt b 256 (y .0)) (q 0), value-same a u (y .1) (λ i. q (suc i)) (omega arith))
+    rw (digit-same 256 b c (leValue a) (leValue u) (ltb→lt b 256 (y .0)) (q 0), value-same a u (y .1) (λ i. q (suc i)) (omega arith))
 
 -- texts are the same where their lengths and their values are
-text-same : (a u : List ℕ) → T (bytesb a) → Bytes u → (eqb (length a) (length u) && eqb (value a) (value u)) ≡ same a u
+text-same : (a u : List ℕ) → T (bytesb a) → Bytes u → (eqb (length a) (length u) && eqb (leValue a) (leValue u)) ≡ same a u
 text-same a u p q = go (eqb (length a) (length u)) refl
   where
-    go : (t : Bool) → eqb (length a) (length u) ≡ t → (t && eqb (value a) (value u)) ≡ same a u
+    go : (t : Bool) → eqb (length a) (length u) ≡ t → (t && eqb (leValue a) (leValue u)) ≡ same a u
     go true e = value-same a u p q (eqb-true (length a) (length u) e)
     go false e = sym (same-long _ a u (eqb-false (length a) (length u) e))
 
 -- the key tells a text of 1 to 3 bytes from every other
 key-same : (a u : List ℕ) → 1 ≤ length a → length a ≤ 3 → T (bytesb a) → Bytes u → eqb (unitKey a) (unitKey u) ≡ same a u
-unfolding unitKey value
+unfolding unitKey leValue
 key-same a u h l p q = rw (le-leb (length a) 3 l) (go (leb (length u) 3) refl)
   where
-    go : (t : Bool) → leb (length u) 3 ≡ t → eqb (length a + 256 * value a) (cond t (length u + 256 * value u) 0) ≡ same a u
-    go true e = digit-same 256 (length a) (length u) (value a) (value u) (omega arith) (omega (arith, leb-true)) ∙ text-same a u p q
-    go false e = ne-eqb (length a + 256 * value a) 0 (λ z. omega arith) ∙ sym (same-long _ a u (λ z. omega (arith, leb-false)))
+    go : (t : Bool) → leb (length u) 3 ≡ t → eqb (length a + 256 * leValue a) (cond t (length u + 256 * leValue u) 0) ≡ same a u
+    go true e = digit-same 256 (length a) (length u) (leValue a) (leValue u) (omega arith) (omega (arith, leb-true)) ∙ text-same a u p q
+    go false e = ne-eqb (length a + 256 * leValue a) 0 (λ z. omega arith) ∙ sym (same-long _ a u (λ z. omega (arith, leb-false)))
 
 -- the key as the code makes it
 pub key-short : (u : List ℕ) → length u ≤ 3 → length u + 256 * (getD u 0 0 + 256 * (getD u 1 0 + 256 * getD u 2 0)) ≡ unitKey u
-unfolding unitKey value
+unfolding unitKey leValue
 key-short [] h = omega arith
 key-short (a ∷ []) h = omega arith
 key-short (a ∷ b ∷ []) h = omega arith
@@ -85,7 +85,7 @@ fine k = let a = getD abbreviations k [] in leb 1 (length a) && leb (length a) 3
 
 -- the key of row k tells whether its abbreviation is u
 row-same : (u : List ℕ) (k : ℕ) → Bytes u → k < 22 → eqb (getD unitKeys k 0) (unitKey u) ≡ same (getD abbreviations k []) u
-unfolding fine abbreviations unitAbbreviations unitKeys unitKey value all
+unfolding fine abbreviations unitAbbreviations unitKeys unitKey leValue all
 row-same u k b h =
     let a = getD abbreviations k [] in
     let y = and-yes (leb 1 (length a) && leb (length a) 3) (bytesb a) (below fine 22 tt k h) in
@@ -94,13 +94,11 @@ row-same u k b h =
 
 -- row k's word is the lexicon's of its number
 worded : ℕ → Bool
-worded k = ltb (getD wordNumbers k 0) 16 && same (wordOf (getD wordNumbers k 0)) (getD unitWords k [])
+worded k = same (wordOf (getD wordNumbers k 0)) (getD unitWords k [])
 
-pub word-row : (k : ℕ) → k < 22 → packedRow 16 packed (getD wordNumbers k 0) ≡ getD unitWords k []
-unfolding worded wordNumbers before words wordOf unitWords unitAbbreviations sameBy
-word-row k h =
-    let y = and-yes (ltb (getD wordNumbers k 0) 16) (same (wordOf (getD wordNumbers k 0)) (getD unitWords k [])) (below worded 22 tt k h) in
-    lexicon.word-row (getD wordNumbers k 0) (ltb→lt _ _ (y .0)) ∙ same→≡ _ _ (y .1)
+pub word-row : (k : ℕ) → k < 22 → wordOf (getD wordNumbers k 0) ≡ getD unitWords k []
+unfolding worded lexicon wordNumbers before unitWords unitAbbreviations
+word-row k h = same→≡ _ _ (below worded 22 tt k h)
 
 pub rows : length unitAbbreviations ≡ 22
 unfolding unitAbbreviations

@@ -1,11 +1,12 @@
 -- patterns.rs, UNIT_ABBREVIATIONS, and its two look-ups. Definitions only.
 use mathlib.Core.Bool.{Bool, cond}
 use mathlib.Core.List.{List, [], _∷_, map}
-use Prim.Native.Nat.{ℕ, suc, _+_, _*_}
+use Prim.Native.Nat.{ℕ, suc}
 use Prim.Native.String.{String}
 use lib.Dec.{leb, ltb}
 use lib.ListN.{length, getD}
 use Rattle.lists.specs.Bytes.{bytes, same}
+use Rattle.lists.specs.LittleEndian.{leValue}
 use Rattle.lexicon.specs.Lexicon.{words}
 
 -- a row of the table
@@ -49,14 +50,9 @@ isUnit u = ltb (unitIndex u) (length unitAbbreviations)
 abbrev pub unitWord : List ℕ → List ℕ
 unitWord u = getD unitWords (unitIndex u) []
 
--- the number whose digits in base 256 are the bytes, the first byte lowest
-unfoldable pub value : List ℕ → ℕ
-value [] = 0
-value (b ∷ s) = b + 256 * value s
-
 -- a number that tells the texts of up to 3 bytes apart, 0 for a longer one
 unfoldable pub unitKey : List ℕ → ℕ
-unitKey u = cond (leb (length u) 3) (value (length u ∷ u)) 0
+unitKey u = cond (leb (length u) 3) (leValue (length u ∷ u)) 0
 
 -- the abbreviations as the code holds them: their keys
 unfoldable pub unitKeys : List ℕ

@@ -1,14 +1,24 @@
 // Every function that C calls, thin over the library. include/howhakiru.h is the same list for C.
+use numbers::Numeral;
 use patterns::SplitTime;
 use patterns::SplitUnit;
 use patterns::UnitWord;
 use patterns::Verdict;
 use shapes::TimeSplit;
+use sink::Spoken;
 ghost use mathlib.Core.Path.{_≡_};
 ghost use Prim.Native.Nat.{_-_};
 ghost use lib.ListN.{length};
 ghost use Rattle.shapes.specs.Shapes.{isDigits, isAlpha, isDouble, isCommaInt, isOrdinal, isUsMoney, isIllion, isRoman, isDrOrSt, isNumberS, isLeadingZeroDigits, isSevenDigitPhone, isNDigits, isTime, isDottedAbbrev, isDigitsSlashDigits, isDigitsDashDigits};
 ghost use Rattle.patterns.specs.Calls.{asVerdict, verdictCall, asTime, timeCall, asUnit, unitCall, asWord, wordCall};
+ghost use Rattle.sink.specs.Words.{wordsCall, asWords};
+ghost use Rattle.numerals.specs.Words.{spelled};
+ghost use Rattle.numerals.specs.Cardinal.{cardinal, digits};
+ghost use Rattle.numerals.specs.Ordinal.{ordinal};
+ghost use Rattle.readings.specs.Year.{year};
+ghost use Rattle.readings.specs.Real.{real};
+ghost use Rattle.readings.specs.Letters.{letters};
+ghost use Rattle.numbers.specs.Calls.{asNumeral, romanCall};
 ghost use Rattle.voice.specs.AtC.{timeAtC};
 
 // split_time_meridiem for C, which takes no enum: each part by its offset and its length.
@@ -203,4 +213,53 @@ pub extern "C" fn hwk_unit_word(unit: &[u8], store: &mut [u8]) -> UnitWord
     ensures { λ r. ⌜ asWord r (now (store .exit)) ≡ wordCall (now (unit .entry)) (now (store .entry)) ⌝ }
 {
     patterns::unit_word(unit, store)
+}
+
+#[no_mangle]
+pub extern "C" fn hwk_cardinal(s: &[u8], store: &mut [u8], table: &mut [u8]) -> Spoken
+    ensures { λ r. ⌜ asWords r (now (store .exit)) (now (table .exit)) ≡ wordsCall (now (s .entry)) (spelled (cardinal (now (s .entry)))) (now (store .entry)) (now (table .entry)) ⌝ }
+{
+    numbers::cardinal(s, store, table)
+}
+
+#[no_mangle]
+pub extern "C" fn hwk_ordinal(s: &[u8], store: &mut [u8], table: &mut [u8]) -> Spoken
+    ensures { λ r. ⌜ asWords r (now (store .exit)) (now (table .exit)) ≡ wordsCall (now (s .entry)) (spelled (ordinal (now (s .entry)))) (now (store .entry)) (now (table .entry)) ⌝ }
+{
+    numbers::ordinal(s, store, table)
+}
+
+#[no_mangle]
+pub extern "C" fn hwk_year(s: &[u8], store: &mut [u8], table: &mut [u8]) -> Spoken
+    ensures { λ r. ⌜ asWords r (now (store .exit)) (now (table .exit)) ≡ wordsCall (now (s .entry)) (spelled (year (now (s .entry)))) (now (store .entry)) (now (table .entry)) ⌝ }
+{
+    numbers::year(s, store, table)
+}
+
+#[no_mangle]
+pub extern "C" fn hwk_digits(s: &[u8], store: &mut [u8], table: &mut [u8]) -> Spoken
+    ensures { λ r. ⌜ asWords r (now (store .exit)) (now (table .exit)) ≡ wordsCall (now (s .entry)) (spelled (digits (now (s .entry)))) (now (store .entry)) (now (table .entry)) ⌝ }
+{
+    numbers::digits(s, store, table)
+}
+
+#[no_mangle]
+pub extern "C" fn hwk_real(s: &[u8], store: &mut [u8], table: &mut [u8]) -> Spoken
+    ensures { λ r. ⌜ asWords r (now (store .exit)) (now (table .exit)) ≡ wordsCall (now (s .entry)) (spelled (real (now (s .entry)))) (now (store .entry)) (now (table .entry)) ⌝ }
+{
+    numbers::real(s, store, table)
+}
+
+#[no_mangle]
+pub extern "C" fn hwk_letters(s: &[u8], store: &mut [u8], table: &mut [u8]) -> Spoken
+    ensures { λ r. ⌜ asWords r (now (store .exit)) (now (table .exit)) ≡ wordsCall (now (s .entry)) (spelled (letters (now (s .entry)))) (now (store .entry)) (now (table .entry)) ⌝ }
+{
+    numbers::letters(s, store, table)
+}
+
+#[no_mangle]
+pub extern "C" fn hwk_roman_value(s: &[u8]) -> Numeral
+    ensures { λ r. ⌜ asNumeral r ≡ romanCall (now (s .entry)) ⌝ }
+{
+    numbers::roman_value(s)
 }

@@ -1,12 +1,11 @@
 use Rattle.units.specs.Units.{unitAbbreviations, unitWords, before, wordNumbers}
-use Rattle.lexicon.specs.Lexicon.{words}
-use Rattle.lists.specs.Bytes.{sameBy}
+use Rattle.lexicon.proofs.Laws.{lexicon}
 use borrow.Author.Needs.{needs}
 use Rattle.units.proofs.word_number.Statement.{statement}
 use Rattle.units.proofs.word_number.Tie as tie
 
 returns : tie.Need-returns
-unfolding wordNumbers before words unitWords unitAbbreviations sameBy
+unfolding wordNumbers before lexicon unitWords unitAbbreviations
 returns c = c .byte-at .ensures
 
 pub word-number-spec : {M : Type 1} → statement M

@@ -1,0 +1,135 @@
+-- The digits of a text, byte by byte. Assumes nothing.
+use mathlib.Core.Path.{_≡_, refl, sym, ap, _∙_}
+use mathlib.Core.Bool.{Bool, true, false, cond, _&&_, not}
+use mathlib.Core.List.{List, [], _∷_, _++_, map, append-assoc, append-nil}
+use Prim.Native.Nat.{ℕ, zero, suc, _+_, _-_, _≤_, _<_}
+use native.Mathlib.Numerals.{add-one}
+use native.Mathlib.Omega.{arith}
+use lib.Dec.{leb, eqb}
+use lib.ListN.{length, getD, take, drop, set, length-append, drop-of-length-le}
+use lib.Seq.{drop-cons, take-suc-set, length-take-le}
+use borrow.Author.Tests.{le-leb, lt-leb, eqb-true, eqb-false}
+use Rattle.lists.specs.Bytes.{keep, afterLast}
+use Rattle.lists.specs.Classes.{digit, except}
+use Rattle.numerals.specs.Words.{Word, one, spell, spelled}
+use Rattle.numerals.specs.Cardinal.{clean, digitValue, digits}
+
+-- a byte at the front
+clean-cons : (b : ℕ) (s : List ℕ) → clean (b ∷ s) ≡ cond (digit b) (digitValue b ∷ clean s) (clean s)
+unfolding clean keep
+clean-cons b s = go (digit b)
+  where
+    go : (t : Bool) → map digitValue (cond t (b ∷ keep digit s) (keep digit s)) ≡ cond t (digitValue b ∷ map digitValue (keep digit s)) (map digitValue (keep digit s))
+    go true = refl
+    go false = refl
+
+pub clean-append : (s t : List ℕ) → clean (s ++ t) ≡ clean s ++ clean t
+unfolding clean keep
+clean-append [] t = refl
+clean-append (b ∷ s) t = clean-cons b (s ++ t) ∙ rw (clean-append s t, clean-cons b s) (go (digit b))
+  where
+    go : (c : Bool) → cond c (digitValue b ∷ clean s ++ clean t) (clean s ++ clean t) ≡ cond c (digitValue b ∷ clean s) (clean s) ++ clean t
+    go true = refl
+    go false = refl
+
+pub clean-at : (s : List ℕ) (i : ℕ) → i < length s → clean (drop i s) ≡ clean (getD s i 0 ∷ []) ++ clean (drop (i + 1) s)
+clean-at s i h = rw (add-one i) (ap clean (drop-cons s i 0 h) ∙ clean-append (getD s i 0 ∷ []) (drop (suc i) s))
+
+-- the byte is a digit, or none
+pub clean-digit : (b : ℕ) → 48 ≤ b → b ≤ 57 → clean (b ∷ []) ≡ digitValue b ∷ []
+unfolding clean keep
+clean-digit b h k = rw (le-leb 48 b h, le-leb b 57 k)
+
+pub clean-low : (b : ℕ) → b < 48 → clean (b ∷ []) ≡ []
+unfolding clean keep
+clean-low b h = rw (lt-leb 48 b h)
+
+pub clean-high : (b : ℕ) → 48 ≤ b → 57 < b → clean (b ∷ []) ≡ []
+unfolding clean keep
+clean-high b h k = rw (le-leb 48 b h, lt-leb b 57 k)
+
+pub map-append : (s t : List ℕ) → map one (s ++ t) ≡ map one s ++ map one t
+map-append [] t = refl
+map-append (d ∷ s) t = ap (λ (ws : List Word). one d ∷ ws) (map-append s t)
+
+pub spelled-append : (ws vs : List Word) → spelled (ws ++ vs) ≡ spelled ws ++ spelled vs
+unfolding spelled
+spelled-append [] vs = refl
+spelled-append (w ∷ ws) vs = ap (λ (l : List (List ℕ)). spell w ∷ l) (spelled-append ws vs)
+
+-- the words of what is left are those of the byte at i and those from the next on
+pub digits-at : (s : List ℕ) (i : ℕ) → i < length s → spelled (digits (drop i s)) ≡ spelled (digits (getD s i 0 ∷ [])) ++ spelled (digits (drop (i + 1) s))
+unfolding digits
+digits-at s i h = rw (clean-at s i h, map-append (clean (getD s i 0 ∷ [])) (clean (drop (i + 1) s))) (spelled-append _ _)
+
+no-clean : clean [] ≡ []
+unfolding clean keep
+no-clean = refl
+
+pub no-digits : spelled (digits []) ≡ []
+unfolding digits clean keep spelled
+no-digits = refl
+
+-- commas are no digits
+pub clean-commas : (s : List ℕ) → clean (keep (except 44) s) ≡ clean s
+unfolding clean keep
+clean-commas [] = refl
+clean-commas (b ∷ s) = go (eqb b 44) refl (clean-commas s) ∙ sym (clean-cons b s)
+  where
+    go : (t : Bool) → eqb b 44 ≡ t → clean (keep (except 44) s) ≡ clean s → clean (cond (not t) (b ∷ keep (except 44) s) (keep (except 44) s)) ≡ cond (digit b) (digitValue b ∷ clean s) (clean s)
+    go true e r = r ∙ rw (eqb-true b 44 e)
+    go false e r = clean-cons b (keep (except 44) s) ∙ rw r
+
+-- a loop that picks digits has those before i in d
+module _ (s d : List ℕ) (n i : ℕ) (h : i < length s) (e : clean s ≡ take n d ++ clean (drop i s)) where
+  pub pick-none : clean (getD s i 0 ∷ []) ≡ [] → clean s ≡ take n d ++ clean (drop (i + 1) s)
+  pick-none z = e ∙ rw (clean-at s i h, z)
+
+  module _ (v : 48 ≤ getD s i 0) (u : getD s i 0 ≤ 57) where
+    at-digit : clean s ≡ take n d ++ (digitValue (getD s i 0) ∷ clean (drop (i + 1) s))
+    at-digit = e ∙ rw (clean-at s i h, clean-digit (getD s i 0) v u)
+
+    pub pick-digit : n < length d → clean s ≡ take (n + 1) (set d n (digitValue (getD s i 0))) ++ clean (drop (i + 1) s)
+    pick-digit k = rw (add-one n, take-suc-set d n (digitValue (getD s i 0)) k, append-assoc) at-digit
+
+    pub pick-over : n ≤ length d → n < length (clean s)
+    pick-over l = omega (arith, ap length at-digit, length-append (take n d) (digitValue (getD s i 0) ∷ clean (drop (i + 1) s)), length-take-le n d l)
+
+pub pick-end : (s d : List ℕ) (n i : ℕ) → length s ≤ i → clean s ≡ take n d ++ clean (drop i s) → take n d ≡ clean s
+unfolding clean keep
+pick-end s d n i h e = sym (e ∙ rw (drop-of-length-le s h) (append-nil (take n d)))
+
+-- ---- the last digit
+
+last-none : (s : List ℕ) → afterLast digit s ≡ 0 → clean s ≡ []
+unfolding afterLast
+last-none [] e = no-clean
+last-none (b ∷ s) e = go (digit b) (eqb (afterLast digit s) 0) refl refl e (last-none s)
+  where
+    go : (t u : Bool) → digit b ≡ t → eqb (afterLast digit s) 0 ≡ u → cond u (cond t 1 0) (suc (afterLast digit s)) ≡ 0 → (afterLast digit s ≡ 0 → clean s ≡ []) → clean (b ∷ s) ≡ []
+    go true true d z e r = absurd (omega arith)
+    go false true d z e r = clean-cons b s ∙ rw d (r (eqb-true (afterLast digit s) 0 z))
+    go t false d z e r = absurd (omega arith)
+
+pub clean-last : (s : List ℕ) → (afterLast digit s ≡ 0 → ⊥) → clean s ≡ clean (take (afterLast digit s - 1) s) ++ digitValue (getD s (afterLast digit s - 1) 0) ∷ []
+unfolding afterLast
+clean-last [] n = absurd (n refl)
+clean-last (b ∷ s) n = go (digit b) (eqb (afterLast digit s) 0) refl refl n (clean-last s)
+  where
+    k : ℕ
+    k = afterLast digit s
+
+    more : (m : ℕ) → k ≡ suc m → clean s ≡ clean (take m s) ++ digitValue (getD s m 0) ∷ [] → clean (b ∷ s) ≡ clean (take (suc k - 1) (b ∷ s)) ++ digitValue (getD (b ∷ s) (suc k - 1) 0) ∷ []
+    more m e r =
+        let q : suc k - 1 ≡ suc m = omega arith in
+        clean-append (b ∷ []) s ∙ rw (q, r, clean-append (b ∷ []) (take m s)) (sym (append-assoc (clean (b ∷ [])) (clean (take m s)) (digitValue (getD s m 0) ∷ [])))
+
+    go : (t u : Bool) → digit b ≡ t → eqb k 0 ≡ u → (cond u (cond t 1 0) (suc k) ≡ 0 → ⊥)
+        → ((k ≡ 0 → ⊥) → clean s ≡ clean (take (k - 1) s) ++ digitValue (getD s (k - 1) 0) ∷ [])
+        → clean (b ∷ s) ≡ clean (take (cond u (cond t 1 0) (suc k) - 1) (b ∷ s)) ++ digitValue (getD (b ∷ s) (cond u (cond t 1 0) (suc k) - 1) 0) ∷ []
+    go true true d z n r = clean-cons b s ∙ rw (d, last-none s (eqb-true k 0 z), no-clean)
+    go false true d z n r = absurd (n refl)
+    go t false d z n r = more (k - 1) (let q = eqb-false k 0 z in omega arith) (r (eqb-false k 0 z))
+
+pub last-some : (s : List ℕ) → 0 < length (clean s) → afterLast digit s ≡ 0 → ⊥
+last-some s h e = let q = ap length (last-none s e) in omega arith

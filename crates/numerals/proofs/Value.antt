@@ -1,0 +1,111 @@
+-- The words of a number of up to twelve digits name its decimal value. Assumes nothing.
+use mathlib.Core.Path.{_≡_, refl, sym, ap, _∙_}
+use mathlib.Core.Bool.{Bool, true, false, cond}
+use mathlib.Core.List.{List, [], _∷_, _++_, append-nil}
+use Prim.Native.Nat.{ℕ, zero, suc, _+_, _*_, _^_, _≤_, _<_}
+use native.Mathlib.Nat.{pow-suc, zero-add}
+use native.Mathlib.Omega.{arith}
+use lib.Dec.{eqb}
+use lib.ListN.{length, take, drop, length-take, length-drop, take-append-drop}
+use lib.Pow.{pow-add}
+use borrow.Author.Tests.{eqb-true, le-leb}
+use Rattle.numerals.specs.Words.{Word, one, hundred, scale}
+use Rattle.numerals.specs.Cardinal.{clean, pair, scaleFor, join, splitAt, byScale, cardinalStep, cardinalFew, cardinalOf, cardinal}
+use Rattle.numerals.specs.Value.{valueFrom, value, decimalFrom, decimal}
+use Rattle.numerals.proofs.Cardinal.{split-parts, cardinal-eq}
+
+pair-value : (t c a b : ℕ) (ws : List Word) → valueFrom t c (pair a b ++ ws) ≡ valueFrom t (c + (a * 10 + b)) ws
+unfolding valueFrom pair
+pair-value t c zero zero ws = ap (λ (x : ℕ). valueFrom t x ws) (omega arith)
+pair-value t c zero (suc b) ws = ap (λ (x : ℕ). valueFrom t x ws) (omega arith)
+pair-value t c (suc a) zero ws = ap (λ (x : ℕ). valueFrom t x ws) (omega arith)
+pair-value t c (suc zero) (suc b) ws = ap (λ (x : ℕ). valueFrom t x ws) (omega arith)
+pair-value t c (suc (suc a)) (suc b) ws = ap (λ (x : ℕ). valueFrom t x ws) (omega arith)
+
+two-value : (t a b : ℕ) (ws : List Word) → valueFrom t 0 (cardinalFew (a ∷ b ∷ []) ++ ws) ≡ valueFrom t (a * 10 + b) ws
+unfolding cardinalStep
+two-value t a b ws = rw (cardinal-eq (a ∷ b ∷ [])) (pair-value t 0 a b ws ∙ ap (λ (x : ℕ). valueFrom t x ws) (omega arith))
+
+-- up to three digits add to what a scale word then closes
+group-value : (t : ℕ) (s : List ℕ) (ws : List Word) → length s ≤ 3 → valueFrom t 0 (cardinalFew s ++ ws) ≡ valueFrom t (decimal s) ws
+unfolding valueFrom cardinalStep decimal decimalFrom
+group-value t [] ws h = rw (cardinal-eq [])
+group-value t (a ∷ []) ws h = rw (cardinal-eq (a ∷ [])) (ap (λ (x : ℕ). valueFrom t x ws) (omega arith))
+group-value t (a ∷ b ∷ []) ws h = two-value t a b ws ∙ ap (λ (x : ℕ). valueFrom t x ws) (omega arith)
+group-value t (a ∷ b ∷ c ∷ []) ws h = rw (cardinal-eq (a ∷ b ∷ c ∷ [])) (go (eqb a 0) refl)
+  where
+    go : (z : Bool) → eqb a 0 ≡ z → valueFrom t 0 (cond z (cardinalFew (b ∷ c ∷ [])) (one a ∷ hundred ∷ pair b c) ++ ws) ≡ valueFrom t (((0 * 10 + a) * 10 + b) * 10 + c) ws
+    go true e = two-value t b c ws ∙ ap (λ (x : ℕ). valueFrom t x ws) (omega (arith, eqb-true a 0 e))
+    go false e = pair-value t ((0 + a) * 100) b c ws ∙ ap (λ (x : ℕ). valueFrom t x ws) (omega arith)
+group-value t (a ∷ b ∷ c ∷ d ∷ s) ws h = absurd (omega arith)
+
+decimalFrom-split : (s : List ℕ) (n : ℕ) → decimalFrom n s ≡ n * 10 ^ length s + decimalFrom 0 s
+unfolding decimalFrom
+decimalFrom-split [] n = omega arith
+decimalFrom-split (d ∷ s) n =
+    let p = decimalFrom-split s (n * 10 + d) in
+    let q = decimalFrom-split s (0 * 10 + d) in
+    simp pow-suc (omega arith)
+
+decimalFrom-append : (a b : List ℕ) (n : ℕ) → decimalFrom n (a ++ b) ≡ decimalFrom (decimalFrom n a) b
+unfolding decimalFrom
+decimalFrom-append [] b n = refl
+decimalFrom-append (d ∷ a) b n = decimalFrom-append a b (n * 10 + d)
+
+-- digits before others stand for as many powers of ten
+pub decimal-append : (a b : List ℕ) → decimal (a ++ b) ≡ decimal a * 10 ^ length b + decimal b
+unfolding decimal
+decimal-append a b = decimalFrom-append a b 0 ∙ decimalFrom-split b (decimalFrom 0 a)
+
+join-value : (t k : ℕ) (s : List ℕ) (r : List Word) → length s ≤ 3 → valueFrom t 0 (join (cardinalFew s) (scale k) r) ≡ valueFrom (t + decimal s * 1000 ^ k) 0 r
+unfolding valueFrom join
+join-value t k s r h = go (cardinalFew s) refl
+  where
+    go : (g : List Word) → cardinalFew s ≡ g → valueFrom t 0 (join g (scale k) r) ≡ valueFrom (t + decimal s * 1000 ^ k) 0 r
+    go [] e =
+        let z : decimal s ≡ 0 = omega (arith, rw e at (group-value 0 s [] h)) in
+        ap (λ (x : ℕ). valueFrom x 0 r) (rw z (omega arith))
+    go (w ∷ g) e = rw e at (group-value t s (scale k ∷ r) h)
+
+pow-thousand : (k : ℕ) → 1000 ^ k ≡ 10 ^ (3 * k)
+pow-thousand zero = refl
+pow-thousand (suc k) = pow-suc 1000 k ∙ ap (λ (x : ℕ). x * 1000) (pow-thousand k) ∙ sym (pow-add 10 (3 * k) 3) ∙ ap (λ (x : ℕ). 10 ^ x) (omega arith)
+
+-- the digits before i, with the power of ten of the k scales after them
+cut-value : (s : List ℕ) (i k : ℕ) → i + 3 * k ≡ length s → decimal (take i s) * 1000 ^ k + decimal (drop i s) ≡ decimal s
+cut-value s i k e =
+    let l : length (drop i s) ≡ 3 * k = length-drop i s ∙ omega arith in
+    rw (pow-thousand k) (rw l at (sym (decimal-append (take i s) (drop i s))) ∙ ap decimal (take-append-drop i s))
+
+group-end : (t : ℕ) (s : List ℕ) → length s ≤ 3 → valueFrom t 0 (cardinalFew s) ≡ t + decimal s
+unfolding valueFrom
+group-end t s h = rw append-nil at (group-value t s [] h)
+
+-- for strings shorter than m, since the parts of a string are shorter
+shorter-value : (m t : ℕ) (s : List ℕ) → length s < m → length s ≤ 12 → valueFrom t 0 (cardinalFew s) ≡ t + decimal s
+unfolding valueFrom cardinalStep byScale
+shorter-value zero t s l h = absurd (omega arith)
+shorter-value (suc m) t [] l h = group-end t [] (omega arith)
+shorter-value (suc m) t (a ∷ []) l h = group-end t (a ∷ []) (omega arith)
+shorter-value (suc m) t (a ∷ b ∷ []) l h = group-end t (a ∷ b ∷ []) (omega arith)
+shorter-value (suc m) t (a ∷ b ∷ c ∷ []) l h = group-end t (a ∷ b ∷ c ∷ []) (omega arith)
+shorter-value (suc m) t (a ∷ b ∷ c ∷ d ∷ r) l h =
+    let s = a ∷ b ∷ c ∷ d ∷ r in
+    let i = splitAt (length s) in
+    let k = scaleFor (length s) in
+    let p = split-parts (length s) (omega arith) in
+    let u = t + decimal (take i s) * 1000 ^ k in
+    rw (cardinal-eq (a ∷ b ∷ c ∷ d ∷ r))
+    (join-value t k (take i s) (cardinalFew (drop i s)) (omega (arith, length-take i s, p .few h))
+    ∙ shorter-value m u (drop i s) (omega (arith, length-drop i s, p .whole, p .right)) (omega (arith, length-drop i s))
+    ∙ omega (arith, cut-value s i k (p .whole)))
+
+pub cardinal-value : (s : List ℕ) → length s ≤ 12 → value (cardinalFew s) ≡ decimal s
+unfolding value
+cardinal-value s h = shorter-value (suc (length s)) 0 s (omega arith) h ∙ zero-add (decimal s)
+
+-- "For 1 to 12 digits without a leading zero ("0" itself counts as such) the words are proved to name the decimal value": a
+-- leading zero adds nothing, and no words name 0, so neither is left out here
+pub cardinal-names : (s : List ℕ) → length (clean s) ≤ 12 → value (cardinal s) ≡ decimal (clean s)
+unfolding cardinal cardinalOf
+cardinal-names s h = rw (le-leb (length (clean s)) 12 h) (cardinal-value (clean s) h)

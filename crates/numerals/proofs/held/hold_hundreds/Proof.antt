@@ -1,0 +1,18 @@
+use borrow.Author.Tests.{eq-eqb, ne-eqb}
+use Rattle.numerals.specs.Walk.{numberOf, holdAll}
+use borrow.Author.Needs.{needs}
+use Rattle.numerals.proofs.held.hold_hundreds.Statement.{statement}
+use Rattle.numerals.proofs.held.hold_hundreds.Tie as tie
+
+returns : tie.Need-returns
+unfolding holdAll
+returns c = rw (eq-eqb _ _ (c .if1 .taken))
+
+returns-2 : tie.Need-returns-2
+unfolding holdAll numberOf
+returns-2 c = rw (ne-eqb _ _ (c .before .before .before .before .before .before .before .before .before .before .before .before .before .before .if1 .left), ← c .before .before .before .before .before .before .before .before .before .before .before .hold .ensures) (c .before .before .before .before .hold2 .ensures)
+
+pub hold-hundreds-spec : {M : Type 1} → statement M
+hold-hundreds-spec =
+    tie.close
+    (tie.spec returns (λ c. search needs) (λ c κs. search needs) (λ c κs. search needs) (λ c. search needs) (λ c. search needs) returns-2)

@@ -1,0 +1,16 @@
+use Rattle.numerals.specs.Walk.{numberOf, holdAll}
+use borrow.Author.Needs.{needs}
+use Rattle.numerals.proofs.held.hold_scale.Statement.{statement}
+use Rattle.numerals.proofs.held.hold_scale.Tie as tie
+
+returns : tie.Need-returns
+unfolding holdAll
+returns c = rw (c .if1 .taken)
+
+returns-2 : tie.Need-returns-2
+unfolding holdAll numberOf
+returns-2 c = rw (c .before .before .before .before .before .before .before .if1 .left) (c .before .before .before .before .hold .ensures)
+
+pub hold-scale-spec : {M : Type 1} → statement M
+hold-scale-spec =
+    tie.close (tie.spec returns (λ c. search needs) (λ c κs. search needs) (λ c. search needs) (λ c. search needs) returns-2)

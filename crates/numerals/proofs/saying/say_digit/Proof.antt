@@ -1,0 +1,24 @@
+use Rattle.sink.specs.Sink.{emitAll}
+use Rattle.numerals.specs.Words.{spelled, spell}
+use Rattle.numerals.specs.Cardinal.{digits}
+use Rattle.numerals.proofs.Digits.{clean-low, clean-high, clean-digit}
+use borrow.Author.Needs.{needs}
+use Rattle.numerals.proofs.saying.say_digit.Statement.{statement}
+use Rattle.numerals.proofs.saying.say_digit.Tie as tie
+
+returns : tie.Need-returns
+unfolding digits spelled emitAll
+returns c = rw (clean-low _ (c .if1 .taken))
+
+returns-2 : tie.Need-returns-2
+unfolding digits spelled emitAll
+returns-2 c = rw (clean-high _ (c .before .if1 .left) (c .if2 .taken))
+
+returns-3 : tie.Need-returns-3
+unfolding digits spelled emitAll spell
+returns-3 c = rw (clean-digit _ (c .before .before .before .before .before .before .before .before .if1 .left) (c .before .before .before .before .before .before .before .if2 .left)) (c .before .before .before .before .say .ensures)
+
+pub say-digit-spec : {M : Type 1} → statement M
+say-digit-spec =
+    tie.close
+    (tie.spec returns returns-2 (λ c. search needs) (λ c. search needs) (λ c κs. search needs) (λ c. search needs) (λ c. search needs) returns-3)

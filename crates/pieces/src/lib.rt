@@ -1,0 +1,1 @@
+// The set pieces of document 01, proved of the definitions in specs/ and proofs/. There is no code.
