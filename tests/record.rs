@@ -96,8 +96,8 @@ fn random_texts() -> Vec<Vec<u8>> {
     let mut texts = Vec::new();
     for _ in 0..600 {
         let corner = random.one_of(&corners);
-        texts.push(pieces::slip(&mut random, corner).into_bytes());
-        texts.push(pieces::some_pieces(&mut random, 8).into_bytes());
+        texts.push(pieces::slip(&mut random, pieces::PIECES, corner).into_bytes());
+        texts.push(pieces::some_pieces(&mut random, pieces::PIECES, 8).into_bytes());
     }
     for _ in 0..150 {
         texts.push((0..random.below(6)).map(|_| random.next() as u8).collect());
