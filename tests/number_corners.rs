@@ -122,3 +122,10 @@ const ROMANS: &[&str] = &[
     "XIIX", "MIM", "MIMI", "IMIM", "IMI", "VMV", "MDM", "IVXLC", "XIIV", "W", "IW", "WI", "I V", "X.", "X1", "1X", " X", "X ", "Xé", "éX", "Ⅳ",
     "I\0", "IIA", "H", "J", "U", "Y", "K", "B", "E", "N", "h", "j", "u", "w", "y", "k", "b", "e", "n", "ı", "İ", "ⅰ", "X,", "MM.", "MMMMMMMMMMMMMMMM",
 ];
+
+/// What a text of random pieces draws from.
+#[rustfmt::skip]
+pub const PIECES: &[&str] = &[
+    "0", "1", "2", "3", "4", "5", "6", "7", "8", "9", "00", "000", "777", "1984", ",", ".", "e", "E", "+", "-", " ", "a", "A", "i", "v", "x",
+    "l", "c", "d", "m", "I", "V", "X", "L", "C", "D", "M", "b", "Z", "_", "/", ":", "\0", "\u{7f}", "é", "\u{80}", "€", "\u{ffff}", "𐍈", "\u{10ffff}",
+];

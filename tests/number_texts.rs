@@ -34,13 +34,6 @@ const THEMES: &[Theme] = &[
 // Roman numerals in both cases, and a letter that is none.
 const NUMERALS: &[&str] = &["I", "V", "X", "L", "C", "D", "M", "i", "v", "x", "l", "c", "d", "m", "a"];
 
-/// What a text of random pieces draws from.
-#[rustfmt::skip]
-const PIECES: &[&str] = &[
-    "0", "1", "2", "3", "4", "5", "6", "7", "8", "9", "00", "000", "777", "1984", ",", ".", "e", "E", "+", "-", " ", "a", "A", "i", "v", "x",
-    "l", "c", "d", "m", "I", "V", "X", "L", "C", "D", "M", "b", "Z", "_", "/", ":", "\0", "\u{7f}", "é", "\u{80}", "€", "\u{ffff}", "𐍈", "\u{10ffff}",
-];
-
 /// Named corners in buffers of every size; damaged ones keep their number whatever the buffers are.
 pub fn named(comparison: &mut Comparison) {
     comparison.begin("corners of numbers, every buffer");
@@ -101,7 +94,7 @@ pub fn random_digits(comparison: &mut Comparison, random: &mut Random, texts: us
 pub fn random_pieces(comparison: &mut Comparison, random: &mut Random, texts: usize) {
     comparison.begin("random pieces of numbers");
     for _ in 0..texts {
-        let text = some_pieces(random, PIECES, 40);
+        let text = some_pieces(random, number_corners::PIECES, 40);
         comparison.every_reading(text.as_bytes(), random.below(64));
     }
 }
@@ -113,7 +106,7 @@ pub fn slips(comparison: &mut Comparison, random: &mut Random, texts: usize) {
     for _ in 0..texts {
         let mut text = random.one_of(&corners).to_string();
         for _ in 0..random.below(4) {
-            text = slip(random, PIECES, &text);
+            text = slip(random, number_corners::PIECES, &text);
         }
         comparison.every_room(text.as_bytes(), random.below(64));
     }

@@ -61,9 +61,9 @@ impl Comparison {
     }
 
     fn rust_reading(&mut self, call: usize, lent: Lent) -> Reading {
-        let (name, read) = readings::READERS[call];
-        let reading = Reading::of(lent.admitted, read);
+        let reading = Reading::of(lent.admitted, call);
         if !reading.fits_most(lent.text.len()) {
+            let name = readings::READERS[call].0;
             let needed = (reading.store.len(), reading.table.len());
             self.differ(lent, format_args!("the room that suffices for hwk_{name}"), &"the header's", &needed);
         }

@@ -26,17 +26,21 @@ pub type Read = fn(&str) -> Vec<String>;
 pub const READERS: [(&str, Read); 6] = [
     ("cardinal", numbers::cardinal),
     ("ordinal", numbers::ordinal),
-    ("year", |text| if is_long(text) { linear::year(text) } else { numbers::year(text) }),
+    ("year", numbers::year),
     ("digits", numbers::digits),
-    ("real", |text| if is_long(text) { linear::real(text) } else { numbers::real(text) }),
+    ("real", numbers::real),
     ("letters", numbers::letters),
 ];
 
 /// From here on the Rust's year, real and roman_value, whose time is quadratic, give way to linear.rs.
 const LONG: usize = 1_024;
 
-fn is_long(text: &str) -> bool {
-    text.len() >= LONG
+fn words(call: usize, text: &str) -> Vec<String> {
+    match READERS[call] {
+        ("year", _) if text.len() >= LONG => linear::year(text),
+        ("real", _) if text.len() >= LONG => linear::real(text),
+        (_, read) => read(text),
+    }
 }
 
 /// A reading with room for all of it: the words end to end, and their table.
@@ -48,10 +52,10 @@ pub struct Reading {
 }
 
 impl Reading {
-    pub fn of(admitted: Admitted, read: Read) -> Self {
+    pub fn of(admitted: Admitted, call: usize) -> Self {
         match admitted {
             Err(refusal) => Reading { refusal, ..Reading::default() },
-            Ok(text) => Self::of_words(&read(text)),
+            Ok(text) => Self::of_words(&words(call, text)),
         }
     }
 
@@ -91,7 +95,7 @@ impl Reading {
 pub fn roman_value(admitted: Admitted) -> Number {
     match admitted {
         Err(refusal) => Number { refusal, value: 0 },
-        Ok(text) if is_long(text) => Number { refusal: 0, value: linear::roman_value(text) },
+        Ok(text) if text.len() >= LONG => Number { refusal: 0, value: linear::roman_value(text) },
         Ok(text) => Number { refusal: 0, value: numbers::roman_value(text) },
     }
 }
