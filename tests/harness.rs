@@ -35,10 +35,6 @@ const LONG: u64 = 600;
 /// The Rust's year and real go one call deeper for each pair, sign or "e" of a text.
 const STACK: usize = 256 << 20;
 
-/// How often a piece is repeated where the linear forms are held to the Rust's: the last one takes it many seconds.
-const LINEAR: &[usize] = &[400, 4_096];
-const LINEAR_LONG: &[usize] = &[400, 4_096, 21_845];
-
 fn main() {
     let arguments: Vec<u64> = std::env::args().skip(1).filter_map(|word| word.parse().ok()).collect();
     let [seconds, seed] = arguments[..] else {
@@ -83,7 +79,7 @@ fn shapes(comparison: &mut Comparison, most: usize) {
 }
 
 fn numbers(comparison: &mut Comparison, long: bool) {
-    linear_forms::check(2_000, if long { LINEAR_LONG } else { LINEAR });
+    linear_forms::check(long);
     number_texts::named(comparison);
     number_texts::one_byte_changed(comparison);
     number_texts::exhaustive(comparison);

@@ -2,22 +2,30 @@
 
 use reference::numbers;
 
+use crate::answers::TEXT_LIMIT;
 use crate::linear;
 use crate::random::Random;
 
 const PIECES: &[&str] = &["0", "7", "19", "00", "-", "+", "e", "E", ".", ",", "I", "V", "x", "M", "d", "é"];
 const FEW: usize = 3;
+const TEXTS: usize = 2_000;
+
+/// Repeated to some lengths. At the limit each takes the Rust a second, so there only the first two are, unless there is time.
+const REPEATED: &[&str] = &["7", "-7e", "0", "-", "e", "5.", "I", "M", "IM"];
+const LENGTHS: &[usize] = &[400, 16_384];
 
 /// The same words and values from both; a difference is a fault of these tests, and ends them.
-pub fn check(texts: usize, lengths: &[usize]) {
+pub fn check(long: bool) {
     let mut random = Random::new(1);
-    for number in 0..texts {
+    for number in 0..TEXTS {
         let pieces: Vec<&str> = (0..FEW).map(|_| *random.one_of(PIECES)).collect();
         alike(&(0..number % 300).map(|_| *random.one_of(&pieces)).collect::<String>());
     }
-    for &length in lengths {
-        ["7", "0", "-", "e", "-7e", "5.", "I", "M", "IM"].iter().for_each(|piece| alike(&piece.repeat(length)));
+    for length in LENGTHS {
+        REPEATED.iter().for_each(|piece| alike(&piece.repeat(length / piece.len())));
     }
+    let at_limit = if long { REPEATED } else { &REPEATED[..2] };
+    at_limit.iter().for_each(|piece| alike(&piece.repeat(TEXT_LIMIT / piece.len())));
 }
 
 fn alike(text: &str) {
