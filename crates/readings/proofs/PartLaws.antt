@@ -1,6 +1,6 @@
 -- What is said of a number without sign and "e", and in one turn of `real`. Assumes nothing.
 use mathlib.Core.Path.{_≡_, refl, sym, ap, _∙_}
-use mathlib.Core.Bool.{true, false}
+use mathlib.Core.Bool.{Bool, true, false}
 use mathlib.Core.List.{List, [], _∷_, _++_, append-nil}
 use Prim.Native.Nat.{ℕ, _+_, _≤_, _<_}
 use Prim.Native.Char.{code}
@@ -35,22 +35,26 @@ module _ (s : List ℕ) (σ : Sink) where
   abbrev pub Turned : Sink → ℕ → Type 0
   Turned τ n = (τ ≡ emitAll (spelled (partWords s)) σ) × (n ≡ partBytes s)
 
-  pub turned-minus : starts (code "-") s ≡ true → {τ : Sink} → τ ≡ emit (wordOf 86) σ → Turned τ 1
-  unfolding partWords partBytes spell lexicon
-  turned-minus m d = (rw m (said-word σ (other (bytes "minus")) d), rw m)
-
-  module _ (m : starts (code "-") s ≡ false) where
-    pub turned-plus : starts (code "+") s ≡ true → {τ : Sink} → τ ≡ emit (wordOf 87) σ → Turned τ 1
+  module _ {a : Bool} (i : a ≡ starts (code "-") s) where
+    pub turned-minus : a ≡ true → {τ : Sink} → τ ≡ emit (wordOf 86) σ → Turned τ 1
     unfolding partWords partBytes spell lexicon
-    turned-plus p d = (rw (m, p) (said-word σ (other (bytes "plus")) d), rw (m, p))
+    turned-minus m d = (rw (← i, m) (said-word σ (other (bytes "minus")) d), rw (← i, m))
 
-    -- n is the place of the first "e"
-    module _ (p : starts (code "+") s ≡ false) {n : ℕ} (e : n ≡ eAt s) {t : List ℕ} (f : t ≡ take n s) {τ : Sink} (d : τ ≡ emitAll (spelled (pointed t)) σ) where
-      pub turned-last : length s ≤ n → Turned τ n
-      unfolding partWords partBytes
-      turned-last h = (rw (m, p, ← e, le-ltb n (length s) h, ← f, append-nil (pointed t)) d, rw (m, p, ← e, le-ltb n (length s) h))
-
-      pub turned-e : n < length s → {υ : Sink} → υ ≡ emit (wordOf 88) τ → Turned υ (n + 1)
+    module _ (m : a ≡ false) {b : Bool} (j : b ≡ starts (code "+") s) where
+      pub turned-plus : b ≡ true → {τ : Sink} → τ ≡ emit (wordOf 87) σ → Turned τ 1
       unfolding partWords partBytes spell lexicon
-      turned-e h c =
-          (rw (m, p, ← e, lt-ltb n (length s) h, ← f) (said-append σ (pointed t) (other (bytes "e") ∷ []) d (said-word τ (other (bytes "e")) c)), rw (m, p, ← e, lt-ltb n (length s) h))
+      turned-plus p d = (rw (← i, m, ← j, p) (said-word σ (other (bytes "plus")) d), rw (← i, m, ← j, p))
+
+      -- n is the place of the first "e"
+      module _ (p : b ≡ false) {n : ℕ} (e : n ≡ eAt s) {t : List ℕ} (f : t ≡ take n s) {τ : Sink} (d : τ ≡ emitAll (spelled (pointed t)) σ) where
+        pub turned-last : length s ≤ n → Turned τ n
+        unfolding partWords partBytes
+        turned-last h =
+            let l = le-ltb n (length s) h in
+            (rw (← i, m, ← j, p, ← e, l, ← f, append-nil (pointed t)) d, rw (← i, m, ← j, p, ← e, l))
+
+        pub turned-e : n < length s → {υ : Sink} → υ ≡ emit (wordOf 88) τ → Turned υ (n + 1)
+        unfolding partWords partBytes spell lexicon
+        turned-e h c =
+            let l = lt-ltb n (length s) h in
+            (rw (← i, m, ← j, p, ← e, l, ← f) (said-append σ (pointed t) (other (bytes "e") ∷ []) d (said-word τ (other (bytes "e")) c)), rw (← i, m, ← j, p, ← e, l))
