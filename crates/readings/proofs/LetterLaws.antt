@@ -2,7 +2,7 @@
 use mathlib.Core.Path.{_≡_, refl, sym, ap, ap₂, _∙_}
 use mathlib.Core.Bool.{Bool, true, false, cond}
 use mathlib.Core.List.{List, [], _∷_, _++_, map}
-use Prim.Native.Nat.{ℕ, zero, suc, _+_, _-_, _≤_, _<_}
+use Prim.Native.Nat.{ℕ, suc, _+_, _-_, _≤_, _<_}
 use Prim.Native.Char.{code}
 use native.Mathlib.Numerals.{add-one}
 use native.Mathlib.Omega.{arith}
@@ -57,12 +57,8 @@ char-length [] h = absurd (omega arith)
 char-length (b ∷ s) h = length-take-le (charBytes (b ∷ s)) (b ∷ s) (omega (arith, span-le continuation s))
 
 -- n bytes of it follow its first
-module _ (s : List ℕ) {t : List ℕ} {n : ℕ} (g : t ≡ drop 1 s) (e : n ≡ span continuation t) where
-  pub first-char : take (n + 1) s ≡ take (charBytes s) s
-  first-char = ap (λ (k : ℕ). take k s) (add-one n ∙ ap suc (e ∙ ap (span continuation) g))
-
-  pub first-fits : n ≤ length s
-  first-fits = omega (arith, span-le continuation t, ap length g, length-drop 1 s)
+pub first-char : (s : List ℕ) {t : List ℕ} {n : ℕ} → t ≡ drop 1 s → n ≡ span continuation t → take (n + 1) s ≡ take (charBytes s) s
+first-char s {t} {n} g e = ap (λ (k : ℕ). take k s) (add-one n ∙ ap suc (e ∙ ap (span continuation) g))
 
 -- c is the character at i, where the text t starts
 module _ (s : List ℕ) (i : ℕ) (h : i < length s) {t c : List ℕ} (g : t ≡ drop i s) (e : c ≡ take (charBytes t) t) where
