@@ -11,27 +11,20 @@ fn value(b: u8) -> u32
     ensures { λ r. ⌜ (r ≡ numeral b) × (r ≤ 1000) ⌝ }
 {
     match b {
-        b'I' => 1,
-        b'i' => 1,
-        b'V' => 5,
-        b'v' => 5,
-        b'X' => 10,
-        b'x' => 10,
-        b'L' => 50,
-        b'l' => 50,
-        b'C' => 100,
-        b'c' => 100,
-        b'D' => 500,
-        b'd' => 500,
-        b'M' => 1000,
-        b'm' => 1000,
+        b'I' | b'i' => 1,
+        b'V' | b'v' => 5,
+        b'X' | b'x' => 10,
+        b'L' | b'l' => 50,
+        b'C' | b'c' => 100,
+        b'D' | b'd' => 500,
+        b'M' | b'm' => 1000,
         _ => 0,
     }
 }
 
 // What v takes away where the largest value after it is `most`.
 fn subtracted(v: u32, most: u32) -> u32
-    ensures { λ r. ⌜ r ≡ cond (ltb v most) v 0 ⌝ }
+    ensures { λ r. ⌜ (r ≡ cond (ltb v most) v 0) × (r ≤ v) ⌝ }
 {
     if v < most { v } else { 0 }
 }

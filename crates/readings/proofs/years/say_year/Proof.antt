@@ -1,0 +1,51 @@
+use mathlib.Core.Path.{_≡_, refl, sym, ap, _∙_}
+use Prim.Native.Nat.{_≤_, zero-le}
+use native.Mathlib.Omega.{arith}
+use lib.ListN.{length, drop, length-drop}
+use Rattle.sink.specs.Sink.{sink, emitAll}
+use Rattle.numerals.specs.Words.{spelled}
+use Rattle.numerals.specs.Cardinal.{clean}
+use Rattle.readings.specs.Year.{year}
+use Rattle.readings.proofs.YearLaws.{clean-length, year-turn, year-last}
+use borrow.Author.Needs.{needs}
+use Rattle.readings.proofs.years.say_year.Statement.{statement}
+use Rattle.readings.proofs.years.say_year.Tie as tie
+
+abbrev Inv-loop : tie.InvT-loop
+Inv-loop s store₀ table₀ p₀ i₀ left₀ store table p i left = (i ≤ length s) × (left ≡ length (clean (drop i s))) × (emitAll (spelled (year (drop i s))) (sink store table p) ≡ emitAll (spelled (year s)) (sink store₀ table₀ p₀)) × (length store ≡ length store₀) × (length table ≡ length table₀)
+
+abbrev μ-loop : tie.MeasureT-loop
+μ-loop s store₀ table₀ p₀ i₀ left₀ store table p i left = left
+
+pub say-year-spec : {M : Type 1} → statement M
+say-year-spec =
+    tie.close
+    (tie.spec
+    Inv-loop
+    μ-loop
+    (λ c κs. search needs)
+    (λ c. (zero-le, c .count-of .ensures ∙ sym (clean-length (c .before .before .before .before .args .s .now)), refl, refl, refl))
+    (λ c κs. search needs)
+    (λ c κs. search needs)
+    (λ c. omega (arith, c .before .before .before .before .before .before .say-lead .ensures .2, ap length (c .before .before .before .before .before .before .before .before .before .tail .ensures), length-drop (c .before .before .before .before .before .before .before .before .before .before .before .loop .i) (c .before .before .before .before .before .before .before .before .before .before .before .before .before .before .before .before .args .s .now)))
+    (λ c. search needs)
+    (λ c. search needs)
+    (λ c. search needs)
+    (λ c.
+    let l = c .before .before .before .before .before .before .before .before .before .before .before .loop in
+    let e = rw (c .before .before .before .before .before .before .before .before .before .tail .ensures) at (c .before .before .before .before .before .before .say-lead .ensures) in
+    let q = year-turn (c .before .before .before .before .before .before .before .before .before .before .before .before .before .before .before .before .args .s .now) (l .i) (l .left) (l .inv .1) (c .before .before .before .before .before .before .say-lead .result .next) (omega arith) (e .1) (sink (l .store) (l .table) (l .p)) (e .0) (l .inv .2) in
+    (omega (arith, e .2, length-drop (l .i) (c .before .before .before .before .before .before .before .before .before .before .before .before .before .before .before .before .args .s .now)), q .0, q .1, search needs, search needs))
+    (λ c κs. search needs)
+    (λ c κs. search needs)
+    (λ c. search needs)
+    (λ c κs. search needs)
+    (λ c κs.
+    let l = c .before .before .before .before .before .before .before .before .loop in
+    year-last (c .before .before .before .before .before .before .before .before .before .before .before .before .before .args .s .now) (l .i) (l .left) (l .inv .1) (omega arith) (c .before .before .before .before .before .find-few .result) (rw (c .before .before .before .before .before .before .tail2 .ensures) at (c .before .before .before .before .before .find-few .ensures)) (c .before .before .front .ensures) .0)
+    (λ c. search needs)
+    (λ c. search needs)
+    (λ c.
+    let l = c .before .before .before .before .before .before .before .before .before .before .before .before .before .loop in
+    let q = year-last (c .before .before .before .before .before .before .before .before .before .before .before .before .before .before .before .before .before .before .args .s .now) (l .i) (l .left) (l .inv .1) (omega arith) (c .before .before .before .before .before .before .before .before .before .before .find-few .result) (rw (c .before .before .before .before .before .before .before .before .before .before .before .tail2 .ensures) at (c .before .before .before .before .before .before .before .before .before .before .find-few .ensures)) (c .before .before .before .before .before .before .before .front .ensures) in
+    (rw (q .1) at (c .before .before .before .before .say-last .ensures)) ∙ l .inv .2))
