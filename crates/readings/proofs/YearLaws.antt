@@ -2,7 +2,7 @@
 use mathlib.Core.Path.{_≡_, refl, sym, ap, _∙_}
 use mathlib.Core.Bool.{Bool, true, false, cond, not, _&&_}
 use mathlib.Core.Logic.{⊎-elim}
-use mathlib.Core.List.{List, [], _∷_, _++_, map, map-append}
+use mathlib.Core.List.{List, [], _∷_, _++_, map}
 use Prim.Native.Nat.{ℕ, zero, suc, _+_, _-_, _%_, _≤_, _<_}
 use native.Mathlib.Numerals.{add-one}
 use native.Mathlib.Omega.{arith}
@@ -18,8 +18,7 @@ use Rattle.lists.proofs.Sets.{le-or-lt}
 use Rattle.lexicon.specs.Lexicon.{wordOf, othersAt}
 use Rattle.lexicon.proofs.Laws.{lexicon}
 use Rattle.sink.specs.Sink.{Sink, emitAll}
-use Rattle.sink.proofs.Finish.{emitAll-append}
-use Rattle.numerals.specs.Words.{Word, one, hundred, other, spell, spelled}
+use Rattle.numerals.specs.Words.{Word, one, hundred, other, spelled}
 use Rattle.numerals.specs.Cardinal.{digitValue, clean, pair, cardinalStep, cardinalFew, cardinalOf}
 use Rattle.numerals.specs.Walk.{FewOf}
 use Rattle.numerals.specs.declared.few.Few.{Few}
@@ -27,6 +26,7 @@ use Rattle.numerals.proofs.Cardinal.{cardinal-eq}
 use Rattle.readings.specs.Year.{yearStep, yearOf, year}
 use Rattle.readings.specs.Walk.{PickedFrom, leadCount, leadWords}
 use Rattle.readings.specs.declared.turn.Picked.{Picked}
+use Rattle.readings.proofs.Said.{says-more}
 
 -- the first digit of a text stands after those bytes that are none
 clean-some : (s : List ℕ) → span nonDigit s < length s → clean s ≡ digitValue (getD s (span nonDigit s) 0) ∷ clean (drop (span nonDigit s + 1) s)
@@ -167,11 +167,6 @@ as-three (a ∷ s) h = ap (λ (t : List ℕ). a ∷ t) (as-two s (omega arith))
 pub picked-two : (s : List ℕ) (a b : Picked) → PickedFrom s a → PickedFrom (drop (a .next) s) b → (b .value ≡ getD (clean s) 1 0) × (clean (drop (a .next + b .next) s) ≡ drop 2 (clean s)) × (a .next + b .next ≤ length s)
 picked-two s a b p q =
     (q .digit ∙ rw (p .others, getD-drop), rw (← drop-drop, q .others, p .others, drop-drop), omega (arith, p .within, q .within, length-drop (a .next) s))
-
--- one run of words after another
-pub says-more : (ws vs : List Word) {us : List Word} → us ≡ ws ++ vs → (σ : Sink) {ρ τ : Sink} → ρ ≡ emitAll (spelled ws) σ → τ ≡ emitAll (spelled vs) ρ → τ ≡ emitAll (spelled us) σ
-unfolding spelled
-says-more ws vs e σ p q = q ∙ rw (p, e, map-append) (sym (emitAll-append (map spell ws) (map spell vs) σ))
 
 -- what the loop keeps: the count of the digits that are left. A turn reads the next n bytes, which hold one digit or two
 module _ (s : List ℕ) (i left : ℕ) (e : left ≡ length (clean (drop i s))) where

@@ -6,7 +6,8 @@ use Rattle.sink.specs.Sink.{emitAll}
 use Rattle.numerals.specs.Words.{spell, spelled, hundred}
 use Rattle.numerals.specs.Cardinal.{cardinalFew}
 use Rattle.readings.specs.Year.{yearOf}
-use Rattle.readings.proofs.YearLaws.{year-four, says-more}
+use Rattle.readings.proofs.YearLaws.{year-four}
+use Rattle.readings.proofs.Said.{says-more}
 use lib.Seq.{length-take-le}
 use borrow.Author.Needs.{needs}
 use Rattle.readings.proofs.years.say_four.Statement.{statement}

@@ -3,7 +3,8 @@ use mathlib.Core.List.{[], _∷_}
 use Rattle.sink.specs.Sink.{emit, emitAll}
 use Rattle.numerals.specs.Words.{spell, spelled, one}
 use Rattle.lexicon.specs.Lexicon.{wordOf}
-use Rattle.readings.proofs.YearLaws.{year-three, says-more}
+use Rattle.readings.proofs.YearLaws.{year-three}
+use Rattle.readings.proofs.Said.{says-more}
 use Rattle.readings.specs.Year.{yearOf}
 use borrow.Author.Needs.{needs}
 use Rattle.readings.proofs.years.say_three.Statement.{statement}
