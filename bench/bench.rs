@@ -1,54 +1,50 @@
 //! Times each call of the static library beside the Rust's from_utf8 and function, on the same bytes.
 //!
-//! Writes a Markdown table. A time is the median of the samples; the two sides take turns at each sample.
+//! Writes Markdown tables. A time is the median of the samples; the two sides take turns at each sample.
 //!
-//! Safety of the calls: each gets a text, and unit_word a store, that live through the call and overlap nothing.
-
-use std::hint::black_box;
-use std::str::from_utf8;
-use std::time::{Duration, Instant};
+//! Safety of the calls: each gets a text, and some get buffers, that live through the call and overlap nothing.
 
 #[allow(dead_code)]
 #[path = "../tests/answers.rs"]
 mod answers;
 mod inputs;
 #[allow(dead_code)]
+#[path = "../tests/linear.rs"]
+mod linear;
+mod number_rows;
+#[allow(dead_code)]
+#[path = "../tests/readings.rs"]
+mod readings;
+mod shape_rows;
+mod timing;
+#[allow(dead_code)]
 #[path = "../tests/voice.rs"]
 mod voice;
 
-use inputs::Input;
-use reference::patterns;
-
-const SAMPLES: usize = 31;
-const SAMPLE_TIME: Duration = Duration::from_micros(500);
-
-/// One row of the table, in nanoseconds a call.
-struct Row {
+/// One row of a table, in nanoseconds a call.
+pub struct Row {
     call: &'static str,
-    input: &'static str,
+    input: String,
     ours: f64,
     rust: f64,
 }
 
 fn main() {
-    println!("| Call | Text | Ours, ns | Rust, ns | Ours / Rust |");
-    println!("|---|---|---:|---:|---:|");
-    let mut rows = Vec::new();
-    for call in inputs::CALLS {
-        for input in call.inputs() {
-            rows.push(row(call.name, &input));
-        }
-    }
-    for input in inputs::admission() {
-        rows.push(Row { call: "admission (is_illion)", ..row("is_illion", &input) });
-    }
-    rows.iter().for_each(print);
-    sum_up(&rows);
+    let shapes = shape_rows::rows();
+    table(&shapes);
+    sum_up(&shapes);
+    println!();
+    table(&number_rows::rows());
+    println!();
+    number_rows::doubling();
 }
 
-fn print(row: &Row) {
-    let Row { call, input, ours, rust } = row;
-    println!("| {call} | {input} | {ours:.1} | {rust:.1} | {:.2} |", ours / rust);
+fn table(rows: &[Row]) {
+    println!("| Call | Text | Ours, ns | Rust, ns | Ours / Rust |");
+    println!("|---|---|---:|---:|---:|");
+    for Row { call, input, ours, rust } in rows {
+        println!("| {call} | {input} | {ours:.1} | {rust:.1} | {:.2} |", ours / rust);
+    }
 }
 
 fn sum_up(rows: &[Row]) {
@@ -57,128 +53,4 @@ fn sum_up(rows: &[Row]) {
     if let Some(row) = worst {
         println!("\nSlowest beside the Rust on a short name: {}, {}, {:.2}.", row.call, row.input, row.ours / row.rust);
     }
-}
-
-/// Times one verdict; both sides are called directly, so that the Rust may be inlined.
-macro_rules! verdict {
-    ($input:expr, $ours:ident, $rust:expr) => {
-        compared(
-            $input,
-            |text| unsafe { voice::$ours(text.as_ptr(), text.len()) }.yes as usize,
-            |text| from_utf8(text).is_ok_and($rust) as usize,
-        )
-    };
-}
-
-fn row(call: &'static str, input: &Input) -> Row {
-    let (ours, rust) = match call {
-        "is_digits" => verdict!(input, hwk_is_digits, patterns::is_digits),
-        "is_alpha" => verdict!(input, hwk_is_alpha, patterns::is_alpha),
-        "is_double" => verdict!(input, hwk_is_double, patterns::is_double),
-        "is_comma_int" => verdict!(input, hwk_is_comma_int, patterns::is_comma_int),
-        "is_ordinal" => verdict!(input, hwk_is_ordinal, patterns::is_ordinal),
-        "is_us_money" => verdict!(input, hwk_is_us_money, patterns::is_us_money),
-        "is_illion" => verdict!(input, hwk_is_illion, patterns::is_illion),
-        "is_roman" => verdict!(input, hwk_is_roman, patterns::is_roman),
-        "is_dr_or_st" => verdict!(input, hwk_is_dr_or_st, patterns::is_dr_or_st),
-        "is_number_s" => verdict!(input, hwk_is_number_s, patterns::is_number_s),
-        "is_leading_zero_digits" => verdict!(input, hwk_is_leading_zero_digits, patterns::is_leading_zero_digits),
-        "is_seven_digit_phone" => verdict!(input, hwk_is_seven_digit_phone, patterns::is_seven_digit_phone),
-        "is_time" => verdict!(input, hwk_is_time, patterns::is_time),
-        "is_dotted_abbrev" => verdict!(input, hwk_is_dotted_abbrev, patterns::is_dotted_abbrev),
-        "is_digits_slash_digits" => verdict!(input, hwk_is_digits_slash_digits, patterns::is_digits_slash_digits),
-        "is_digits_dash_digits" => verdict!(input, hwk_is_digits_dash_digits, patterns::is_digits_dash_digits),
-        "is_n_digits" => n_digits(input),
-        "split_time_meridiem" => split_time_meridiem(input),
-        "split_unit" => split_unit(input),
-        "unit_word" => unit_word(input),
-        _ => panic!("no call {call}"),
-    };
-    Row { call, input: input.name, ours, rust }
-}
-
-fn n_digits(input: &Input) -> (f64, f64) {
-    let n = input.text.len();
-    compared(
-        input,
-        |text| unsafe { voice::hwk_is_n_digits(text.as_ptr(), text.len(), black_box(n)) }.yes as usize,
-        |text| from_utf8(text).is_ok_and(|text| patterns::is_n_digits(text, black_box(n))) as usize,
-    )
-}
-
-/// The answers are compared by the meridiem's place, with 1 added where there is one.
-fn split_time_meridiem(input: &Input) -> (f64, f64) {
-    compared(
-        input,
-        |text| {
-            let time = unsafe { voice::hwk_split_time_meridiem(text.as_ptr(), text.len()) };
-            time.meridiem_at + time.yes as usize
-        },
-        |text| {
-            let parts = from_utf8(text).ok().and_then(patterns::split_time_meridiem);
-            parts.map_or(0, |(hour, minute, _)| hour.len() + 1 + minute.len() + 1)
-        },
-    )
-}
-
-/// The answers are compared by the unit's place.
-fn split_unit(input: &Input) -> (f64, f64) {
-    compared(
-        input,
-        |text| unsafe { voice::hwk_split_unit(text.as_ptr(), text.len()) }.offset,
-        |text| from_utf8(text).ok().and_then(patterns::split_unit).map_or(0, |(number, _)| number.len()),
-    )
-}
-
-/// Ours copies the word to a store; so that both do the same, the Rust's is copied too.
-fn unit_word(input: &Input) -> (f64, f64) {
-    let (mut ours, mut rust) = ([0_u8; 11], [0_u8; 11]);
-    compared(
-        input,
-        |text| {
-            let store = black_box(&mut ours);
-            unsafe { voice::hwk_unit_word(text.as_ptr(), text.len(), store.as_mut_ptr(), store.len()) }.len
-        },
-        |text| {
-            let word = from_utf8(text).ok().and_then(patterns::unit_word).unwrap_or("");
-            black_box(&mut rust)[..word.len()].copy_from_slice(word.as_bytes());
-            word.len()
-        },
-    )
-}
-
-/// The medians of both sides, which must answer alike.
-fn compared(input: &Input, mut ours: impl FnMut(&[u8]) -> usize, mut rust: impl FnMut(&[u8]) -> usize) -> (f64, f64) {
-    let text = &input.text[..];
-    assert_eq!(ours(text), rust(text), "the two sides differ on {}", input.name);
-    let (our_calls, rust_calls) = (calls_in_a_sample(&mut ours, text), calls_in_a_sample(&mut rust, text));
-    let mut times = (Vec::new(), Vec::new());
-    for _ in 0..SAMPLES {
-        times.0.push(sample(&mut ours, text, our_calls));
-        times.1.push(sample(&mut rust, text, rust_calls));
-    }
-    (median(times.0), median(times.1))
-}
-
-/// How many calls take about `SAMPLE_TIME`.
-fn calls_in_a_sample(call: &mut impl FnMut(&[u8]) -> usize, text: &[u8]) -> u32 {
-    let mut calls = 1;
-    while sample(call, text, calls) * f64::from(calls) < SAMPLE_TIME.as_nanos() as f64 {
-        calls *= 2;
-    }
-    calls
-}
-
-/// Nanoseconds a call.
-fn sample(call: &mut impl FnMut(&[u8]) -> usize, text: &[u8], calls: u32) -> f64 {
-    let start = Instant::now();
-    for _ in 0..calls {
-        black_box(call(black_box(text)));
-    }
-    start.elapsed().as_nanos() as f64 / f64::from(calls)
-}
-
-fn median(mut times: Vec<f64>) -> f64 {
-    times.sort_by(f64::total_cmp);
-    times[times.len() / 2]
 }

@@ -6,6 +6,12 @@
  *     hwk_verdict v = hwk_is_time((const uint8_t *)name, strlen(name));
  *     if (v.refusal == HWK_ACCEPTED && v.yes) { .. }
  *
+ *     const char *number = "1984"; // nineteen eighty four
+ *     uint8_t store[HWK_WORDS_STORE_MOST(4)], table[HWK_WORDS_TABLE_MOST(4)];
+ *     hwk_words read = hwk_year((const uint8_t *)number, 4, store, sizeof store, table, sizeof table);
+ *     for (size_t i = 0; i < read.words; i++) // none where the call is refused
+ *         printf("%.*s\n", (int)hwk_word_len(table, i), (const char *)store + hwk_word_at(table, i));
+ *
  * What holds for every call
  * -------------------------
  * A text is a pointer and a length in bytes. It needs no final NUL, and may hold NULs. Length 0 is the empty text, which
@@ -17,9 +23,10 @@
  * tested in the order of their numbers below. A refused call answers its number with every other field 0, and leaves every
  * lent buffer as it was. In an accepted call the bytes of a buffer past the result stay as they were.
  *
- * Nothing is allocated and no call recurses; each needs less than 1 KiB of stack. (Where a program is linked dynamically and
- * bound lazily, its first call of memcpy, ours or another, needs the dynamic linker's own few KiB on top.) Digits, letters and
- * cases are ASCII's.
+ * Nothing is allocated, and no call goes deeper for a longer text: a number of up to 12 digits is read by a function that
+ * calls itself on fewer digits, five deep at most, and nothing else recurses. Each call needs less than 1 KiB of stack.
+ * (Where a program is linked dynamically and bound lazily, its first call of memcpy, ours or another, needs the dynamic
+ * linker's own few KiB on top.) Digits, letters and cases are ASCII's.
  */
 #ifndef HOWHAKIRU_H
 #define HOWHAKIRU_H
@@ -142,6 +149,81 @@ typedef struct hwk_word {
  * the word's length (HWK_UNIT_WORD_MOST always suffices). Where the text is none, answers no and writes nothing, whatever
  * the store's length. */
 hwk_word hwk_unit_word(const uint8_t *unit, size_t unit_len, uint8_t *store, size_t store_len);
+
+/* Number words
+ * ------------
+ * Six calls read a text aloud, as words. Each reads `s`, `s_len` bytes, and writes two buffers. The words stand end to end,
+ * with nothing between and no NUL, at the front of `store`. `table` has 8 bytes for each word, in the order of the words:
+ * where the word starts in the store, then how many bytes it has, each number in four bytes, the lowest first. Read it with
+ * hwk_word_at and hwk_word_len below.
+ *
+ * Each refuses with HWK_TEXT_TOO_LONG, with HWK_NOT_UTF8, and with HWK_BUFFER_TOO_SHORT where the store is shorter than all
+ * words together or the table shorter than 8 bytes for each of them; then neither buffer is touched. A reading without words
+ * fits empty buffers. How much room is missing is not told: lend what always suffices, the macros below.
+ *
+ * These calls demand no shape: they read any text, and each says what it leaves out. */
+typedef struct hwk_words {
+    uint8_t refusal; /* HWK_ACCEPTED, HWK_TEXT_TOO_LONG, HWK_NOT_UTF8 or HWK_BUFFER_TOO_SHORT */
+    size_t words;    /* how many words there are: 8 bytes each at the front of the table */
+    size_t bytes;    /* how many bytes all words have, at the front of the store */
+} hwk_words;
+
+/* Room for the words of every text of up to `len` bytes, whichever of the six calls reads it. A number of ten sevens comes
+ * close: 16 words of 99 bytes; the ordinal of the empty text has one word of 6. hwk_digits needs no more than 5 bytes of
+ * store for a byte of text, hwk_year 6 and hwk_letters 2, and these three no more than 8 of table. */
+#define HWK_WORDS_STORE_MOST(len) (10 * (size_t)(len) + 6)
+#define HWK_WORDS_TABLE_MOST(len) (13 * (size_t)(len) + 8)
+
+/* The four bytes of a table as a number. */
+static inline uint32_t hwk_table_number(const uint8_t *four)
+{
+    return (uint32_t)four[0] | (uint32_t)four[1] << 8 | (uint32_t)four[2] << 16 | (uint32_t)four[3] << 24;
+}
+
+/* Word i, from 0 and below the count of words, starts at store + hwk_word_at(table, i) and has hwk_word_len(table, i) bytes. */
+static inline size_t hwk_word_at(const uint8_t *table, size_t i) { return hwk_table_number(table + 8 * i); }
+static inline size_t hwk_word_len(const uint8_t *table, size_t i) { return hwk_table_number(table + 8 * i + 4); }
+
+/* A whole number. Only the digits of the text count, whatever stands between them. Up to 12 digits: "1984" is one thousand
+ * nine hundred eighty four, "1,000,000" one million. From 13 digits on, one word for each digit. Zeros in front count as
+ * digits, three to a group: "0" is zero, "00" and "000" are no words, "05" is five, "0005" is zero thousand five and "000005"
+ * five. A text without digits has no words. */
+hwk_words hwk_cardinal(const uint8_t *s, size_t s_len, uint8_t *store, size_t store_len, uint8_t *table, size_t table_len);
+
+/* The same words with the last one as an ordinal: "21" is twenty first, "12" twelfth, "1,000" one thousandth. No words become
+ * one: "", "00" and "th" are zeroth. The suffix of "21st" has no digits, so it may stay. */
+hwk_words hwk_ordinal(const uint8_t *s, size_t s_len, uint8_t *store, size_t store_len, uint8_t *table, size_t table_len);
+
+/* A year, or a number told in pairs. Only the digits count. "1984" is nineteen eighty four, "07" oh seven, "00" zero zero. An
+ * odd count of digits starts with a single one: "747" is seven forty seven; but "500" is five hundred. The last four digits
+ * are read as a cardinal where the two in their middle are 00 ("2005" is two thousand five, "0000" zero thousand), and else
+ * in hundreds where the last two are ("1900" is nineteen hundred). In a pair before the last one a 0 in front has no word:
+ * "190705" is nineteen seven oh five. */
+hwk_words hwk_year(const uint8_t *s, size_t s_len, uint8_t *store, size_t store_len, uint8_t *table, size_t table_len);
+
+/* One word for each digit, nothing for any other character: "555-0123" is five five five zero one two three. */
+hwk_words hwk_digits(const uint8_t *s, size_t s_len, uint8_t *store, size_t store_len, uint8_t *table, size_t table_len);
+
+/* A decimal number: "-1.50" is minus one point five zero. Each sign in front is a word, minus or plus. The first e or E is
+ * the word e and parts two texts, of which the second is read as a text of its own, signs and further e included: "+2e-10" is
+ * plus two e minus ten. In a part without e the first point is the word point, with a cardinal before it and single digits
+ * after it: ".5" is point five, "1.2.3" one point two three. A sign that stands elsewhere has no word. */
+hwk_words hwk_real(const uint8_t *s, size_t s_len, uint8_t *store, size_t store_len, uint8_t *table, size_t table_len);
+
+/* One word for each character, A to Z in lower case: "Mr." is m, r and the point. "a" and "A" are the word _a, so that it is
+ * not called as the article. A character of two to four bytes is one word of these bytes. */
+hwk_words hwk_letters(const uint8_t *s, size_t s_len, uint8_t *store, size_t store_len, uint8_t *table, size_t table_len);
+
+/* A value; there is no buffer. */
+typedef struct hwk_number {
+    uint8_t refusal; /* HWK_ACCEPTED, HWK_TEXT_TOO_LONG or HWK_NOT_UTF8 */
+    uint32_t value;
+} hwk_number;
+
+/* The value of a roman numeral of I, V, X, L, C, D and M in any case. A letter that has a larger one anywhere after it is
+ * subtracted: "XIV" is 14, "IIX" is 8, "IXC" is 89. 0 where the sum is below 0 ("IIIIIIV"), where any other character stands
+ * in the text, and for the empty text. Which numerals are well formed is not asked. */
+hwk_number hwk_roman_value(const uint8_t *s, size_t s_len);
 
 #ifdef __cplusplus
 }

@@ -1,19 +1,19 @@
-//! Makes the same call on both sides and compares what comes back, what was written and what was not.
+//! Makes the same call on both sides, compares what comes back, and counts. The calls themselves are in shape_calls.rs and
+//! reading_calls.rs.
 
 use std::fmt::{Arguments, Debug};
+use std::ops::Range;
 use std::process;
 
 use crate::answers::{self, Admitted};
-use crate::lent::{Fenced, Store, STORE_MOST};
-use crate::voice;
+use crate::lent::{Buffer, Fenced};
+use crate::reading_calls::READINGS;
+use crate::shape_calls::SHAPES;
 
-/// The calls of the header, numbered for `one_call`: the verdicts first.
-pub const CALLS: usize = voice::VERDICTS.len() + 4;
+/// The calls of the header, numbered for `one_call`: those about shapes first, then the readings.
+pub const CALLS: usize = SHAPES + READINGS;
 
 const DIFFERENCES_SHOWN: usize = 20;
-
-/// Stores for a text that has no word: none, too short for any word, exact for the longest, and longer.
-const STORES_WITHOUT_WORD: [usize; 4] = [0, 1, 11, 16];
 
 /// Texts of one kind, and what was compared on them.
 struct Group {
@@ -24,10 +24,12 @@ struct Group {
 
 /// A text as a call gets it, and as the Rust takes it.
 #[derive(Clone, Copy)]
-struct Lent<'a> {
-    text: &'a [u8],
-    start: *const u8,
-    admitted: Admitted<'a>,
+pub struct Lent<'a> {
+    pub text: &'a [u8],
+    pub start: *const u8,
+    /// How many bytes part the text from the fence, and every buffer that is lent beside it.
+    pub gap: usize,
+    pub admitted: Admitted<'a>,
 }
 
 pub struct Comparison {
@@ -35,13 +37,25 @@ pub struct Comparison {
     groups: Vec<Group>,
     current: usize,
     texts: Fenced,
-    store: Store,
+    pub store: Buffer,
+    pub table: Buffer,
+    /// Counts the readings, so that buffers of each size have their turn.
+    pub turn: usize,
     differences: usize,
 }
 
 impl Comparison {
     pub fn new(seed: u64) -> Self {
-        Comparison { seed, groups: Vec::new(), current: 0, texts: Fenced::new(), store: Store::new(), differences: 0 }
+        Comparison {
+            seed,
+            groups: Vec::new(),
+            current: 0,
+            texts: Fenced::new(),
+            store: Buffer::new(),
+            table: Buffer::new(),
+            turn: 0,
+            differences: 0,
+        }
     }
 
     /// Counts what follows under `name`.
@@ -53,7 +67,16 @@ impl Comparison {
         }
     }
 
-    /// Compares every call on the text, which stands `gap` bytes before the fence.
+    /// Compares every call about shapes on the text, which stands `gap` bytes before the fence.
+    pub fn every_shape(&mut self, text: &[u8], gap: usize) {
+        self.calls(text, gap, 0..SHAPES);
+    }
+
+    /// Compares every reading, in buffers of the exact size and of one other.
+    pub fn every_reading(&mut self, text: &[u8], gap: usize) {
+        self.calls(text, gap, SHAPES..CALLS);
+    }
+
     pub fn every_call(&mut self, text: &[u8], gap: usize) {
         self.calls(text, gap, 0..CALLS);
     }
@@ -63,15 +86,14 @@ impl Comparison {
         self.calls(text, gap, call..call + 1);
     }
 
-    /// A pointer for the empty text may be null, and so may one for the empty store.
+    /// A pointer for the empty text may be null, and so may one for an empty buffer.
     pub fn null_pointers(&mut self) {
         self.begin("null pointers");
         self.groups[self.current].texts += 1;
-        let lent = Lent { text: b"", start: std::ptr::null(), admitted: answers::admit(b"") };
+        let lent = Lent { text: b"", start: std::ptr::null(), gap: 0, admitted: answers::admit(b"") };
         (0..CALLS).for_each(|call| self.call(call, lent));
-        // SAFETY: both lengths are 0, so nothing is read or written.
-        let ours = unsafe { voice::hwk_unit_word(std::ptr::null(), 0, std::ptr::null_mut(), 0) };
-        self.settle(lent, format_args!("hwk_unit_word (null store)"), ours, answers::Word::default());
+        self.word_without_store(lent);
+        self.readings_without_buffers(lent);
     }
 
     /// Prints each group and the sum, and ends the program with status 1 where anything differed.
@@ -89,87 +111,36 @@ impl Comparison {
         }
     }
 
-    fn calls(&mut self, text: &[u8], gap: usize, calls: std::ops::Range<usize>) {
+    /// Lends the text, and looks after it once the calls were made.
+    pub fn with(&mut self, text: &[u8], gap: usize, calls: impl FnOnce(&mut Self, Lent)) {
         self.groups[self.current].texts += 1;
         let start = self.texts.lend(text, gap);
-        let lent = Lent { text, start, admitted: answers::admit(text) };
-        calls.for_each(|call| self.call(call, lent));
+        let lent = Lent { text, start, gap, admitted: answers::admit(text) };
+        calls(self, lent);
         if !self.texts.is_as_lent(text, gap) {
             self.differ(lent, format_args!("a call"), &"wrote into the text or beside it", &"leaves it alone");
         }
     }
 
+    fn calls(&mut self, text: &[u8], gap: usize, calls: Range<usize>) {
+        self.with(text, gap, |comparison, lent| calls.for_each(|call| comparison.call(call, lent)));
+    }
+
     fn call(&mut self, call: usize, lent: Lent) {
-        match call.checked_sub(voice::VERDICTS.len()) {
-            None => self.verdict(call, lent),
-            Some(0) => self.n_digits(lent),
-            Some(1) => self.time(lent),
-            Some(2) => self.unit(lent),
-            _ => self.word(lent),
+        match call.checked_sub(SHAPES) {
+            None => self.shape(call, lent),
+            Some(reading) => self.reading(reading, lent),
         }
     }
 
-    fn verdict(&mut self, call: usize, lent: Lent) {
-        let (name, shape) = answers::SHAPES[call];
-        // SAFETY: the text is lent for the call.
-        let ours = unsafe { voice::VERDICTS[call](lent.start, lent.text.len()) };
-        self.settle(lent, format_args!("hwk_{name}"), ours, answers::verdict(lent.admitted, shape));
-    }
-
-    fn n_digits(&mut self, lent: Lent) {
-        let len = lent.text.len();
-        // The last but one is the length again, where a count is cut to fewer bits.
-        for n in (0..=9).chain([len, len + 1, len + (1 << 32), usize::MAX]) {
-            // SAFETY: the text is lent for the call.
-            let ours = unsafe { voice::hwk_is_n_digits(lent.start, len, n) };
-            let rust = answers::is_n_digits(lent.admitted, n);
-            self.settle(lent, format_args!("hwk_is_n_digits (n = {n})"), ours, rust);
-        }
-    }
-
-    fn time(&mut self, lent: Lent) {
-        // SAFETY: the text is lent for the call.
-        let ours = unsafe { voice::hwk_split_time_meridiem(lent.start, lent.text.len()) };
-        let rust = answers::split_time_meridiem(lent.admitted);
-        self.settle(lent, format_args!("hwk_split_time_meridiem"), ours, rust);
-    }
-
-    fn unit(&mut self, lent: Lent) {
-        // SAFETY: the text is lent for the call.
-        let ours = unsafe { voice::hwk_split_unit(lent.start, lent.text.len()) };
-        self.settle(lent, format_args!("hwk_split_unit"), ours, answers::split_unit(lent.admitted));
-    }
-
-    fn word(&mut self, lent: Lent) {
-        let (whole, _) = answers::unit_word(lent.admitted, usize::MAX);
-        if whole.yes == 0 {
-            STORES_WITHOUT_WORD.iter().for_each(|&store_len| self.word_in(lent, store_len));
-        } else {
-            (0..=whole.len + 3).chain([STORE_MOST]).for_each(|store_len| self.word_in(lent, store_len));
-        }
-    }
-
-    fn word_in(&mut self, lent: Lent, store_len: usize) {
-        let store = self.store.lend();
-        // SAFETY: the text and the store are lent for the call, and stand apart.
-        let ours = unsafe { voice::hwk_unit_word(lent.start, lent.text.len(), store, store_len) };
-        let (rust, written) = answers::unit_word(lent.admitted, store_len);
-        let name = format_args!("hwk_unit_word (store of {store_len})");
-        self.settle(lent, name, ours, rust);
-        if !self.store.holds_only(written) {
-            let wanted = format!("{:?} at the store's front, all else as it was", written.escape_ascii().to_string());
-            self.differ(lent, name, &self.store.shown(), &wanted);
-        }
-    }
-
-    fn settle<Answer: Debug + PartialEq>(&mut self, lent: Lent, name: Arguments, ours: Answer, rust: Answer) {
+    pub fn settle<Answer: Debug + PartialEq>(&mut self, lent: Lent, name: Arguments, ours: Answer, rust: Answer) {
         self.groups[self.current].comparisons += 1;
         if ours != rust {
             self.differ(lent, name, &ours, &rust);
         }
     }
 
-    fn differ(&mut self, lent: Lent, name: Arguments, ours: &dyn Debug, rust: &dyn Debug) {
+    pub fn differ(&mut self, lent: Lent, name: Arguments, ours: &dyn Debug, rust: &dyn Debug) {
         self.differences += 1;
         println!("difference {}: {name}, in '{}'", self.differences, self.groups[self.current].name);
         println!("  text of {} bytes: {}", lent.text.len(), shown(lent.text));
@@ -181,11 +152,11 @@ impl Comparison {
     }
 }
 
-/// The text, escaped; of a long one its two ends.
-fn shown(text: &[u8]) -> String {
-    if text.len() <= 200 {
-        return format!("\"{}\"", text.escape_ascii());
+/// The bytes, escaped; of many their two ends.
+pub fn shown(bytes: &[u8]) -> String {
+    if bytes.len() <= 200 {
+        return format!("\"{}\"", bytes.escape_ascii());
     }
-    let (front, back) = (&text[..60], &text[text.len() - 60..]);
+    let (front, back) = (&bytes[..60], &bytes[bytes.len() - 60..]);
     format!("\"{}\" .. \"{}\"", front.escape_ascii(), back.escape_ascii())
 }

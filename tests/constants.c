@@ -17,6 +17,15 @@ SAME(part_size, sizeof(hwk_part) == 24);
 SAME(part_len, offsetof(hwk_part, len) == 16);
 SAME(word_size, sizeof(hwk_word) == 16);
 SAME(word_len, offsetof(hwk_word, len) == 8);
+SAME(words_size, sizeof(hwk_words) == 24);
+SAME(words_words, offsetof(hwk_words, words) == 8);
+SAME(words_bytes, offsetof(hwk_words, bytes) == 16);
+SAME(number_size, sizeof(hwk_number) == 8);
+SAME(number_value, offsetof(hwk_number, value) == 4);
+
+/* The comparison with the Rust holds every reading to these same sums. */
+SAME(store_most, HWK_WORDS_STORE_MOST(1000) == 10006);
+SAME(table_most, HWK_WORDS_TABLE_MOST(1000) == 13008);
 
 static const char *const units[] = {"LB", "LBS", "lb", "lbs", "ft", "FT", "kg", "km", "cm", "mm", "ml",
                                     "oz", "hz", "Hz", "HZ", "KHz", "MHz", "GHz", "KB", "GB", "MB", "TB"};
@@ -55,9 +64,80 @@ static void check_words(void)
     assert(most == HWK_UNIT_WORD_MOST);
 }
 
+typedef hwk_words reader(const uint8_t *s, size_t s_len, uint8_t *store, size_t store_len, uint8_t *table, size_t table_len);
+
+static reader *const readers[] = {hwk_cardinal, hwk_ordinal, hwk_year, hwk_digits, hwk_real, hwk_letters};
+
+/* Texts with as many words, or as many bytes of them, as texts of their length can have. */
+static const char *const longest[] = {"", "7", "77", "777", "7777", "7777777", "7777777777", "-777777777777", "aaaa", "-----",
+                                      "7777777777e7777777777e7777777777", "777777777777777777777777777777777"};
+
+/* What the header says always suffices does, for each reading; the words stand end to end, as the table says. */
+static void check_room(void)
+{
+    static uint8_t store[HWK_WORDS_STORE_MOST(64)], table[HWK_WORDS_TABLE_MOST(64)];
+    for (size_t i = 0; i < sizeof longest / sizeof longest[0]; i++) {
+        for (size_t k = 0; k < sizeof readers / sizeof readers[0]; k++) {
+            size_t len = strlen(longest[i]), end = 0;
+            hwk_words read = readers[k]((const uint8_t *)longest[i], len, store, HWK_WORDS_STORE_MOST(len), table,
+                                        HWK_WORDS_TABLE_MOST(len));
+            assert(read.refusal == HWK_ACCEPTED);
+            for (size_t w = 0; w < read.words; w++) {
+                assert(hwk_word_at(table, w) == end && hwk_word_len(table, w) > 0);
+                end += hwk_word_len(table, w);
+            }
+            assert(end == read.bytes);
+        }
+    }
+}
+
+/* The header's example, word by word, and the sizes that it names. */
+static void check_reading(void)
+{
+    static const char *const words[] = {"nineteen", "eighty", "four"};
+    uint8_t store[HWK_WORDS_STORE_MOST(4)], table[HWK_WORDS_TABLE_MOST(4)];
+    hwk_words read = hwk_year((const uint8_t *)"1984", 4, store, sizeof store, table, sizeof table);
+    assert(read.refusal == HWK_ACCEPTED && read.words == 3 && read.bytes == 18);
+    for (size_t i = 0; i < read.words; i++) {
+        assert(hwk_word_len(table, i) == strlen(words[i]));
+        assert(memcmp(store + hwk_word_at(table, i), words[i], strlen(words[i])) == 0);
+    }
+    assert(hwk_cardinal((const uint8_t *)"", 0, NULL, 0, NULL, 0).refusal == HWK_ACCEPTED);
+    assert(hwk_ordinal((const uint8_t *)"", 0, NULL, 0, NULL, 0).refusal == HWK_BUFFER_TOO_SHORT);
+    assert(hwk_cardinal((const uint8_t *)"7777777777", 10, store, 0, table, 0).refusal == HWK_BUFFER_TOO_SHORT);
+}
+
+/* The numbers of a table, the lowest byte first. */
+static void check_table(void)
+{
+    static const uint8_t table[16] = {0, 0, 0, 0, 4, 3, 2, 1, 0xF4, 0xF3, 0xF2, 0xF1, 0xFF, 0, 0, 0};
+    assert(hwk_word_at(table, 0) == 0 && hwk_word_len(table, 0) == 0x01020304);
+    assert(hwk_word_at(table, 1) == 0xF1F2F3F4 && hwk_word_len(table, 1) == 255);
+}
+
+/* The largest value that there is, and refusals of a call without buffers. */
+static void check_roman(void)
+{
+    uint8_t *text = malloc(HWK_TEXT_LIMIT + 1);
+    assert(text != NULL);
+    memset(text, 'M', HWK_TEXT_LIMIT + 1);
+    hwk_number whole = hwk_roman_value(text, HWK_TEXT_LIMIT);
+    hwk_number longer = hwk_roman_value(text, HWK_TEXT_LIMIT + 1);
+    assert(whole.refusal == HWK_ACCEPTED && whole.value == 65536000);
+    assert(longer.refusal == HWK_TEXT_TOO_LONG && longer.value == 0);
+    text[0] = 0xFF;
+    assert(hwk_roman_value(text, 2).refusal == HWK_NOT_UTF8);
+    assert(hwk_roman_value((const uint8_t *)"IIX", 3).value == 8);
+    free(text);
+}
+
 int main(void)
 {
     check_texts();
     check_words();
+    check_room();
+    check_reading();
+    check_table();
+    check_roman();
     return 0;
 }

@@ -66,26 +66,26 @@ const THEMES: &[Theme] = &[
 
 // Everything that some shape looks for, in one alphabet.
 const EVERY_PIECE: &[&str] = &[
-    "0", "1", "5", "9", "+", "-", ".", ",", ":", "/", "%", "$", "a", "p", "m", "A", "M", "e", "E", "s", "t", "h", "n", "d",
-    "r", "k", "g", "l", "b", "I", "V", "X", " ", "é", "𐍈",
+    "0", "1", "5", "9", "+", "-", ".", ",", ":", "/", "%", "$", "a", "p", "m", "A", "M", "e", "E", "s", "t", "h", "n",
+    "d", "r", "k", "g", "l", "b", "I", "V", "X", " ", "é", "𐍈",
 ];
 
 /// `most` bounds the texts over the one alphabet of every piece.
 pub fn run(comparison: &mut Comparison, most: usize) {
     comparison.begin("every piece");
-    each_text(&mut Vec::new(), most, EVERY_PIECE, &mut |text| comparison.every_call(text, 0));
+    each_text(&mut Vec::new(), most, EVERY_PIECE, &mut |text| comparison.every_shape(text, 0));
     for theme in THEMES {
         comparison.begin(theme.name);
-        each_text(&mut Vec::new(), theme.most, theme.pieces, &mut |text| comparison.every_call(text, 0));
+        each_text(&mut Vec::new(), theme.most, theme.pieces, &mut |text| comparison.every_shape(text, 0));
     }
     comparison.begin("all ASCII up to 3 bytes");
     let ascii: Vec<String> = (0..128_u8).map(|byte| char::from(byte).to_string()).collect();
     let ascii: Vec<&str> = ascii.iter().map(String::as_str).collect();
-    each_text(&mut Vec::new(), 3, &ascii, &mut |text| comparison.every_call(text, 0));
+    each_text(&mut Vec::new(), 3, &ascii, &mut |text| comparison.every_shape(text, 0));
 }
 
 /// Visits `text` followed by every choice of up to `most` pieces.
-fn each_text(text: &mut Vec<u8>, most: usize, pieces: &[&str], visit: &mut impl FnMut(&[u8])) {
+pub fn each_text(text: &mut Vec<u8>, most: usize, pieces: &[&str], visit: &mut impl FnMut(&[u8])) {
     visit(text);
     if most == 0 {
         return;

@@ -3,6 +3,7 @@
 //! harness SECONDS SEED: the fixed groups run whole, the random ones for what is left of the time, once at least.
 
 use std::process;
+use std::thread;
 use std::time::{Duration, Instant};
 
 mod answers;
@@ -10,9 +11,17 @@ mod comparison;
 mod corners;
 mod exhaustive;
 mod lent;
+mod linear;
+mod linear_forms;
 mod long;
+mod number_corners;
+mod number_long;
+mod number_texts;
 mod pieces;
 mod random;
+mod reading_calls;
+mod readings;
+mod shape_calls;
 mod short;
 mod utf8;
 mod voice;
@@ -23,6 +32,9 @@ use random::Random;
 /// From this many seconds on there is time for every text of five pieces.
 const LONG: u64 = 600;
 
+/// The Rust's year and real go one call deeper for each pair, sign or "e" of a text.
+const STACK: usize = 256 << 20;
+
 fn main() {
     let arguments: Vec<u64> = std::env::args().skip(1).filter_map(|word| word.parse().ok()).collect();
     let [seconds, seed] = arguments[..] else {
@@ -30,10 +42,20 @@ fn main() {
         process::exit(2);
     };
     println!("compare: seed {seed}, {seconds} seconds");
+    let run = thread::Builder::new().stack_size(STACK).spawn(move || compare(seconds, seed));
+    if run.expect("a thread").join().is_err() {
+        process::exit(1);
+    }
+}
+
+fn compare(seconds: u64, seed: u64) {
     let start = Instant::now();
     let mut comparison = Comparison::new(seed);
-    fixed(&mut comparison, if seconds < LONG { 4 } else { 5 });
-    println!("compare: fixed groups took {} s", start.elapsed().as_secs());
+    let long = seconds >= LONG;
+    shapes(&mut comparison, if long { 5 } else { 4 });
+    println!("compare: fixed groups of shapes took {} s", start.elapsed().as_secs());
+    numbers(&mut comparison, long);
+    println!("compare: all fixed groups took {} s", start.elapsed().as_secs());
     let mut random = Random::new(seed);
     loop {
         round(&mut comparison, &mut random);
@@ -45,7 +67,7 @@ fn main() {
 }
 
 /// `most`: how many pieces of the alphabet of every piece a text has at most.
-fn fixed(comparison: &mut Comparison, most: usize) {
+fn shapes(comparison: &mut Comparison, most: usize) {
     comparison.null_pointers();
     short::named(comparison);
     short::one_byte_changed(comparison);
@@ -56,10 +78,24 @@ fn fixed(comparison: &mut Comparison, most: usize) {
     long::flaw_at_each_place(comparison);
 }
 
+fn numbers(comparison: &mut Comparison, long: bool) {
+    linear_forms::check(long);
+    number_texts::named(comparison);
+    number_texts::one_byte_changed(comparison);
+    number_texts::exhaustive(comparison);
+    number_texts::exhaustive_for_one(comparison, if long { 6 } else { 5 });
+    number_long::growing(comparison);
+    number_long::limits(comparison);
+}
+
 /// Each random group for some tenths of a second.
 fn round(comparison: &mut Comparison, random: &mut Random) {
-    short::random(comparison, random, 100_000);
-    short::slips(comparison, random, 200_000);
-    long::random(comparison, random, 200);
-    utf8::damaged(comparison, random, 20_000);
+    short::random(comparison, random, 50_000);
+    short::slips(comparison, random, 100_000);
+    long::random(comparison, random, 100);
+    utf8::damaged(comparison, random, 10_000);
+    number_texts::random_digits(comparison, random, 50_000);
+    number_texts::random_pieces(comparison, random, 20_000);
+    number_texts::slips(comparison, random, 5_000);
+    number_long::random(comparison, random, 100);
 }

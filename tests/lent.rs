@@ -1,4 +1,4 @@
-//! Memory to lend to a call. Texts end at or near a page that may not be touched; stores stand between guard bytes.
+//! Memory to lend to a call. Texts and buffers end at or near a page that may not be touched, and stand between marks.
 
 use std::ffi::c_void;
 use std::ptr;
@@ -9,15 +9,24 @@ const PRIVATE_ANONYMOUS: i32 = 0x22;
 const PAGE: usize = 4_096;
 const ROOM: usize = 1 << 21;
 const GUARD: usize = 32;
+const SHOWN: usize = 400;
 
 extern "C" {
     fn mmap(at: *mut c_void, len: usize, protection: i32, flags: i32, file: i32, offset: i64) -> *mut c_void;
     fn mprotect(at: *mut c_void, len: usize, protection: i32) -> i32;
 }
 
-/// Marks have the top bit, which no byte of a word has; neighbours differ, so that a shifted copy shows too.
-const fn mark(place: usize) -> u8 {
+/// Marks have the top bit, which no letter has; neighbours differ, so that a shifted copy shows too.
+fn mark(place: usize) -> u8 {
     0x80 | (place.wrapping_mul(37) & 0x7f) as u8
+}
+
+/// Byte by byte where there are few: right before the fence, memcmp's wide loads would reach behind it, which is slow.
+fn same(ours: &[u8], wanted: &[u8]) -> bool {
+    if wanted.len() < 64 {
+        return ours.iter().eq(wanted);
+    }
+    ours == wanted
 }
 
 /// A place for one text at a time.
@@ -37,7 +46,7 @@ impl Fenced {
         }
     }
 
-    /// Puts the text where `gap` guard bytes part it from the fence. Reading at the fence ends the program.
+    /// Puts the text where `gap` marks part it from the fence. Reading at the fence ends the program.
     pub fn lend(&mut self, text: &[u8], gap: usize) -> *const u8 {
         assert!(GUARD + text.len() + gap <= ROOM);
         // SAFETY: the assertion keeps all three writes inside the mapping.
@@ -60,48 +69,59 @@ impl Fenced {
         let (before, rest) = whole.split_at(GUARD);
         let (lent, after) = rest.split_at(text.len());
         let guards = |bytes: &[u8]| bytes.iter().all(|&byte| byte == mark(0));
-        guards(before) && lent == text && guards(after)
+        guards(before) && same(lent, text) && guards(after)
     }
 }
 
-/// The longest store that is lent.
-pub const STORE_MOST: usize = 64;
-
-const MARKS: [u8; GUARD + STORE_MOST + GUARD] = {
-    let mut marks = [0; GUARD + STORE_MOST + GUARD];
-    let mut place = 0;
-    while place < marks.len() {
-        marks[place] = mark(place);
-        place += 1;
-    }
-    marks
-};
-
-/// A store with guard bytes on both sides.
-pub struct Store {
-    bytes: [u8; MARKS.len()],
+/// A place for one buffer at a time that a call may write: marks before it, and behind it some marks and the fence.
+pub struct Buffer {
+    fence: *mut u8,
+    marks: Vec<u8>,
+    len: usize,
+    gap: usize,
 }
 
-impl Store {
+impl Buffer {
     pub fn new() -> Self {
-        Store { bytes: MARKS }
+        let Fenced { fence } = Fenced::new();
+        let marks: Vec<u8> = (0..ROOM).map(mark).collect();
+        // SAFETY: the mapping has ROOM bytes before the fence.
+        unsafe { fence.sub(ROOM).copy_from_nonoverlapping(marks.as_ptr(), ROOM) };
+        Buffer { fence, marks, len: 0, gap: 0 }
     }
 
-    /// Writes the marks anew and gives the store's first byte.
-    pub fn lend(&mut self) -> *mut u8 {
-        self.bytes = MARKS;
-        self.bytes[GUARD..].as_mut_ptr()
+    /// A buffer of `len` bytes with `gap` marks between it and the fence; all marks stand anew.
+    pub fn lend(&mut self, len: usize, gap: usize) -> *mut u8 {
+        assert!(GUARD + len + gap <= ROOM);
+        let used = self.window();
+        // SAFETY: the window ends at the fence and is shorter than ROOM.
+        unsafe { self.fence.sub(used).copy_from_nonoverlapping(self.marks[ROOM - used..].as_ptr(), used) };
+        (self.len, self.gap) = (len, gap);
+        // SAFETY: the assertion keeps the buffer inside the mapping.
+        unsafe { self.fence.sub(gap + len) }
     }
 
-    /// Whether the word stands at the front and every other byte, guards included, is as it was.
-    pub fn holds_only(&self, word: &[u8]) -> bool {
-        let mut expected = MARKS;
-        expected[GUARD..GUARD + word.len()].copy_from_slice(word);
-        self.bytes == expected
+    /// Whether the result stands at the front and every other byte is as it was.
+    pub fn holds_only(&self, result: &[u8]) -> bool {
+        let marks = &self.marks[ROOM - self.window()..];
+        let (before, rest) = self.bytes().split_at(GUARD);
+        let (front, after) = rest.split_at(result.len());
+        same(before, &marks[..GUARD]) && same(front, result) && same(after, &marks[GUARD + result.len()..])
     }
 
-    /// The bytes with their guards, to be printed.
+    /// The bytes with what stands around them, to be printed.
     pub fn shown(&self) -> String {
-        self.bytes.escape_ascii().to_string()
+        let bytes = self.bytes();
+        bytes[..bytes.len().min(SHOWN)].escape_ascii().to_string()
+    }
+
+    /// How many bytes before the fence are looked after.
+    fn window(&self) -> usize {
+        GUARD + self.len + self.gap
+    }
+
+    fn bytes(&self) -> &[u8] {
+        // SAFETY: the window ends at the fence, and no call is under way.
+        unsafe { std::slice::from_raw_parts(self.fence.sub(self.window()), self.window()) }
     }
 }

@@ -6,7 +6,7 @@ use crate::pieces::PIECES;
 use crate::random::Random;
 
 /// A beginning, what is repeated after it, and an end.
-type Pattern = (&'static str, &'static str, &'static str);
+pub type Pattern = (&'static str, &'static str, &'static str);
 
 #[rustfmt::skip]
 const PATTERNS: &[Pattern] = &[
@@ -40,17 +40,17 @@ pub fn limits(comparison: &mut Comparison) {
     comparison.begin("lengths around the limit");
     for pattern in PATTERNS {
         for len in TEXT_LIMIT - 2..=TEXT_LIMIT + 2 {
-            comparison.every_call(&of_length(pattern, len, b""), 0);
+            comparison.every_shape(&of_length(pattern, len, b""), 0);
         }
     }
     for (number, ending) in ENDINGS.iter().enumerate() {
         for len in TEXT_LIMIT - 4..=TEXT_LIMIT + 4 {
             let pattern = &PATTERNS[(number + len) % PATTERNS.len()];
-            comparison.every_call(&of_length(pattern, len, ending), 0);
+            comparison.every_shape(&of_length(pattern, len, ending), 0);
         }
     }
     for len in [2 * TEXT_LIMIT - 1, 2 * TEXT_LIMIT, 2 * TEXT_LIMIT + 1, 1 << 20] {
-        comparison.every_call(&of_length(&PATTERNS[0], len, b""), 0);
+        comparison.every_shape(&of_length(&PATTERNS[0], len, b""), 0);
     }
 }
 
@@ -63,7 +63,7 @@ pub fn flaw_at_each_place(comparison: &mut Comparison) {
             for byte in [b'x', b'5', b'.', 0xff] {
                 let mut text = whole.clone();
                 text[place] = byte;
-                comparison.every_call(&text, 0);
+                comparison.every_shape(&text, 0);
             }
         }
     }
@@ -78,12 +78,12 @@ pub fn random(comparison: &mut Comparison, random: &mut Random, texts: usize) {
         for _ in 0..random.below(3) {
             flaw(random, &mut text);
         }
-        comparison.every_call(&text, random.below(64));
+        comparison.every_shape(&text, random.below(64));
     }
 }
 
 /// The pattern with its middle drawn out so that text and ending have `len` bytes; a character may be cut.
-fn of_length(pattern: &Pattern, len: usize, ending: &[u8]) -> Vec<u8> {
+pub fn of_length(pattern: &Pattern, len: usize, ending: &[u8]) -> Vec<u8> {
     let (front, middle, back) = pattern;
     let drawn = len.saturating_sub(front.len() + back.len() + ending.len());
     let mut text = front.as_bytes().to_vec();

@@ -14,20 +14,20 @@ pub const PIECES: &[&str] = &[
 ];
 
 /// Up to `most` pieces; half of the texts draw from four pieces only, so that runs and repetitions come up.
-pub fn some_pieces(random: &mut Random, most: usize) -> String {
-    let few: Vec<&str> = (0..4).map(|_| *random.one_of(PIECES)).collect();
-    let pieces = if random.below(2) == 0 { &few[..] } else { PIECES };
+pub fn some_pieces(random: &mut Random, pieces: &[&str], most: usize) -> String {
+    let few: Vec<&str> = (0..4).map(|_| *random.one_of(pieces)).collect();
+    let pieces = if random.below(2) == 0 { &few[..] } else { pieces };
     (0..random.below(most + 1)).map(|_| *random.one_of(pieces)).collect()
 }
 
 /// The text with one character replaced by a piece, left out, doubled, or with a piece put before it.
-pub fn slip(random: &mut Random, text: &str) -> String {
+pub fn slip(random: &mut Random, pieces: &[&str], text: &str) -> String {
     let characters: Vec<char> = text.chars().collect();
     let place = random.below(characters.len() + 1);
     let front: String = characters[..place].iter().collect();
     let back: String = characters.iter().skip(place + 1).collect();
     let here: String = characters.get(place).iter().copied().collect();
-    let piece = random.one_of(PIECES);
+    let piece = random.one_of(pieces);
     match random.below(4) {
         0 => front + piece + &back,
         1 => front + &back,

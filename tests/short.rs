@@ -2,7 +2,7 @@
 
 use crate::comparison::Comparison;
 use crate::corners::{DAMAGED, LISTS};
-use crate::pieces::{slip, some_pieces};
+use crate::pieces::{slip, some_pieces, PIECES};
 use crate::random::Random;
 
 const MOST_PIECES: usize = 40;
@@ -20,10 +20,10 @@ pub fn one_byte_changed(comparison: &mut Comparison) {
         for place in 0..=corner.len() {
             let (front, back) = corner.split_at(place);
             let after = back.get(1..).unwrap_or(b"");
-            comparison.every_call(&[front, after].concat(), 0);
+            comparison.every_shape(&[front, after].concat(), 0);
             for byte in 0..=255 {
-                comparison.every_call(&[front, &[byte], after].concat(), 0);
-                comparison.every_call(&[front, &[byte], back].concat(), 0);
+                comparison.every_shape(&[front, &[byte], after].concat(), 0);
+                comparison.every_shape(&[front, &[byte], back].concat(), 0);
             }
         }
     }
@@ -32,8 +32,8 @@ pub fn one_byte_changed(comparison: &mut Comparison) {
 pub fn random(comparison: &mut Comparison, random: &mut Random, texts: usize) {
     comparison.begin("random short texts");
     for _ in 0..texts {
-        let text = some_pieces(random, MOST_PIECES);
-        comparison.every_call(text.as_bytes(), random.below(64));
+        let text = some_pieces(random, PIECES, MOST_PIECES);
+        comparison.every_shape(text.as_bytes(), random.below(64));
     }
 }
 
@@ -43,9 +43,9 @@ pub fn slips(comparison: &mut Comparison, random: &mut Random, texts: usize) {
     for _ in 0..texts {
         let mut text = random.one_of(&examples).to_string();
         for _ in 0..random.below(4) {
-            text = slip(random, &text);
+            text = slip(random, PIECES, &text);
         }
-        comparison.every_call(text.as_bytes(), random.below(64));
+        comparison.every_shape(text.as_bytes(), random.below(64));
     }
 }
 

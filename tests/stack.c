@@ -12,6 +12,7 @@
 #define MOST 1024 /* the header's bound */
 
 typedef hwk_verdict verdict(const uint8_t *s, size_t s_len);
+typedef hwk_words reader(const uint8_t *s, size_t s_len, uint8_t *store, size_t store_len, uint8_t *table, size_t table_len);
 
 static verdict *const verdicts[] = {
     hwk_is_digits, hwk_is_alpha, hwk_is_double, hwk_is_comma_int, hwk_is_ordinal, hwk_is_us_money, hwk_is_illion,
@@ -19,11 +20,18 @@ static verdict *const verdicts[] = {
     hwk_is_dotted_abbrev, hwk_is_digits_slash_digits, hwk_is_digits_dash_digits,
 };
 
+static reader *const readers[] = {hwk_cardinal, hwk_ordinal, hwk_year, hwk_digits, hwk_real, hwk_letters};
+
 static const char *const names[] = {
     "", "9:30am", "5kg", "kg", "mm", "-1.5e+10", "1,234,567", "U.S.A.", "1998-1999", "caf\xc3\xa9", "\xed\xa0\x80", "XIV",
+    "0", "1984", "777777777777", "000000000001", "7777777777777", "-777777777777.5e-777777777777",
 };
 
-static uint8_t stack[65536], sheet[HWK_TEXT_LIMIT], store[64];
+/* What a long text repeats: whole characters, digits, pairs, signs, and letters of numbers. */
+static const char *const repeated[] = {"\xc3\xa9", "7", "00", "-+", "777777777777e", ".", "IM", "aZ"};
+
+static uint8_t stack[65536], sheet[HWK_TEXT_LIMIT];
+static uint8_t store[HWK_WORDS_STORE_MOST(HWK_TEXT_LIMIT)], table[HWK_WORDS_TABLE_MOST(HWK_TEXT_LIMIT)];
 static const uint8_t *text;
 static size_t text_len, which;
 
@@ -33,6 +41,8 @@ static void n_digits(void) { hwk_is_n_digits(text, text_len, 4); }
 static void split_time(void) { hwk_split_time_meridiem(text, text_len); }
 static void split_unit(void) { hwk_split_unit(text, text_len); }
 static void unit_word(void) { hwk_unit_word(text, text_len, store, sizeof store); }
+static void one_reader(void) { readers[which](text, text_len, store, sizeof store, table, sizeof table); }
+static void roman_value(void) { hwk_roman_value(text, text_len); }
 
 /* The bytes that f touches, its way in and out included. */
 static size_t touched(void (*f)(void))
@@ -58,10 +68,23 @@ static size_t most_of_calls(void)
     size_t most = 0;
 
     for (which = 0; which < sizeof verdicts / sizeof verdicts[0]; which++) most = larger(most, touched(one_verdict));
+    for (which = 0; which < sizeof readers / sizeof readers[0]; which++) most = larger(most, touched(one_reader));
+    most = larger(most, touched(roman_value));
     most = larger(most, touched(n_digits));
     most = larger(most, touched(split_time));
     most = larger(most, touched(split_unit));
     return larger(most, touched(unit_word));
+}
+
+/* On a text of the limit's length, as far as whole repetitions reach. */
+static size_t most_on_long(const char *piece)
+{
+    size_t i, len = strlen(piece);
+
+    for (i = 0; i < sizeof sheet; i++) sheet[i] = (uint8_t)piece[i % len];
+    text = sheet;
+    text_len = sizeof sheet / len * len;
+    return most_of_calls();
 }
 
 int main(void)
@@ -73,10 +96,8 @@ int main(void)
         text_len = strlen(names[i]);
         most = larger(most, most_of_calls());
     }
-    for (i = 0; i < sizeof sheet; i++) sheet[i] = i % 2 == 0 ? 0xC3 : 0xA9;
-    text = sheet;
-    text_len = sizeof sheet;
-    most = larger(most, most_of_calls()) - touched(nothing);
+    for (i = 0; i < sizeof repeated / sizeof repeated[0]; i++) most = larger(most, most_on_long(repeated[i]));
+    most -= touched(nothing);
     printf("header: the calls need %lu bytes of stack at most\n", (unsigned long)most);
     return most < MOST ? 0 : 1;
 }

@@ -1,9 +1,13 @@
 //! The calls of include/howhakiru.h, as Rust sees them.
 
 use crate::answers::{Part, Time, Verdict, Word};
+use crate::readings::{Number, Words};
 
 /// A call that takes the text alone and answers a verdict.
 pub type VerdictCall = unsafe extern "C" fn(*const u8, usize) -> Verdict;
+
+/// A call that reads a text aloud: the text, the store, the table.
+pub type ReadCall = unsafe extern "C" fn(*const u8, usize, *mut u8, usize, *mut u8, usize) -> Words;
 
 extern "C" {
     pub fn hwk_is_digits(s: *const u8, s_len: usize) -> Verdict;
@@ -26,7 +30,24 @@ extern "C" {
     pub fn hwk_split_time_meridiem(s: *const u8, s_len: usize) -> Time;
     pub fn hwk_split_unit(s: *const u8, s_len: usize) -> Part;
     pub fn hwk_unit_word(s: *const u8, s_len: usize, store: *mut u8, store_len: usize) -> Word;
+    pub fn hwk_roman_value(s: *const u8, s_len: usize) -> Number;
 }
+
+/// The readers have one signature.
+macro_rules! readers {
+    ($($name:ident)*) => {
+        extern "C" {
+            $(pub fn $name(
+                s: *const u8, s_len: usize, store: *mut u8, store_len: usize, table: *mut u8, table_len: usize,
+            ) -> Words;)*
+        }
+
+        /// The same order as `readings::READERS`.
+        pub const READERS: [ReadCall; 6] = [$($name),*];
+    };
+}
+
+readers! { hwk_cardinal hwk_ordinal hwk_year hwk_digits hwk_real hwk_letters }
 
 /// The same order as `answers::SHAPES`.
 pub const VERDICTS: [VerdictCall; 16] = [

@@ -3,8 +3,9 @@ use mathlib.Core.Path.{_≡_, refl, sym, _∙_}
 use mathlib.Core.Bool.{Bool, _&&_}
 use mathlib.Core.List.{List, [], _++_}
 use mathlib.Core.Logic.{⊎-elim}
-use Prim.Native.Nat.{ℕ, _+_, _<_, _≤_}
-use lib.ListN.{getD, List·getD-eq-default}
+use Prim.Native.Nat.{ℕ, _+_, _<_, _≤_, _%_}
+use lib.Dec.{eqb, eqb→eq}
+use lib.ListN.{length, getD, List·getD-eq-default}
 use Rattle.lists.specs.Bytes.{bytes, same, sameBy}
 use Rattle.lists.specs.LittleEndian.{leValue, leBytes}
 use Rattle.lists.specs.Packed.{pack}
@@ -48,3 +49,11 @@ ordinal k = same (wordOf (onesAt + ordinalStep + k)) (bytes (getD ordinals k "")
 pub ordinal-word : (k : ℕ) → k < 34 → wordOf (onesAt + ordinalStep + k) ≡ bytes (getD ordinals k "")
 unfolding ordinal lexicon
 ordinal-word k h = same→≡ _ _ (below ordinal 34 tt k h)
+
+sized : ℕ → Bool
+sized k = eqb (lowOf k % 256) (length (wordOf k))
+
+-- a row's first byte is the word's length
+pub low-size : (k : ℕ) → lowOf k % 256 ≡ length (wordOf k)
+unfolding sized lexicon
+low-size k = ⊎-elim (λ (h : 89 ≤ k). rw (no-word k h)) (λ (h : k < 89). eqb→eq _ _ (below sized 89 tt k h)) (le-or-lt 89 k)

@@ -1,6 +1,7 @@
 // Every word that is called, by number. A word is held as two numbers, which are its row of 16 bytes: a `match` from numbers to
 // numbers becomes a table in the program, where a table of bytes would be built on the stack at each call.
 ghost use mathlib.Core.Path.{_≡_};
+ghost use lib.ListN.{length};
 ghost use Rattle.lists.specs.Packed.{pack};
 ghost use Rattle.lexicon.specs.Lexicon.{wordOf, lowOf, highOf};
 
@@ -220,6 +221,13 @@ fn high(k: usize) -> u64
         88 => 0x0000_0000_0000_0000, // e
         _ => 0,
     }
+}
+
+// The bytes of a word.
+pub fn size(k: usize) -> usize
+    ensures { λ r. ⌜ r ≡ length (wordOf k) ⌝ }
+{
+    (low(k) % 256) as usize
 }
 
 // The word of a number in a row of 16 bytes; an empty text where there is none.

@@ -120,3 +120,14 @@ span-all p (b ∷ s) = go (p b) refl (span-all p s)
     go : (t : Bool) → p b ≡ t → all p (take (span p s) s) ≡ true → all p (take (cond t (suc (span p s)) 0) (b ∷ s)) ≡ true
     go true e h = rw (e, h)
     go false e h = refl
+
+-- a scan of those bytes passes them all again
+pub span-again : (p : ℕ → Bool) (s : List ℕ) → length (take (span p s) s) ≤ span p (take (span p s) s)
+unfolding span
+span-again p [] = omega arith
+span-again p (b ∷ s) = go (p b) refl (span-again p s)
+  where
+    go : (t : Bool) → p b ≡ t → length (take (span p s) s) ≤ span p (take (span p s) s)
+        → length (take (cond t (suc (span p s)) 0) (b ∷ s)) ≤ span p (take (cond t (suc (span p s)) 0) (b ∷ s))
+    go true e h = rw e (omega arith)
+    go false e h = omega arith

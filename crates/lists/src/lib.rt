@@ -266,14 +266,22 @@ fn clip(len: usize, at: usize, n: usize) -> usize
     len - at
 }
 
-// Stores src from index `at` on, as far as it falls within out.
-pub fn put(out: &mut [u8], at: usize, src: &[u8])
-    ensures { λ _. ⌜ now (out .exit) ≡ sets (now (out .entry)) at (now (src .entry)) ⌝ }
+// Stores the first n bytes of src from index `at` on.
+pub fn copy(out: &mut [u8], at: usize, src: &[u8], n: usize)
+    requires { ⌜ (n ≤ length (now src)) × (n ≤ length (now out) - at) ⌝ }
+    ensures { λ _. ⌜ now (out .exit) ≡ sets (now (out .entry)) at (take n (now (src .entry))) ⌝ }
 {
-    let n = clip(out.len(), at, src.len());
     let mut i = 0;
     while i < n {
         out[at + i] = src[i];
         i += 1;
     }
+}
+
+// Stores src from index `at` on, as far as it falls within out.
+pub fn put(out: &mut [u8], at: usize, src: &[u8])
+    ensures { λ _. ⌜ now (out .exit) ≡ sets (now (out .entry)) at (now (src .entry)) ⌝ }
+{
+    let n = clip(out.len(), at, src.len());
+    copy(out, at, src, n);
 }

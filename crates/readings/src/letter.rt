@@ -1,5 +1,4 @@
 // Letters: one word a character.
-use crate::turn::Turn;
 use lists::CONTINUATION;
 use lists::byte_at;
 use lists::front;
@@ -9,37 +8,32 @@ use lists::to_lower;
 use sink::Pen;
 use sink::word;
 ghost use mathlib.Core.Path.{_≡_};
-ghost use mathlib.Core.List.{_∷_, []};
-ghost use lib.ListN.{length, take};
+ghost use lib.ListN.{take};
 ghost use Rattle.sink.specs.Sink.{sink, emit, emitAll};
 ghost use Rattle.numerals.specs.Words.{spelled};
 ghost use Rattle.readings.specs.Letters.{letterWord, letters};
 ghost use Rattle.readings.specs.Walk.{charBytes};
 
-// Says a character of one byte.
-fn say_ascii(b: u8, store: &mut [u8], table: &mut [u8], pen: Pen) -> Pen
-    ensures { λ r. ⌜ sink (now (store .exit)) (now (table .exit)) r ≡ emit (letterWord (b ∷ [])) (sink (now (store .entry)) (now (table .entry)) pen) ⌝ }
+// The first character of s, nothing where there is none.
+fn first_char(s: &[u8]) -> &[u8]
+    ensures { λ r. ⌜ now r ≡ take (charBytes (now (s .entry))) (now (s .entry)) ⌝ }
 {
-    let lower = to_lower(b);
+    front(s, span_of(CONTINUATION, 0, tail(s, 1)) + 1)
+}
+
+// Says the word of a character.
+fn say_letter(c: &[u8], store: &mut [u8], table: &mut [u8], pen: Pen) -> Pen
+    ensures { λ r. ⌜ sink (now (store .exit)) (now (table .exit)) r ≡ emit (letterWord (now (c .entry))) (sink (now (store .entry)) (now (table .entry)) pen) ⌝ }
+{
+    if c.len() != 1 {
+        return word(store, table, pen, c);
+    }
+    let lower = to_lower(byte_at(c, 0));
     if lower == b'a' {
         return word(store, table, pen, b"_a");
     }
     let w = [lower];
     word(store, table, pen, &w)
-}
-
-// Says the first character of s, whose bytes are answered too.
-fn say_letter(s: &[u8], store: &mut [u8], table: &mut [u8], pen: Pen) -> Turn
-    ensures { λ r. ⌜ (sink (now (store .exit)) (now (table .exit)) (r .pen) ≡ emit (letterWord (take (charBytes (now (s .entry))) (now (s .entry)))) (sink (now (store .entry)) (now (table .entry)) pen)) × (r .next ≡ charBytes (now (s .entry))) ⌝ }
-{
-    let more = span_of(CONTINUATION, 0, tail(s, 1));
-    if more == 0 {
-        let pen = say_ascii(byte_at(s, 0), store, table, pen);
-        return Turn { pen, next: 1 };
-    }
-    let next = more + 1;
-    let pen = word(store, table, pen, front(s, next));
-    Turn { pen, next }
 }
 
 // Says one word per character of s.
@@ -49,9 +43,9 @@ pub fn say_letters(s: &[u8], store: &mut [u8], table: &mut [u8], pen: Pen) -> Pe
     let mut p = pen;
     let mut i = 0;
     while i < s.len() {
-        let turn = say_letter(tail(s, i), store, table, p);
-        p = turn.pen;
-        i += turn.next;
+        let c = first_char(tail(s, i));
+        p = say_letter(c, store, table, p);
+        i += c.len();
     }
     p
 }

@@ -28,6 +28,10 @@ pub record Sink : Type 0 where
 abbrev pub sink : List ℕ → List ℕ → Pen → Sink
 sink s t p = record { store = s; table = t; at = p .at; words = p .words }
 
+-- the pen after a word of so many bytes
+abbrev pub moved : ℕ → Pen → Pen
+moved size p = record { at = min (p .at + size) top; words = min (p .words + 1) top }
+
 -- a word goes to the store and its pair to the table, as far as they fall within; the places move on wherever they are
 unfoldable pub emit : List ℕ → Sink → Sink
 emit w s =

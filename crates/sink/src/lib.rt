@@ -1,11 +1,12 @@
 // The writing layer. A word goes to the store and its pair of offset and length to the table, each as far as it falls within its
 // buffer, and the pen moves on in any case: on empty buffers the same walk only measures.
+use lists::copy;
 use lists::put;
 ghost use mathlib.Core.Path.{_≡_};
-ghost use Prim.Native.Nat.{_+_, _*_, min};
+ghost use Prim.Native.Nat.{_+_, _*_, _≤_, min};
 ghost use lib.ListN.{length};
 ghost use lib.Seq.{sets};
-ghost use Rattle.sink.specs.Sink.{top, pairOf, pairBytes, sink, emit};
+ghost use Rattle.sink.specs.Sink.{top, pairOf, pairBytes, sink, moved, emit};
 ghost use Rattle.sink.specs.Words.{shortFor, startPen, spokenBy, refusedBy};
 
 const TOP: usize = 0xffff_ffff_ffff_ffff;
@@ -60,9 +61,25 @@ fn pair(at: usize, size: usize) -> [u8; 8]
 fn put_pair(table: &mut [u8], words: usize, at: usize, size: usize)
     ensures { λ _. ⌜ now (table .exit) ≡ sets (now (table .entry)) (pairBytes * words) (pairOf at size) ⌝ }
 {
+    // The pair falls within: the compiler makes one store of it.
+    if words < table.len() / PAIR {
+        copy(table, PAIR * words, &pair(at, size), PAIR);
+        return;
+    }
     // No table is that long, and the product could not be had.
     if words < 0x1000_0000_0000_0000 {
         put(table, PAIR * words, &pair(at, size));
+    }
+}
+
+// Stores the pair of a word of so many bytes, and moves the pen past it.
+pub fn advance(table: &mut [u8], pen: Pen, size: usize) -> Pen
+    ensures { λ r. ⌜ (r ≡ moved size pen) × (now (table .exit) ≡ sets (now (table .entry)) (pairBytes * pen .words) (pairOf (pen .at) size)) ⌝ }
+{
+    put_pair(table, pen.words, pen.at, size);
+    Pen {
+        at: plus(pen.at, size),
+        words: plus(pen.words, 1),
     }
 }
 
@@ -70,12 +87,8 @@ fn put_pair(table: &mut [u8], words: usize, at: usize, size: usize)
 pub fn word(store: &mut [u8], table: &mut [u8], pen: Pen, w: &[u8]) -> Pen
     ensures { λ r. ⌜ sink (now (store .exit)) (now (table .exit)) r ≡ emit (now (w .entry)) (sink (now (store .entry)) (now (table .entry)) pen) ⌝ }
 {
-    put_pair(table, pen.words, pen.at, w.len());
     put(store, pen.at, w);
-    Pen {
-        at: plus(pen.at, w.len()),
-        words: plus(pen.words, 1),
-    }
+    advance(table, pen, w.len())
 }
 
 impl Pen {

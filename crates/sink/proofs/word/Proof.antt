@@ -5,16 +5,7 @@ use Rattle.sink.proofs.word.Tie as tie
 
 returns : tie.Need-returns
 unfolding emit
-returns c = cc
+returns c = rw (c .before .before .before .before .before .before .put .ensures, c .before .before .advance .ensures .0, c .before .before .advance .ensures .1)
 
 pub word-spec : {M : Type 1} → statement M
-word-spec =
-    tie.close
-    (tie.spec
-    (λ c κs. search needs)
-    (λ c κs. search needs)
-    (λ c κs. search needs)
-    (λ c κs. search needs)
-    (λ c. search needs)
-    (λ c. search needs)
-    returns)
+word-spec = tie.close (tie.spec (λ c κs. search needs) (λ c κs. search needs) (λ c. search needs) (λ c. search needs) returns)

@@ -1,17 +1,27 @@
-use Rattle.lists.proofs.Rows.{unpack-pack}
+use Rattle.sink.specs.Sink.{emit}
 use Rattle.lexicon.specs.Lexicon.{wordOf}
+use Rattle.lists.proofs.Rows.{unpack-pack}
+use Rattle.lists.proofs.Sets.{sets-out}
 use borrow.Author.Needs.{needs}
 use Rattle.numerals.proofs.saying.say.Statement.{statement}
 use Rattle.numerals.proofs.saying.say.Tie as tie
+
+returns : tie.Need-returns
+unfolding emit
+returns c = rw (sets-out (c .before .before .before .before .before .before .before .before .before .args .store .now) (c .before .before .before .before .before .before .before .before .before .args .pen .at) (wordOf (c .before .before .before .before .before .before .before .before .before .args .k)) (c .before .before .before .before .before .if1 .taken), ← c .before .before .before .size .ensures, c .before .before .advance .ensures .0, c .before .before .advance .ensures .1)
 
 pub say-spec : {M : Type 1} → statement M
 say-spec =
     tie.close
     (tie.spec
     (λ c κs. search needs)
+    (λ c κs. search needs)
+    (λ c. search needs)
+    returns
+    (λ c κs. search needs)
     (λ c. search needs)
     (λ c κs. search needs)
     (λ c κs. search needs)
     (λ c. search needs)
     (λ c. search needs)
-    (λ c. rw (c .before .before .before .before .before .unpacked .ensures, c .before .before .before .before .before .before .before .before .before .row .ensures, unpack-pack 16 (wordOf (c .before .before .before .before .before .before .before .before .before .before .before .before .args .k))) at (c .before .before .before .before .word .ensures)))
+    (λ c. rw (c .before .before .before .before .before .unpacked .ensures, c .before .before .before .before .before .before .before .before .before .row .ensures, unpack-pack 16 (wordOf (c .before .before .before .before .before .before .before .before .before .before .before .before .before .before .args .k))) at (c .before .before .before .before .word .ensures)))

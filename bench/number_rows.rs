@@ -1,0 +1,104 @@
+//! The readings. Ours writes words and table into lent buffers; the Rust makes a `Vec<String>`, which is dropped again.
+
+use std::hint::black_box;
+use std::str::from_utf8;
+
+use crate::readings::READERS;
+use crate::timing::{alone, compared};
+use crate::voice;
+use crate::Row;
+
+const ROMAN_VALUE: &str = "roman_value";
+const KIB: usize = 1_024;
+
+/// Room for every reading of 64 KiB.
+const STORE: usize = 10 * 64 * KIB + 6;
+const TABLE: usize = 13 * 64 * KIB + 8;
+
+/// A reader and a text for it.
+#[rustfmt::skip]
+const SHORT: &[(&str, &str)] = &[
+    ("cardinal", "7"), ("cardinal", "123456"), ("cardinal", "777777777777"), ("ordinal", "21"), ("ordinal", "123456"), ("year", "1984"),
+    ("year", "2005"), ("digits", "5550123"), ("real", "-1.50"), ("real", "6.02e+23"), ("letters", "U.S.A."), (ROMAN_VALUE, "MCMLXXIV"),
+];
+
+/// Readers whose time is linear in the Rust too.
+const LONG: &[(&str, &str)] = &[("digits", "7"), ("cardinal", "7"), ("letters", "Zurich "), ("letters", "aé€𐍈")];
+
+/// A reader, and what its text repeats. The Rust's year, real and roman_value are quadratic, so all are timed at 8 KiB alone.
+#[rustfmt::skip]
+const DOUBLED: &[(&str, &str)] = &[
+    ("digits", "7"), ("cardinal", "7"), ("letters", "Zurich "), ("year", "77"), ("real", "-1.5e"), ("real", "-"), (ROMAN_VALUE, "MDCLXVI"),
+    (ROMAN_VALUE, "I"),
+];
+
+const SIZES: [usize; 4] = [8 * KIB, 16 * KIB, 32 * KIB, 64 * KIB];
+
+pub fn rows() -> Vec<Row> {
+    let mut rows: Vec<Row> =
+        SHORT.iter().map(|&(call, text)| row(call, format!("`{text}`"), text.as_bytes())).collect();
+    for &(call, piece) in LONG {
+        rows.push(row(call, format!("64 KiB of `{piece}`"), &drawn_out(piece, 64 * KIB)));
+    }
+    rows
+}
+
+/// A table of ours at four sizes, each twice the one before, and of the Rust at the smallest.
+pub fn doubling() {
+    println!("| Call | Text | 8 KiB, ns | 16 KiB | 32 KiB | 64 KiB | 64 to 8 KiB | Rust at 8 KiB, ns |");
+    println!("|---|---|---:|---:|---:|---:|---:|---:|");
+    for &(call, piece) in DOUBLED {
+        let (mut ours, rust) = (Sides::new(call), Sides::new(call));
+        let times = SIZES.map(|size| alone(&drawn_out(piece, size), |text| ours.ours(text)));
+        let smallest = drawn_out(piece, SIZES[0]);
+        let (_, rust) = compared(call, &smallest, |text| ours.ours(text), |text| rust.rust(text));
+        let told = times.map(|time| format!("{time:.0}")).join(" | ");
+        println!("| {call} | `{piece}` | {told} | {:.1} | {rust:.0} |", times[3] / times[0]);
+    }
+}
+
+fn row(call: &'static str, input: String, text: &[u8]) -> Row {
+    let (mut ours, rust) = (Sides::new(call), Sides::new(call));
+    let (ours, rust) = compared(&input, text, |text| ours.ours(text), |text| rust.rust(text));
+    Row { call, input, ours, rust }
+}
+
+/// Both sides of one call, and the buffers of ours. Each side answers a number that must be the same.
+struct Sides {
+    reader: Option<usize>,
+    store: Vec<u8>,
+    table: Vec<u8>,
+}
+
+impl Sides {
+    fn new(call: &str) -> Self {
+        let reader = READERS.iter().position(|(name, _)| *name == call);
+        assert!(reader.is_some() || call == ROMAN_VALUE, "no call {call}");
+        Sides { reader, store: vec![0; STORE], table: vec![0; TABLE] }
+    }
+
+    fn ours(&mut self, text: &[u8]) -> usize {
+        let Some(reader) = self.reader else {
+            return unsafe { voice::hwk_roman_value(text.as_ptr(), text.len()) }.value as usize;
+        };
+        let (store, table) = (black_box(&mut self.store), black_box(&mut self.table));
+        let read = voice::READERS[reader];
+        let words = unsafe {
+            read(text.as_ptr(), text.len(), store.as_mut_ptr(), store.len(), table.as_mut_ptr(), table.len())
+        };
+        words.words
+    }
+
+    fn rust(&self, text: &[u8]) -> usize {
+        let Ok(text) = from_utf8(text) else { return 0 };
+        match self.reader {
+            None => reference::numbers::roman_value(text) as usize,
+            Some(reader) => black_box(READERS[reader].1(text)).len(),
+        }
+    }
+}
+
+/// The piece repeated, as often as it fits whole.
+fn drawn_out(piece: &str, len: usize) -> Vec<u8> {
+    piece.repeat(len / piece.len()).into_bytes()
+}

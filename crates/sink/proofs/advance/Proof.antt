@@ -1,0 +1,7 @@
+use borrow.Author.Needs.{needs}
+use Rattle.sink.proofs.advance.Statement.{statement}
+use Rattle.sink.proofs.advance.Tie as tie
+
+pub advance-spec : {M : Type 1} → statement M
+advance-spec =
+    tie.close (tie.spec (λ c κs. search needs) (λ c κs. search needs) (λ c κs. search needs) (λ c. search needs) (λ c. (rw (c .before .plus .ensures, c .plus2 .ensures), c .before .before .before .before .put-pair .ensures)))
