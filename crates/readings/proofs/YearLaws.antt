@@ -19,10 +19,10 @@ use Rattle.lexicon.specs.Lexicon.{wordOf, othersAt}
 use Rattle.lexicon.proofs.Laws.{lexicon}
 use Rattle.sink.specs.Sink.{Sink, emitAll}
 use Rattle.numerals.specs.Words.{Word, one, hundred, other, spelled}
-use Rattle.numerals.specs.Cardinal.{digitValue, clean, pair, cardinalStep, cardinalFew, cardinalOf}
+use Rattle.numerals.specs.Cardinal.{digitValue, clean, pair, cardinalFew, cardinalOf}
 use Rattle.numerals.specs.Walk.{FewOf}
 use Rattle.numerals.specs.declared.few.Few.{Few}
-use Rattle.numerals.proofs.Cardinal.{cardinal-eq}
+use Rattle.numerals.proofs.Cardinal.{cardinal-2}
 use Rattle.readings.specs.Year.{yearStep, yearOf, year}
 use Rattle.readings.specs.Walk.{PickedFrom, leadCount, leadWords}
 use Rattle.readings.specs.declared.turn.Picked.{Picked}
@@ -83,11 +83,6 @@ year-eq : (s : List ℕ) → yearOf s ≡ yearStep yearOf s
 unfolding yearOf
 year-eq s = recur-eq [] yearStep year-local s
 
--- two digits, as `cardinal` reads them
-pub cardinal-two : (a b : ℕ) → cardinalFew (a ∷ b ∷ []) ≡ pair a b
-unfolding cardinalStep
-cardinal-two a b = cardinal-eq (a ∷ b ∷ [])
-
 -- a year of up to four digits
 pub year-few : (s : List ℕ) → length s ≤ 1 → yearOf s ≡ cardinalFew s
 unfolding yearStep cardinalOf
@@ -97,7 +92,7 @@ year-few (a ∷ b ∷ s) h = absurd (omega arith)
 
 pub year-two : (a b : ℕ) → yearOf (a ∷ b ∷ []) ≡ cond (eqb a 0) (cond (eqb b 0) (one 0 ∷ one 0 ∷ []) (other (bytes "oh") ∷ one b ∷ [])) (pair a b)
 unfolding yearStep cardinalOf
-year-two a b = year-eq (a ∷ b ∷ []) ∙ rw (cardinal-two a b) (go (eqb a 0) (eqb b 0))
+year-two a b = year-eq (a ∷ b ∷ []) ∙ rw (cardinal-2 (a ∷ b ∷ []) refl) (go (eqb a 0) (eqb b 0))
   where
     go : (t u : Bool) → cond (t && u) (one 0 ∷ one 0 ∷ []) (cond t (other (bytes "oh") ∷ one b ∷ []) (pair a b)) ≡ cond t (cond u (one 0 ∷ one 0 ∷ []) (other (bytes "oh") ∷ one b ∷ [])) (pair a b)
     go true true = refl
@@ -134,7 +129,7 @@ year-long [] n e h = absurd (omega arith)
 year-long (a ∷ []) n e h = absurd (omega arith)
 year-long (a ∷ b ∷ s) n e h =
     year-eq (a ∷ b ∷ s)
-    ∙ rw (cardinal-two a b, ← e, ne-eqb n 4 (λ k. omega arith), ne-eqb n 3 (λ k. omega arith), ne-eqb n 2 (λ k. omega arith), lt-leb n 2 (omega arith)) (go (eqb (n % 2) 1))
+    ∙ rw (cardinal-2 (a ∷ b ∷ []) refl, ← e, ne-eqb n 4 (λ k. omega arith), ne-eqb n 3 (λ k. omega arith), ne-eqb n 2 (λ k. omega arith), lt-leb n 2 (omega arith)) (go (eqb (n % 2) 1))
   where
     go : (t : Bool) → cond t (one a ∷ yearOf (b ∷ s)) (pair a b ++ yearOf s) ≡ leadWords t (a ∷ b ∷ s) ++ yearOf (drop (leadCount t) (a ∷ b ∷ s))
     go true = refl
@@ -173,7 +168,7 @@ module _ (s : List ℕ) (i left : ℕ) (e : left ≡ length (clean (drop i s))) 
   pub year-turn : (n : ℕ) → 4 < left → clean (drop n (drop i s)) ≡ drop (leadCount (eqb (left % 2) 1)) (clean (drop i s))
       → (σ : Sink) {τ z : Sink} → τ ≡ emitAll (spelled (leadWords (eqb (left % 2) 1) (clean (drop i s)))) σ → emitAll (spelled (year (drop i s))) σ ≡ z
       → (left - (2 - left % 2) ≡ length (clean (drop (i + n) s))) × (emitAll (spelled (year (drop (i + n) s))) τ ≡ z)
-  unfolding year spelled
+  unfolding year
   year-turn n h d σ p k =
       let ds = clean (drop i s) in
       let rest : clean (drop (i + n) s) ≡ drop (leadCount (eqb (left % 2) 1)) ds = ap clean (sym (drop-drop n i s)) ∙ d in
