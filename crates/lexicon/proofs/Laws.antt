@@ -4,8 +4,9 @@ use mathlib.Core.Bool.{Bool, _&&_}
 use mathlib.Core.List.{List, [], _++_}
 use mathlib.Core.Logic.{⊎-elim}
 use Prim.Native.Nat.{ℕ, _+_, _<_, _≤_, _%_}
-use lib.Dec.{eqb, eqb→eq}
+use lib.Dec.{leb, eqb, eqb→eq, leb→le}
 use lib.ListN.{length, getD, List·getD-eq-default}
+use native.Mathlib.Omega.{arith}
 use Rattle.lists.specs.Bytes.{bytes, same, sameBy}
 use Rattle.lists.specs.LittleEndian.{leValue, leBytes}
 use Rattle.lists.specs.Packed.{pack}
@@ -57,3 +58,11 @@ sized k = eqb (lowOf k % 256) (length (wordOf k))
 pub low-size : (k : ℕ) → lowOf k % 256 ≡ length (wordOf k)
 unfolding sized lexicon
 low-size k = ⊎-elim (λ (h : 89 ≤ k). rw (no-word k h)) (λ (h : k < 89). eqb→eq _ _ (below sized 89 tt k h)) (le-or-lt 89 k)
+
+fits : ℕ → Bool
+fits k = leb (length (wordOf k)) 11
+
+-- no word is longer than "millimeters"
+pub word-short : (k : ℕ) → length (wordOf k) ≤ 11
+unfolding fits lexicon
+word-short k = ⊎-elim (λ (h : 89 ≤ k). rw (no-word k h) (omega arith)) (λ (h : k < 89). leb→le _ _ (below fits 89 tt k h)) (le-or-lt 89 k)
