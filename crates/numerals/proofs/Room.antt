@@ -12,12 +12,12 @@ use Rattle.lists.specs.Bytes.{keep}
 use Rattle.lists.specs.Classes.{digit, except}
 use Rattle.lists.proofs.Recursion.{recur-induct, cond-elim}
 use Rattle.lists.proofs.Scan.{keep-le}
-use Rattle.lexicon.specs.Lexicon.{wordOf, onesAt, teensAt, tensAt, scalesAt}
+use Rattle.lexicon.specs.Lexicon.{onesAt, teensAt, tensAt, scalesAt}
 use Rattle.lexicon.proofs.Laws.{word-short}
 use Rattle.sink.specs.Words.{storeOf}
-use Rattle.numerals.specs.Words.{Word, one, teen, ten, hundred, scale, other, spell, spelled}
+use Rattle.numerals.specs.Words.{Word, one, hundred, scale, spell, spelled}
 use Rattle.numerals.specs.Cardinal.{digitValue, clean, pair, scaleFor, join, splitAt, byScale, cardinalStep, cardinalFew, cardinalOf, cardinal, digits}
-use Rattle.numerals.specs.Ordinal.{ordinalForm, orZero, onLast, ordinal}
+use Rattle.numerals.specs.Ordinal.{orZero, onLast, ordinal}
 use Rattle.numerals.specs.Walk.{numberOf, ordinalNumber}
 use Rattle.numerals.proofs.Cardinal.{split-parts}
 use Rattle.numerals.proofs.Every.{Every, every-append, every-all}
@@ -32,18 +32,17 @@ pub record Room (n : ℕ) (ws : List Word) : Type 0 where
   pub count : length ws ≤ n
   pub short : Every Short ws
 
-module _ {n : ℕ} where
-  pub room-none : Room n []
-  room-none = record { count = omega arith; short = tt }
+pub room-none : Room 0 []
+room-none = record { count = omega arith; short = tt }
 
-  pub room-cons : {w : Word} {a : ℕ} {ws : List Word} → Short w → Room a ws → suc a ≤ n → Room n (w ∷ ws)
-  room-cons h r l = record { count = omega arith; short = (h, r .short) }
+pub room-cons : {w : Word} {a : ℕ} {ws : List Word} → Short w → Room a ws → Room (suc a) (w ∷ ws)
+room-cons h r = record { count = omega arith; short = (h, r .short) }
 
-  pub room-append : {a b : ℕ} {ws vs : List Word} → Room a ws → Room b vs → a + b ≤ n → Room n (ws ++ vs)
-  room-append {ws = ws} {vs = vs} r q l = record { count = omega (arith, length-append ws vs); short = every-append Short ws vs (r .short) (q .short) }
+pub room-append : {a b : ℕ} {ws vs : List Word} → Room a ws → Room b vs → Room (a + b) (ws ++ vs)
+room-append {ws = ws} {vs = vs} r q = record { count = omega (arith, length-append ws vs); short = every-append Short ws vs (r .short) (q .short) }
 
-  pub room-more : {a : ℕ} {ws : List Word} → Room a ws → a ≤ n → Room n ws
-  room-more r l = record { count = omega arith; short = r .short }
+pub room-more : {a n : ℕ} {ws : List Word} → Room a ws → a ≤ n → Room n ws
+room-more r l = record { count = omega arith; short = r .short }
 
 store-short : (ws : List Word) → Every Short ws → length (storeOf (spelled ws)) ≤ 11 * length ws
 unfolding storeOf spelled
@@ -126,20 +125,23 @@ pub digits-room : (s : List ℕ) → Room (length s) (digits s)
 unfolding digits
 digits-room s = room-more (ones-room (clean s)) (clean-le s)
 
--- the last word's ordinal form is a word of the lexicon too
-last-room : {n : ℕ} (ws : List Word) → length ws ≤ n → Every Formed ws → Room n (onLast ws)
-unfolding onLast spell
-last-room [] l h = room-none
-last-room (w ∷ []) l h = room-cons (rw (formed-form w (h .0)) (word-short (ordinalNumber (numberOf w)))) (room-none {n = 0}) l
-last-room (w ∷ v ∷ ws) l h = room-cons (rw (spell-number w (formed-numeral w (h .0))) (word-short (numberOf w))) (last-room (v ∷ ws) (omega arith) (h .1)) l
+formed-short : (w : Word) → Formed w → Short w
+formed-short w f = rw (spell-number w (formed-numeral w f)) (word-short (numberOf w))
 
-zero-room : {n : ℕ} (ws : List Word) → length ws ≤ n → Every Formed ws → Room (n + 1) (onLast (orZero ws))
+-- the last word's ordinal form is a word of the lexicon too
+last-room : (ws : List Word) → Every Formed ws → Room (length ws) (onLast ws)
+unfolding onLast spell
+last-room [] h = room-none
+last-room (w ∷ []) h = room-cons (rw (formed-form w (h .0)) (word-short (ordinalNumber (numberOf w)))) room-none
+last-room (w ∷ v ∷ ws) h = room-cons (formed-short w (h .0)) (last-room (v ∷ ws) (h .1))
+
+zero-room : (ws : List Word) → Every Formed ws → Room (length ws + 1) (onLast (orZero ws))
 unfolding orZero
-zero-room [] l h = last-room (one 0 ∷ []) (omega arith) (zero-formed, tt)
-zero-room (w ∷ ws) l h = last-room (w ∷ ws) (omega arith) h
+zero-room [] h = last-room (one 0 ∷ []) (zero-formed, tt)
+zero-room (w ∷ ws) h = room-more (last-room (w ∷ ws) h) (omega arith)
 
 pub ordinal-room : (s : List ℕ) → Room (2 * length s + 1) (ordinal s)
 unfolding ordinal cardinal
 ordinal-room s =
     let t = keep (except (code ",")) s in
-    zero-room (cardinalOf (clean t)) (omega (arith, cardinal-room t .count, keep-le (except (code ",")) s)) (cardinal-formed (clean t) (clean-digits t))
+    room-more (zero-room (cardinalOf (clean t)) (cardinal-formed (clean t) (clean-digits t))) (omega (arith, cardinal-room t .count, keep-le (except (code ",")) s))
