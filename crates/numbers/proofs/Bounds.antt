@@ -1,9 +1,14 @@
 -- How much room a reading takes at most, by the text's length. Assumes nothing.
+use mathlib.Core.Path.{_≡_, refl}
+use mathlib.Core.Bool.{Bool, true, false, _&&_}
 use mathlib.Core.List.{List}
-use Prim.Native.Nat.{ℕ, _+_, _*_, _≤_}
+use Prim.Native.Nat.{ℕ, _+_, _*_, _/_, _≤_, _<_}
 use native.Mathlib.Omega.{arith}
+use lib.Dec.{ltb}
 use lib.ListN.{length}
-use Rattle.sink.specs.Words.{storeOf}
+use borrow.Author.Tests.{ltb-true}
+use Rattle.sink.specs.Words.{storeOf, shortFor}
+use Rattle.sink.proofs.Finish.{long-enough}
 use Rattle.numerals.specs.Words.{Word, spelled}
 use Rattle.numerals.proofs.Room.{Room, room-counts, cardinal-room, digits-room, ordinal-room}
 use Rattle.readings.proofs.Room.{year-room, real-room, letters-room}
@@ -25,3 +30,18 @@ room Year s = within (length s) (year-room s) (omega arith)
 room Digits s = within (length s) (digits-room s) (omega arith)
 room Real s = within (length s) (real-room s) (omega arith)
 room Letters s = let c = letters-room s in (omega arith, omega arith)
+
+and-true : (a b : Bool) → (a && b) ≡ true → (a ≡ true) × (b ≡ true)
+and-true true true e = (refl, refl)
+and-true true false e = (refl, e)
+and-true false b e = (e, cc)
+
+-- what the code tests before it measures
+pub roomy-fits : (r : Reader) (s : List ℕ) (a b : ℕ) → (ltb (length s) (a / 22) && ltb (length s) (b / 16)) ≡ true
+    → shortFor (length (storeOf (spelled (wordsBy r s)))) (length (spelled (wordsBy r s))) a b ≡ false
+roomy-fits r s a b e =
+    let t = and-true (ltb (length s) (a / 22)) (ltb (length s) (b / 16)) e in
+    let h : length s < a / 22 = ltb-true (length s) (a / 22) (t .0) in
+    let k : length s < b / 16 = ltb-true (length s) (b / 16) (t .1) in
+    let w = room r s in
+    long-enough (spelled (wordsBy r s)) a b (omega arith) (omega arith)
