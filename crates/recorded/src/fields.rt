@@ -24,6 +24,11 @@ pub fn plus(a: usize, b: usize) -> usize {
     BAD
 }
 
+// The difference, 0 where it would fall below.
+pub fn minus(a: usize, b: usize) -> usize {
+    if b <= a { a - b } else { 0 }
+}
+
 // Past a part of n bytes at `at` and the byte after it: always further on, within len bytes.
 pub fn past(len: usize, at: usize, n: usize) -> usize
     ensures { λ r. ⌜ (at < len → at < r) ⌝ }

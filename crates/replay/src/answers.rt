@@ -15,14 +15,16 @@ use recorded::tally::Report;
 use shapes::TimeSplit;
 
 // The verdicts of a line: sixteen shapes, is_n_digits of 0 to 9 and of the text's length.
+pub const N_DIGITS: usize = 16;
+
 const VERDICTS: usize = 27;
 
 // The numbers of what is compared, past those of the verdicts.
 pub const TIME: usize = 27;
 
-pub const UNIT: usize = 28;
+const UNIT: usize = 28;
 
-pub const WORD: usize = 29;
+const WORD: usize = 29;
 
 pub const MALFORMED: usize = 30;
 
@@ -100,11 +102,11 @@ fn verdict_of(k: usize, s: &[u8]) -> Verdict {
 
 // How many digits the verdict k asks for.
 fn digits_asked(k: usize, s: &[u8]) -> usize {
-    if k < 16 {
+    if k < N_DIGITS {
         return s.len();
     }
-    if k < 26 {
-        return k - 16;
+    if k < VERDICTS - 1 {
+        return k - N_DIGITS;
     }
     s.len()
 }

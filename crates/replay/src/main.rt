@@ -2,54 +2,40 @@
 mod answers;
 
 use answers::MALFORMED;
+use answers::N_DIGITS;
 use answers::TIME;
-use answers::UNIT;
-use answers::WORD;
 use answers::compare_text;
 use lists::NOT;
 use lists::front;
 use lists::span_of;
 use lists::tail;
 use recorded::fields::BAD;
+use recorded::fields::field;
 use recorded::fields::field_at;
 use recorded::fields::past;
 use recorded::file::load;
+use recorded::room::room;
 use recorded::tally::Report;
 use recorded::tally::Tally;
 use recorded::tally::say;
 use recorded::told::text_of;
 
-// More than the bytes of the file.
-const FILE_ROOM: usize = 262144;
-
-// The room for a text: twice what is admitted, so that texts past that limit are replayed too.
-const TEXT_ROOM: usize = 131072;
+// All verdicts of is_n_digits have one name.
+fn name_number(what: usize) -> usize {
+    if what < N_DIGITS {
+        return what;
+    }
+    if what < TIME {
+        return N_DIGITS;
+    }
+    what - (TIME - N_DIGITS - 1)
+}
 
 // The name of what was compared.
 fn say_name(what: usize) {
-    match what {
-        0 => say(b"is_digits"),
-        1 => say(b"is_alpha"),
-        2 => say(b"is_double"),
-        3 => say(b"is_comma_int"),
-        4 => say(b"is_ordinal"),
-        5 => say(b"is_us_money"),
-        6 => say(b"is_illion"),
-        7 => say(b"is_roman"),
-        8 => say(b"is_dr_or_st"),
-        9 => say(b"is_number_s"),
-        10 => say(b"is_leading_zero_digits"),
-        11 => say(b"is_seven_digit_phone"),
-        12 => say(b"is_time"),
-        13 => say(b"is_dotted_abbrev"),
-        14 => say(b"is_digits_slash_digits"),
-        15 => say(b"is_digits_dash_digits"),
-        TIME => say(b"split_time_meridiem"),
-        UNIT => say(b"split_unit"),
-        WORD => say(b"unit_word"),
-        MALFORMED => say(b"malformed"),
-        _ => say(b"is_n_digits"),
-    }
+    let names =
+        b"is_digits is_alpha is_double is_comma_int is_ordinal is_us_money is_illion is_roman is_dr_or_st is_number_s is_leading_zero_digits is_seven_digit_phone is_time is_dotted_abbrev is_digits_slash_digits is_digits_dash_digits is_n_digits split_time_meridiem split_unit unit_word malformed";
+    say(field(names, b' ', name_number(what)));
 }
 
 // The next text, which is named where it differs and few did before it.
@@ -84,12 +70,12 @@ fn replay(file: &[u8], text: &mut [u8]) -> Tally {
 
 // Lends the room for a text.
 fn replay_all(file: &[u8]) {
-    let mut text = [0u8; TEXT_ROOM];
+    let mut text = room();
     replay(file, &mut text).say(b"patterns.txt");
 }
 
 fn main() {
-    let mut file = [0u8; FILE_ROOM];
+    let mut file = room();
     let n = load(b"patterns.txt", &mut file);
     if n != 0 {
         replay_all(front(&file, n));

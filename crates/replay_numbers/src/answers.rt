@@ -17,7 +17,9 @@ ghost use Prim.Native.Nat.{_≤_};
 // The readings that give words, and the numbers of what is compared past those.
 pub const READERS: usize = 6;
 
-pub const ROMAN: usize = 6;
+pub const YEAR: usize = 2;
+
+const ROMAN: usize = 6;
 
 pub const MALFORMED: usize = 7;
 
@@ -42,7 +44,7 @@ fn read(k: usize, s: &[u8], store: &mut [u8], table: &mut [u8]) -> Spoken {
     match k {
         0 => numbers::cardinal(s, store, table),
         1 => numbers::ordinal(s, store, table),
-        2 => numbers::year(s, store, table),
+        YEAR => numbers::year(s, store, table),
         3 => numbers::digits(s, store, table),
         4 => numbers::real(s, store, table),
         _ => numbers::letters(s, store, table),

@@ -1,22 +1,17 @@
 // The longest text that is admitted: 65,536 fives. A five more is refused, and is a line of numbers.txt.
 use crate::answers::READERS;
+use crate::answers::YEAR;
 use crate::answers::compare_words;
 use lists::front;
 use lists::put;
+use recorded::fields::field;
+use recorded::fields::minus;
 use recorded::fields::plus;
 use recorded::fields::repeat;
+use recorded::room::room;
 use recorded::tally::Report;
 
 const LIMIT: usize = 65536;
-
-const HALF: usize = 32768;
-
-// "fifty five " is the longest for two fives, and a word for each has the longest table.
-const FIELD_ROOM: usize = 11 * HALF;
-
-const STORE_ROOM: usize = 10 * HALF;
-
-const TABLE_ROOM: usize = 8 * LIMIT + 8;
 
 // Puts the words so many times, and answers how many bytes that is.
 fn put_times(words: &[u8], n: usize, out: &mut [u8]) -> usize {
@@ -30,21 +25,19 @@ fn put_times(words: &[u8], n: usize, out: &mut [u8]) -> usize {
     at
 }
 
-// The words n times, and then the last.
-fn put_field(words: &[u8], n: usize, last: &[u8], out: &mut [u8]) -> usize {
-    let at = put_times(words, n, out);
-    put(out, at, last);
-    plus(at, last.len())
+// A year takes two fives at a time.
+fn turns(k: usize) -> usize {
+    if k == YEAR { LIMIT / 2 } else { LIMIT }
 }
 
-// The words of the reading k.
+// Puts the words of the reading k: in the first list what each turn but the last gives, in the second what that gives.
 fn put_fives(k: usize, out: &mut [u8]) -> usize {
-    match k {
-        1 => put_field(b"five ", LIMIT - 1, b"fifth", out),
-        2 => put_field(b"fifty five ", HALF - 1, b"fifty five", out),
-        5 => put_field(b"5 ", LIMIT - 1, b"5", out),
-        _ => put_field(b"five ", LIMIT - 1, b"five", out),
-    }
+    let words = b"five /five /fifty five /five /five /5 ";
+    let last = b"five/fifth/fifty five/five/five/5";
+    let at = put_times(field(words, b'/', k), minus(turns(k), 1), out);
+    let end = field(last, b'/', k);
+    put(out, at, end);
+    plus(at, end.len())
 }
 
 fn compare_fives(s: &[u8], out: &mut [u8], store: &mut [u8], table: &mut [u8]) -> Report {
@@ -60,8 +53,8 @@ fn compare_fives(s: &[u8], out: &mut [u8], store: &mut [u8], table: &mut [u8]) -
 
 pub fn compare_limit(text: &mut [u8]) -> Report {
     repeat(text, LIMIT, b'5');
-    let mut out = [0u8; FIELD_ROOM];
-    let mut store = [0u8; STORE_ROOM];
-    let mut table = [0u8; TABLE_ROOM];
+    let mut out = room();
+    let mut store = room();
+    let mut table = room();
     compare_fives(front(text, LIMIT), &mut out, &mut store, &mut table)
 }

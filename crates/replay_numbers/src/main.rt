@@ -4,7 +4,6 @@ mod limit;
 mod words;
 
 use answers::MALFORMED;
-use answers::ROMAN;
 use answers::compare_text;
 use limit::compare_limit;
 use lists::NOT;
@@ -15,29 +14,16 @@ use recorded::fields::BAD;
 use recorded::fields::field;
 use recorded::fields::past;
 use recorded::file::load;
+use recorded::room::room;
 use recorded::tally::Report;
 use recorded::tally::Tally;
 use recorded::tally::say;
 use recorded::told::text_of;
 
-// More than the bytes of the file.
-const FILE_ROOM: usize = 524288;
-
-// The room for a text: twice what is admitted, so that texts past that limit are replayed too.
-const TEXT_ROOM: usize = 131072;
-
 // The name of what was compared.
 fn say_name(what: usize) {
-    match what {
-        0 => say(b"cardinal"),
-        1 => say(b"ordinal"),
-        2 => say(b"year"),
-        3 => say(b"digits"),
-        4 => say(b"real"),
-        5 => say(b"letters"),
-        ROMAN => say(b"roman_value"),
-        _ => say(b"malformed"),
-    }
+    let names = b"cardinal ordinal year digits real letters roman_value malformed";
+    say(field(names, b' ', what));
 }
 
 // The next text, which is named where it differs and few did before it.
@@ -72,13 +58,13 @@ fn replay(file: &[u8], text: &mut [u8]) -> Tally {
 
 // The file, and after its lines the text at the limit.
 fn replay_all(file: &[u8]) {
-    let mut text = [0u8; TEXT_ROOM];
+    let mut text = room();
     let t = replay(file, &mut text);
     add(t, compare_limit(&mut text)).say(b"numbers.txt and the limit");
 }
 
 fn main() {
-    let mut file = [0u8; FILE_ROOM];
+    let mut file = room();
     let n = load(b"numbers.txt", &mut file);
     if n != 0 {
         replay_all(front(&file, n));

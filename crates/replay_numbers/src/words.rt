@@ -8,16 +8,12 @@ use lists::span_of;
 use lists::tail;
 use recorded::fields::BAD;
 use recorded::fields::byte_of;
+use recorded::fields::minus;
 use recorded::fields::past;
 use recorded::fields::plus;
 
 // What fills store and table before a call.
 pub const GUARD: u8 = 0xA5;
-
-// The difference, 0 where it would fall below.
-fn minus(a: usize, b: usize) -> usize {
-    if b <= a { a - b } else { 0 }
-}
 
 fn times(c: u8, field: &[u8]) -> usize {
     minus(field.len(), count_of(NOT, c, field))
