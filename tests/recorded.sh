@@ -3,7 +3,6 @@
 set -euo pipefail
 cd "$(dirname "$0")/.."
 
-recorded=crates/replay/data
 anew=target/recorded
 
 status=0
@@ -15,9 +14,9 @@ elif [ "$status" -ne 0 ]; then
     exit "$status"
 fi
 
-for file in patterns.txt numbers.txt; do
-    if ! cmp "$recorded/$file" "$anew/$file"; then
-        echo "recorded: $recorded/$file is not what the Rust answers; tests/record.sh writes it anew"
+for recorded in crates/replay/data/patterns.txt crates/replay_numbers/data/numbers.txt; do
+    if ! cmp "$recorded" "$anew/${recorded##*/}"; then
+        echo "recorded: $recorded is not what the Rust answers; tests/record.sh writes it anew"
         exit 1
     fi
 done

@@ -1,27 +1,30 @@
 // The answers of the crate patterns for one text, each held against the recorded one.
-use crate::fields::BAD;
-use crate::fields::field;
-use crate::fields::has_fields;
-use crate::fields::number;
-use crate::fields::pairs;
-use crate::fields::plus;
-use crate::fields::unhex;
 use lists::EXACT;
 use lists::byte_at;
 use lists::same;
 use patterns::UnitWord;
 use patterns::Verdict;
+use recorded::fields::BAD;
+use recorded::fields::field;
+use recorded::fields::has_fields;
+use recorded::fields::number;
+use recorded::fields::pairs;
+use recorded::fields::plus;
+use recorded::fields::unhex;
+use recorded::tally::Report;
 use shapes::TimeSplit;
 
 // The verdicts of a line: sixteen shapes, is_n_digits of 0 to 9 and of the text's length.
+pub const N_DIGITS: usize = 16;
+
 const VERDICTS: usize = 27;
 
 // The numbers of what is compared, past those of the verdicts.
 pub const TIME: usize = 27;
 
-pub const UNIT: usize = 28;
+const UNIT: usize = 28;
 
-pub const WORD: usize = 29;
+const WORD: usize = 29;
 
 pub const MALFORMED: usize = 30;
 
@@ -32,13 +35,6 @@ const GUARD: u8 = 0xA5;
 
 // The refusal where the store is too short.
 const SHORT: usize = 5;
-
-// What was compared of a text, how much of it differs, and where it differs first.
-pub struct Report {
-    pub answers: usize,
-    pub differ: usize,
-    pub first: usize,
-}
 
 // The recorded numbers of a line.
 pub struct Recorded {
@@ -61,32 +57,6 @@ pub struct Told {
     pub len: usize,
 }
 
-impl Report {
-    // One comparison more.
-    pub fn count(self, what: usize, agrees: bool) -> Report {
-        let answers = plus(self.answers, 1);
-        if agrees {
-            return Report {
-                answers,
-                differ: self.differ,
-                first: self.first,
-            };
-        }
-        if self.differ == 0 {
-            return Report {
-                answers,
-                differ: 1,
-                first: what,
-            };
-        }
-        Report {
-            answers,
-            differ: plus(self.differ, 1),
-            first: self.first,
-        }
-    }
-}
-
 fn flag(b: bool) -> usize {
     if b { 1 } else { 0 }
 }
@@ -94,16 +64,16 @@ fn flag(b: bool) -> usize {
 // The numbers of a line's facts, BAD where one is none.
 fn numbers_of(facts: &[u8]) -> Recorded {
     Recorded {
-        refusal: number(field(facts, 0)),
-        time: number(field(facts, 2)),
-        hour: number(field(facts, 3)),
-        minute: number(field(facts, 4)),
-        meridiem: number(field(facts, 5)),
-        unit: number(field(facts, 6)),
-        offset: number(field(facts, 7)),
-        unit_len: number(field(facts, 8)),
-        word: number(field(facts, 9)),
-        word_len: number(field(facts, 10)),
+        refusal: number(field(facts, b' ', 0)),
+        time: number(field(facts, b' ', 2)),
+        hour: number(field(facts, b' ', 3)),
+        minute: number(field(facts, b' ', 4)),
+        meridiem: number(field(facts, b' ', 5)),
+        unit: number(field(facts, b' ', 6)),
+        offset: number(field(facts, b' ', 7)),
+        unit_len: number(field(facts, b' ', 8)),
+        word: number(field(facts, b' ', 9)),
+        word_len: number(field(facts, b' ', 10)),
     }
 }
 
@@ -132,11 +102,11 @@ fn verdict_of(k: usize, s: &[u8]) -> Verdict {
 
 // How many digits the verdict k asks for.
 fn digits_asked(k: usize, s: &[u8]) -> usize {
-    if k < 16 {
+    if k < N_DIGITS {
         return s.len();
     }
-    if k < 26 {
-        return k - 16;
+    if k < VERDICTS - 1 {
+        return k - N_DIGITS;
     }
     s.len()
 }
@@ -254,8 +224,8 @@ fn compare_word(r: Report, w: Recorded, hex: &[u8], s: &[u8]) -> Report {
 
 // Whether the facts of a line can be recorded answers: 12 fields, numbers, and as much hex as the word is long.
 fn is_well_formed(facts: &[u8], w: Recorded, hex: &[u8]) -> bool {
-    has_fields(facts, 12)
-        & (field(facts, 1).len() == VERDICTS)
+    has_fields(facts, b' ', 12)
+        & (field(facts, b' ', 1).len() == VERDICTS)
         & (w.refusal <= 2)
         & (w.time <= 1)
         & (w.hour < BAD)
@@ -267,31 +237,17 @@ fn is_well_formed(facts: &[u8], w: Recorded, hex: &[u8]) -> bool {
         & (w.word <= 1)
         & (w.word_len <= ROOM)
         & (hex.len() == plus(w.word_len, w.word_len))
-        & (field(facts, 11).len() != 0)
-}
-
-// The report of a line that cannot be read: one answer, and it differs.
-pub fn malformed() -> Report {
-    Report {
-        answers: 1,
-        differ: 1,
-        first: MALFORMED,
-    }
+        & (field(facts, b' ', 11).len() != 0)
 }
 
 // Every answer for the text s, held against the facts of its line.
 pub fn compare_text(facts: &[u8], s: &[u8]) -> Report {
     let w = numbers_of(facts);
-    let hex = pairs(field(facts, 11));
+    let hex = pairs(field(facts, b' ', 11));
     if !is_well_formed(facts, w, hex) {
-        return malformed();
+        return Report::none().count(MALFORMED, false);
     }
-    let none = Report {
-        answers: 0,
-        differ: 0,
-        first: 0,
-    };
-    let r1 = compare_verdicts(none, w.refusal, field(facts, 1), s);
+    let r1 = compare_verdicts(Report::none(), w.refusal, field(facts, b' ', 1), s);
     let r2 = compare_time(r1, w, s);
     let r3 = compare_unit(r2, w, s);
     compare_word(r3, w, hex, s)

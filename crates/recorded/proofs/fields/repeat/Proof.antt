@@ -3,8 +3,8 @@ use borrow.Author.Needs.{needs}
 use mathlib.Core.Path.{_≡_}
 use Prim.Native.Nat.{_-_}
 use lib.ListN.{length}
-use Rattle.replay.proofs.fields.repeat.Statement.{statement}
-use Rattle.replay.proofs.fields.repeat.Tie as tie
+use Rattle.recorded.proofs.fields.repeat.Statement.{statement}
+use Rattle.recorded.proofs.fields.repeat.Tie as tie
 
 abbrev Inv-loop : tie.InvT-loop
 Inv-loop out₀ n b i₀ out i = length out ≡ length out₀

@@ -1,13 +1,13 @@
 -- Nothing has to hold from turn to turn. The measure is the fields that are left. Assumes nothing.
 use borrow.Author.Needs.{needs}
-use Rattle.replay.proofs.fields.field_at.Statement.{statement}
-use Rattle.replay.proofs.fields.field_at.Tie as tie
+use Rattle.recorded.proofs.fields.field_at.Statement.{statement}
+use Rattle.recorded.proofs.fields.field_at.Tie as tie
 
 abbrev Inv-loop : tie.InvT-loop
-Inv-loop line k at₀ left₀ at left = Unit {0}
+Inv-loop line end k at₀ left₀ at left = Unit {0}
 
 abbrev μ-loop : tie.MeasureT-loop
-μ-loop line k at₀ left₀ at left = left
+μ-loop line end k at₀ left₀ at left = left
 
 pub field-at-spec : {M : Type 1} → statement M
 field-at-spec =

@@ -2,8 +2,8 @@
 use borrow.Author.Needs.{needs}
 use Prim.Native.Nat.{_-_}
 use lib.ListN.{length}
-use Rattle.replay.proofs.fields.number.Statement.{statement}
-use Rattle.replay.proofs.fields.number.Tie as tie
+use Rattle.recorded.proofs.fields.number.Statement.{statement}
+use Rattle.recorded.proofs.fields.number.Tie as tie
 
 abbrev Inv-loop : tie.InvT-loop
 Inv-loop s n₀ i₀ n i = Unit {0}

@@ -1,5 +1,4 @@
-// A line of the file: its fields, numbers and hex. Nothing here demands anything of its caller; what is no number or no
-// hex is told, and never taken for one.
+// A line of a file: its fields, numbers and hex. What is no number or no hex is told, and never taken for one.
 use lists::DIGIT;
 use lists::NOT;
 use lists::all_of;
@@ -7,9 +6,10 @@ use lists::byte_at;
 use lists::front;
 use lists::span_of;
 use lists::tail;
+ghost use Prim.Native.Nat.{_<_};
 
 // What no field can hold: the answer where there is no number.
-pub const BAD: usize = 1000000;
+pub const BAD: usize = 1_000_000_000;
 
 // What no byte is: the answer where there is no hex.
 pub const NO_BYTE: usize = 256;
@@ -24,12 +24,30 @@ pub fn plus(a: usize, b: usize) -> usize {
     BAD
 }
 
-// Where the field k starts, past the end where there is none.
-pub fn field_at(line: &[u8], k: usize) -> usize {
+// The difference, 0 where it would fall below.
+pub fn minus(a: usize, b: usize) -> usize {
+    if b <= a { a - b } else { 0 }
+}
+
+// Past a part of n bytes at `at` and the byte after it: always further on, within len bytes.
+pub fn past(len: usize, at: usize, n: usize) -> usize
+    ensures { λ r. ⌜ (at < len → at < r) ⌝ }
+{
+    if len <= at {
+        return at;
+    }
+    if n < len - at {
+        return at + n + 1;
+    }
+    len
+}
+
+// Where the field k starts, past the end where there is none. The byte `end` stands between fields.
+pub fn field_at(line: &[u8], end: u8, k: usize) -> usize {
     let mut at = 0;
     let mut left = k;
     while 0 < left {
-        let n = span_of(NOT, b' ', tail(line, at));
+        let n = span_of(NOT, end, tail(line, at));
         at = plus(plus(at, n), 1);
         left -= 1;
     }
@@ -37,29 +55,29 @@ pub fn field_at(line: &[u8], k: usize) -> usize {
 }
 
 // The field k, empty where there is none.
-pub fn field(line: &[u8], k: usize) -> &[u8] {
-    let rest = tail(line, field_at(line, k));
-    front(rest, span_of(NOT, b' ', rest))
+pub fn field(line: &[u8], end: u8, k: usize) -> &[u8] {
+    let rest = tail(line, field_at(line, end, k));
+    front(rest, span_of(NOT, end, rest))
 }
 
 // Whether the line has n fields and no more.
-pub fn has_fields(line: &[u8], n: usize) -> bool {
-    field_at(line, n) == plus(line.len(), 1)
+pub fn has_fields(line: &[u8], end: u8, n: usize) -> bool {
+    field_at(line, end, n) == plus(line.len(), 1)
 }
 
 fn shifted(n: usize, b: u8) -> usize {
     if b < 48 {
         return BAD;
     }
-    if n < 100000 {
+    if n < 100_000_000 {
         return 10 * n + (b - 48) as usize;
     }
     BAD
 }
 
-// The decimal number, BAD where it is none or has more than six digits.
+// The decimal number, BAD where it is none or has more than nine digits.
 pub fn number(s: &[u8]) -> usize {
-    if (s.len() == 0) | (6 < s.len()) | !all_of(DIGIT, 0, s) {
+    if (s.len() == 0) | (9 < s.len()) | !all_of(DIGIT, 0, s) {
         return BAD;
     }
     let mut n = 0;

@@ -3,8 +3,8 @@ use borrow.Author.Needs.{needs}
 use mathlib.Core.Path.{_≡_}
 use Prim.Native.Nat.{_-_}
 use lib.ListN.{length}
-use Rattle.replay.proofs.fields.unhex.Statement.{statement}
-use Rattle.replay.proofs.fields.unhex.Tie as tie
+use Rattle.recorded.proofs.fields.unhex.Statement.{statement}
+use Rattle.recorded.proofs.fields.unhex.Tie as tie
 
 abbrev Inv-loop : tie.InvT-loop
 Inv-loop hex out₀ n ok₀ i₀ out ok i = length out ≡ length out₀

@@ -1,0 +1,10 @@
+// A room for a file, for a text, or for what is read from one.
+ghost use mathlib.Core.Path.{_≡_};
+ghost use lib.ListN.{length};
+
+// As long as the table of one word more than a text has bytes.
+pub fn room() -> [u8; 524296]
+    ensures { λ r. ⌜ 524296 ≡ length r ⌝ }
+{
+    [0; 524296]
+}

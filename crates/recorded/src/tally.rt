@@ -1,0 +1,115 @@
+// What was compared, and how much of it differs.
+use crate::fields::plus;
+use libc::STDOUT_FILENO;
+
+// How many texts that differ are named.
+const NAMED: usize = 10;
+
+// What was compared of a text, how much of it differs, and what differs first, by number.
+pub struct Report {
+    pub answers: usize,
+    pub differ: usize,
+    pub first: usize,
+}
+
+// What was compared so far.
+pub struct Tally {
+    pub texts: usize,
+    pub answers: usize,
+    pub differ: usize,
+    pub differing_texts: usize,
+}
+
+pub fn say(text: &[u8]) {
+    io::write_all(STDOUT_FILENO, text);
+}
+
+pub fn say_number(n: usize) {
+    io::print_decimal(STDOUT_FILENO, n as u64);
+}
+
+impl Report {
+    pub fn none() -> Report {
+        Report {
+            answers: 0,
+            differ: 0,
+            first: 0,
+        }
+    }
+
+    // One comparison more.
+    pub fn count(self, what: usize, agrees: bool) -> Report {
+        let answers = plus(self.answers, 1);
+        if agrees {
+            return Report {
+                answers,
+                differ: self.differ,
+                first: self.first,
+            };
+        }
+        if self.differ == 0 {
+            return Report {
+                answers,
+                differ: 1,
+                first: what,
+            };
+        }
+        Report {
+            answers,
+            differ: plus(self.differ, 1),
+            first: self.first,
+        }
+    }
+}
+
+impl Tally {
+    pub fn none() -> Tally {
+        Tally {
+            texts: 0,
+            answers: 0,
+            differ: 0,
+            differing_texts: 0,
+        }
+    }
+
+    // Whether the next text is to be named: it differs, and few did before it.
+    pub fn names(self, r: Report) -> bool {
+        (r.differ != 0) & (self.differing_texts < NAMED)
+    }
+
+    // The next text.
+    pub fn add(self, r: Report) -> Tally {
+        if r.differ == 0 {
+            return Tally {
+                texts: plus(self.texts, 1),
+                answers: plus(self.answers, r.answers),
+                differ: self.differ,
+                differing_texts: self.differing_texts,
+            };
+        }
+        Tally {
+            texts: plus(self.texts, 1),
+            answers: plus(self.answers, r.answers),
+            differ: plus(self.differ, r.differ),
+            differing_texts: plus(self.differing_texts, 1),
+        }
+    }
+
+    // The place of the next text, before its name.
+    pub fn say_line(self) {
+        say(b"line ");
+        say_number(plus(self.texts, 1));
+        say(b": ");
+    }
+
+    pub fn say(self, name: &[u8]) {
+        say(name);
+        say(b": ");
+        say_number(self.texts);
+        say(b" texts, ");
+        say_number(self.answers);
+        say(b" answers compared, ");
+        say_number(self.differ);
+        say(b" differ\n");
+    }
+}

@@ -1,0 +1,39 @@
+use borrow.Author.Needs.{needs}
+use native.Mathlib.Omega.{arith}
+use Prim.Native.Nat.{_-_}
+use lib.ListN.{length}
+use Rattle.replay_numbers.proofs.words.holds.Statement.{statement}
+use Rattle.replay_numbers.proofs.words.holds.Tie as tie
+
+abbrev Inv-loop : tie.InvT-loop
+Inv-loop field store table ok₀ end₀ pair₀ at₀ ok end pair at = Unit {0}
+
+abbrev μ-loop : tie.MeasureT-loop
+μ-loop field store table ok₀ end₀ pair₀ at₀ ok end pair at = length field - at
+
+pub holds-spec : {M : Type 1} → statement M
+holds-spec =
+    tie.close
+    (tie.spec
+    Inv-loop
+    μ-loop
+    (λ c. search needs)
+    (λ c κs. search needs)
+    (λ c κs. search needs)
+    (λ c κs. search needs)
+    (λ c κs. search needs)
+    (λ c κs. search needs)
+    (λ c κs. search needs)
+    (λ c κs. search needs)
+    (λ c κs. search needs)
+    (λ c κs. search needs)
+    (λ c κs. search needs)
+    (λ c κs. search needs)
+    (λ c κs. search needs)
+    (λ c. omega (arith, c .past .ensures (search needs)))
+    (λ c. search needs)
+    (λ c κs. search needs)
+    (λ c κs. search needs)
+    (λ c κs. search needs)
+    (λ c κs. search needs)
+    (λ c. search needs))

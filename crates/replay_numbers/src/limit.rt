@@ -1,0 +1,60 @@
+// The longest text that is admitted: 65,536 fives. A five more is refused, and is a line of numbers.txt.
+use crate::answers::READERS;
+use crate::answers::YEAR;
+use crate::answers::compare_words;
+use lists::front;
+use lists::put;
+use recorded::fields::field;
+use recorded::fields::minus;
+use recorded::fields::plus;
+use recorded::fields::repeat;
+use recorded::room::room;
+use recorded::tally::Report;
+
+const LIMIT: usize = 65536;
+
+// Puts the words so many times, and answers how many bytes that is.
+fn put_times(words: &[u8], n: usize, out: &mut [u8]) -> usize {
+    let mut at = 0;
+    let mut i = 0;
+    while i < n {
+        put(out, at, words);
+        at = plus(at, words.len());
+        i += 1;
+    }
+    at
+}
+
+// A year takes two fives at a time.
+fn turns(k: usize) -> usize {
+    if k == YEAR { LIMIT / 2 } else { LIMIT }
+}
+
+// Puts the words of the reading k: in the first list what each turn but the last gives, in the second what that gives.
+fn put_fives(k: usize, out: &mut [u8]) -> usize {
+    let words = b"five /five /fifty five /five /five /5 ";
+    let last = b"five/fifth/fifty five/five/five/5";
+    let at = put_times(field(words, b'/', k), minus(turns(k), 1), out);
+    let end = field(last, b'/', k);
+    put(out, at, end);
+    plus(at, end.len())
+}
+
+fn compare_fives(s: &[u8], out: &mut [u8], store: &mut [u8], table: &mut [u8]) -> Report {
+    let mut now = Report::none();
+    let mut k = 0;
+    while k < READERS {
+        let n = put_fives(k, out);
+        now = compare_words(now, k, s, 0, front(out, n), store, table);
+        k += 1;
+    }
+    now
+}
+
+pub fn compare_limit(text: &mut [u8]) -> Report {
+    repeat(text, LIMIT, b'5');
+    let mut out = room();
+    let mut store = room();
+    let mut table = room();
+    compare_fives(front(text, LIMIT), &mut out, &mut store, &mut table)
+}

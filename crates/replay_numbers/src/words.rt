@@ -1,0 +1,100 @@
+// A field of words, with a space between, held against the store and the table of a reading. A byte is told by itself, or as a
+// backslash and a hex pair.
+use lists::NOT;
+use lists::byte_at;
+use lists::count_of;
+use lists::front;
+use lists::span_of;
+use lists::tail;
+use recorded::fields::BAD;
+use recorded::fields::byte_of;
+use recorded::fields::minus;
+use recorded::fields::past;
+use recorded::fields::plus;
+
+// What fills store and table before a call.
+pub const GUARD: u8 = 0xA5;
+
+fn times(c: u8, field: &[u8]) -> usize {
+    minus(field.len(), count_of(NOT, c, field))
+}
+
+pub fn words_in(field: &[u8]) -> usize {
+    if field.len() == 0 {
+        return 0;
+    }
+    plus(times(b' ', field), 1)
+}
+
+// The bytes of all words.
+pub fn bytes_in(field: &[u8]) -> usize {
+    let escapes = times(b'\\', field);
+    minus(minus(count_of(NOT, b' ', field), escapes), escapes)
+}
+
+// The bytes of the table.
+pub fn pairs_in(field: &[u8]) -> usize {
+    let words = words_in(field);
+    if words < BAD {
+        return 8 * words;
+    }
+    BAD
+}
+
+// The byte that is told at i, NO_BYTE where a backslash has no hex pair.
+fn told_at(word: &[u8], i: usize) -> usize {
+    if byte_at(word, i) == b'\\' {
+        return byte_of(front(tail(word, plus(i, 1)), 2));
+    }
+    byte_at(word, i) as usize
+}
+
+// How many bytes follow the first of those that tell a byte.
+fn more_at(word: &[u8], i: usize) -> usize {
+    if byte_at(word, i) == b'\\' { 2 } else { 0 }
+}
+
+// Whether the bytes are those that the word tells.
+fn is_word(word: &[u8], bytes: &[u8]) -> bool {
+    let mut ok = true;
+    let mut n = 0;
+    let mut i = 0;
+    while i < word.len() {
+        ok = ok & (told_at(word, i) == byte_at(bytes, n) as usize);
+        n = plus(n, 1);
+        i = past(word.len(), i, more_at(word, i));
+    }
+    ok & (n == bytes.len())
+}
+
+// The number in four bytes, the lowest first.
+fn number_at(table: &[u8], at: usize) -> usize {
+    let a = byte_at(table, at) as usize;
+    let b = byte_at(table, plus(at, 1)) as usize;
+    let c = byte_at(table, plus(at, 2)) as usize;
+    let d = byte_at(table, plus(at, 3)) as usize;
+    a + 256 * (b + 256 * (c + 256 * d))
+}
+
+fn is_untouched(bytes: &[u8]) -> bool {
+    count_of(NOT, GUARD, bytes) == 0
+}
+
+// Whether the table leads to the words of the field, one after another, and nothing else in store and table is written.
+pub fn holds(field: &[u8], store: &[u8], table: &[u8]) -> bool {
+    let mut ok = true;
+    let mut end = 0;
+    let mut pair = 0;
+    let mut at = 0;
+    while at < field.len() {
+        let rest = tail(field, at);
+        let n = span_of(NOT, b' ', rest);
+        let len = number_at(table, plus(pair, 4));
+        let bytes = front(tail(store, end), len);
+        ok = ok & (number_at(table, pair) == end) & is_word(front(rest, n), bytes);
+        end = plus(end, len);
+        pair = plus(pair, 8);
+        at = past(field.len(), at, n);
+    }
+    ok & is_untouched(tail(store, end)) & is_untouched(tail(table, pair))
+}
