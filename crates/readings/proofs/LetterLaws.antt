@@ -2,9 +2,10 @@
 use mathlib.Core.Path.{_≡_, refl, sym, ap, ap₂, _∙_}
 use mathlib.Core.Bool.{Bool, true, false, cond}
 use mathlib.Core.List.{List, [], _∷_, _++_, map}
-use Prim.Native.Nat.{ℕ, zero, suc, _+_, _-_, _≤_, _<_}
-use native.Mathlib.Omega.{arith}
+use Prim.Native.Nat.{ℕ, suc, _+_, _-_, _≤_, _<_}
 use Prim.Native.Char.{code}
+use native.Mathlib.Numerals.{add-one}
+use native.Mathlib.Omega.{arith}
 use lib.ListN.{length, take, drop, getD, length-take, length-drop}
 use lib.Seq.{drop-drop, length-take-le}
 use borrow.Author.Tests.{eq-eqb, ne-eqb}
@@ -54,6 +55,10 @@ letters-cons (b ∷ s) h = ap (map (λ (c : List ℕ). other (letterWord c))) (c
 char-length : (s : List ℕ) → 0 < length s → length (take (charBytes s) s) ≡ charBytes s
 char-length [] h = absurd (omega arith)
 char-length (b ∷ s) h = length-take-le (charBytes (b ∷ s)) (b ∷ s) (omega (arith, span-le continuation s))
+
+-- n bytes of it follow its first
+pub first-char : (s : List ℕ) {t : List ℕ} {n : ℕ} → t ≡ drop 1 s → n ≡ span continuation t → take (n + 1) s ≡ take (charBytes s) s
+first-char s {t} {n} g e = ap (λ (k : ℕ). take k s) (add-one n ∙ ap suc (e ∙ ap (span continuation) g))
 
 -- c is the character at i, where the text t starts
 module _ (s : List ℕ) (i : ℕ) (h : i < length s) {t c : List ℕ} (g : t ≡ drop i s) (e : c ≡ take (charBytes t) t) where

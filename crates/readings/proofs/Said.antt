@@ -1,19 +1,16 @@
 -- Words said one after the other. Assumes nothing.
-use mathlib.Core.Path.{_≡_, ap, sym, _∙_}
-use mathlib.Core.List.{List, [], _∷_, _++_}
-use Prim.Native.Nat.{ℕ}
+use mathlib.Core.Path.{_≡_, sym, _∙_}
+use mathlib.Core.List.{List, [], _∷_, _++_, map, map-append}
 use Rattle.sink.specs.Sink.{Sink, emit, emitAll}
 use Rattle.sink.proofs.Finish.{emitAll-append}
 use Rattle.numerals.specs.Words.{Word, spell, spelled}
-use Rattle.numerals.proofs.Digits.{spelled-append}
 
-module _ (σ : Sink) {τ : Sink} where
-  -- one word
-  pub said-word : (w : Word) → τ ≡ emit (spell w) σ → τ ≡ emitAll (spelled (w ∷ [])) σ
-  unfolding emitAll spelled
-  said-word w d = d
+-- one word
+pub said-word : (w : Word) (σ : Sink) {τ : Sink} → τ ≡ emit (spell w) σ → τ ≡ emitAll (spelled (w ∷ [])) σ
+unfolding emitAll spelled
+said-word w σ d = d
 
-  -- first some words, then others
-  pub said-append : (ws vs : List Word) {υ : Sink} → τ ≡ emitAll (spelled ws) σ → υ ≡ emitAll (spelled vs) τ → υ ≡ emitAll (spelled (ws ++ vs)) σ
-  said-append ws vs d e =
-      e ∙ ap (emitAll (spelled vs)) d ∙ sym (ap (λ (l : List (List ℕ)). emitAll l σ) (spelled-append ws vs) ∙ emitAll-append (spelled ws) (spelled vs) σ)
+-- one run of words after another
+pub says-more : (ws vs : List Word) {us : List Word} → us ≡ ws ++ vs → (σ : Sink) {ρ τ : Sink} → ρ ≡ emitAll (spelled ws) σ → τ ≡ emitAll (spelled vs) ρ → τ ≡ emitAll (spelled us) σ
+unfolding spelled
+says-more ws vs e σ p q = q ∙ rw (p, e, map-append) (sym (emitAll-append (map spell ws) (map spell vs) σ))

@@ -1,11 +1,11 @@
-use mathlib.Core.Path.{ap}
+use mathlib.Core.Path.{ap, _∙_}
 use mathlib.Core.List.{[], _∷_}
 use native.Mathlib.Omega.{arith}
 use lib.ListN.{length, take}
 use Rattle.numerals.specs.Words.{hundred, spell}
 use Rattle.numerals.specs.Cardinal.{cardinalFew}
 use Rattle.readings.specs.Year.{yearOf}
-use Rattle.readings.proofs.Said.{said-word, said-append}
+use Rattle.readings.proofs.Said.{said-word, says-more}
 use Rattle.readings.proofs.YearLaws.{year-four}
 use lib.Seq.{length-take-le}
 use borrow.Author.Needs.{needs}
@@ -17,7 +17,7 @@ unfolding spell
 returns-2 c =
     let s = c .before .before .before .before .before .before .before .before .before .before .before .before .before .before .before .before .before .before .before .before .before .before .before .args .ds .now in
     let y = year-four s (c .before .before .before .before .before .before .before .before .before .before .before .before .before .before .before .before .before .before .before .before .before .before .before .pre) (c .before .before .before .before .before .before .before .before .before .before .before .before .before .before .before .before .before .before .before .byte-at .ensures) (c .before .before .before .before .before .before .before .before .before .before .before .before .before .before .before .before .before .before .byte-at2 .ensures) (c .before .before .before .before .before .before .before .before .before .before .before .before .before .before .before .before .before .byte-at3 .ensures) in
-    rw (y, c .before .before .before .before .before .before .before .before .before .before .before .before .before .before .before .before .if1 .left, c .before .before .before .before .before .before .before .if2 .taken) (said-append _ (cardinalFew (take 2 s)) (hundred ∷ []) (rw (c .before .before .before .before .before .before .before .before .before .before .before .before .before .before .before .front .ensures) at (c .before .before .before .before .before .before .before .before .before .before .before .before .say-few2 .ensures)) (said-word _ hundred (c .before .before .before .before .say .ensures)))
+    says-more (cardinalFew (take 2 s)) (hundred ∷ []) (y ∙ rw (c .before .before .before .before .before .before .before .before .before .before .before .before .before .before .before .before .if1 .left, c .before .before .before .before .before .before .before .if2 .taken)) _ (rw (c .before .before .before .before .before .before .before .before .before .before .before .before .before .before .before .front .ensures) at (c .before .before .before .before .before .before .before .before .before .before .before .before .say-few2 .ensures)) (said-word hundred _ (c .before .before .before .before .say .ensures))
 
 pub say-four-spec : {M : Type 1} → statement M
 say-four-spec =
@@ -42,4 +42,4 @@ say-four-spec =
     (λ c.
     let s = c .before .before .before .before .before .before .before .before .before .before .before .before .before .before .before .before .before .before .before .before .before .before .before .args .ds .now in
     let y = year-four s (c .before .before .before .before .before .before .before .before .before .before .before .before .before .before .before .before .before .before .before .before .before .before .before .pre) (c .before .before .before .before .before .before .before .before .before .before .before .before .before .before .before .before .before .before .before .byte-at .ensures) (c .before .before .before .before .before .before .before .before .before .before .before .before .before .before .before .before .before .before .byte-at2 .ensures) (c .before .before .before .before .before .before .before .before .before .before .before .before .before .before .before .before .before .byte-at3 .ensures) in
-    rw (y, c .before .before .before .before .before .before .before .before .before .before .before .before .before .before .before .before .if1 .left, c .before .before .before .before .before .before .before .if2 .left) (said-append _ (cardinalFew (take 2 s)) (yearOf (c .before .before .before .before .before .before .before .before .before .before .before .before .before .before .before .before .before .before .byte-at2 .result ∷ c .before .before .before .before .before .before .before .before .before .before .before .before .before .before .before .before .before .byte-at3 .result ∷ [])) (rw (c .before .before .before .before .before .before .before .before .before .before .before .before .before .before .before .front .ensures) at (c .before .before .before .before .before .before .before .before .before .before .before .before .say-few2 .ensures)) (c .before .before .before .before .say-two .ensures))))
+    says-more (cardinalFew (take 2 s)) (yearOf (c .before .before .before .before .before .before .before .before .before .before .before .before .before .before .before .before .before .before .byte-at2 .result ∷ c .before .before .before .before .before .before .before .before .before .before .before .before .before .before .before .before .before .byte-at3 .result ∷ [])) (y ∙ rw (c .before .before .before .before .before .before .before .before .before .before .before .before .before .before .before .before .if1 .left, c .before .before .before .before .before .before .before .if2 .left)) _ (rw (c .before .before .before .before .before .before .before .before .before .before .before .before .before .before .before .front .ensures) at (c .before .before .before .before .before .before .before .before .before .before .before .before .say-few2 .ensures)) (c .before .before .before .before .say-two .ensures)))

@@ -10,7 +10,7 @@ unfolding spell
 returns c =
     let p = c .before .before .before .before .before .before .before .before .before .pick in
     let t = c .before .before .before .before .before .before .before .before .if1 .taken in
-    (rw (t, ← p .ensures .digit) (said-word _ (one (p .result .value)) (c .before .before .before .before .say .ensures)), rw t (p .ensures .others), p .ensures .within)
+    (rw (t, ← p .ensures .digit) (said-word (one (p .result .value)) _ (c .before .before .before .before .say .ensures)), rw t (p .ensures .others), p .ensures .within)
 
 pub say-lead-spec : {M : Type 1} → statement M
 say-lead-spec =
