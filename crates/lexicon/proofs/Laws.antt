@@ -1,15 +1,17 @@
 -- The rows are the words', and where the tables stand: each one test at every number, which antt computes. Assumes nothing.
-use mathlib.Core.Path.{_≡_, refl, sym, _∙_}
-use mathlib.Core.Bool.{Bool, _&&_}
+use mathlib.Core.Path.{_≡_}
+use mathlib.Core.Bool.{Bool}
 use mathlib.Core.List.{List, [], _++_}
 use mathlib.Core.Logic.{⊎-elim}
-use Prim.Native.Nat.{ℕ, _+_, _<_, _≤_, _%_}
-use lib.Dec.{eqb, eqb→eq}
+use Prim.Native.Nat.{ℕ, _+_, _<_, _≤_, _/_}
+use native.Mathlib.Omega.{arith}
+use lib.Dec.{eqb, leb, eqb→eq, leb→le}
 use lib.ListN.{length, getD, List·getD-eq-default}
 use Rattle.lists.specs.Bytes.{bytes, same, sameBy}
 use Rattle.lists.specs.LittleEndian.{leValue, leBytes}
-use Rattle.lists.specs.Packed.{pack}
+use Rattle.lists.specs.Packed.{pack, unpack}
 use Rattle.lists.proofs.Sets.{le-or-lt}
+use Rattle.lists.proofs.Rows.{unpack-pack}
 use Rattle.lists.proofs.Table.{below, same→≡}
 use Rattle.lexicon.specs.Lexicon.{units, ones, teens, tens, scales, ordinalOnes, ordinalTeens, ordinalTens, ordinalScales, others, cardinals, ordinals, words, wordOf, lowOf, highOf, onesAt, ordinalStep}
 
@@ -27,10 +29,10 @@ abbrev halves : ℕ → List ℕ
 halves k = leBytes 8 (lowOf k) ++ leBytes 8 (highOf k)
 
 holds : ℕ → Bool
-holds k = same (halves k) (pack 16 (wordOf k))
+holds k = same (halves k) (pack (wordOf k))
 
 -- the two halves of a row
-pub row-halves : (k : ℕ) → halves k ≡ pack 16 (wordOf k)
+pub row-halves : (k : ℕ) → halves k ≡ pack (wordOf k)
 unfolding holds lexicon
 row-halves k = ⊎-elim (λ (h : 89 ≤ k). rw (no-word k h)) (λ (h : k < 89). same→≡ _ _ (below holds 89 tt k h)) (le-or-lt 89 k)
 
@@ -50,10 +52,25 @@ pub ordinal-word : (k : ℕ) → k < 34 → wordOf (onesAt + ordinalStep + k) �
 unfolding ordinal lexicon
 ordinal-word k h = same→≡ _ _ (below ordinal 34 tt k h)
 
-sized : ℕ → Bool
-sized k = eqb (lowOf k % 256) (length (wordOf k))
+abbrev lastByte : ℕ → ℕ
+lastByte k = highOf k / 0x0100_0000_0000_0000
 
--- a row's first byte is the word's length
-pub low-size : (k : ℕ) → lowOf k % 256 ≡ length (wordOf k)
+sized : ℕ → Bool
+sized k = eqb (lastByte k) (length (wordOf k))
+
+-- a row's last byte is the word's length
+pub high-size : (k : ℕ) → lastByte k ≡ length (wordOf k)
 unfolding sized lexicon
-low-size k = ⊎-elim (λ (h : 89 ≤ k). rw (no-word k h)) (λ (h : k < 89). eqb→eq _ _ (below sized 89 tt k h)) (le-or-lt 89 k)
+high-size k = ⊎-elim (λ (h : 89 ≤ k). rw (no-word k h)) (λ (h : k < 89). eqb→eq (lastByte k) (length (wordOf k)) (below sized 89 tt k h)) (le-or-lt 89 k)
+
+small : ℕ → Bool
+small k = leb (length (wordOf k)) 11
+
+-- no word has more than 11 bytes
+pub word-short : (k : ℕ) → length (wordOf k) ≤ 11
+unfolding small lexicon
+word-short k = ⊎-elim (λ (h : 89 ≤ k). rw (no-word k h) (omega arith)) (λ (h : k < 89). leb→le (length (wordOf k)) 11 (below small 89 tt k h)) (le-or-lt 89 k)
+
+-- a word's row gives it back
+pub word-row : (k : ℕ) → unpack (pack (wordOf k)) ≡ wordOf k
+word-row k = let h = word-short k in unpack-pack (wordOf k) (omega arith)

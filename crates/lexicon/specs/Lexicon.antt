@@ -85,7 +85,7 @@ wordOf k = getD words k []
 
 -- a word as the code holds it: the two halves of its row of 16 bytes, as numbers
 unfoldable pub lowOf : ℕ → ℕ
-lowOf k = leValue (take 8 (pack 16 (wordOf k)))
+lowOf k = leValue (take 8 (pack (wordOf k)))
 
 unfoldable pub highOf : ℕ → ℕ
-highOf k = leValue (drop 8 (pack 16 (wordOf k)))
+highOf k = leValue (drop 8 (pack (wordOf k)))

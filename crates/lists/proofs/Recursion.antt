@@ -25,3 +25,18 @@ recur-eq b step l s = l (recurAt b step (length s)) (recur b step) s (λ t q. en
 pub cond-cong : {A : Type 0} (b : Bool) {x x′ y y′ : A} → (b ≡ true → x ≡ x′) → (b ≡ false → y ≡ y′) → cond b x y ≡ cond b x′ y′
 cond-cong true f g = f refl
 cond-cong false f g = g refl
+
+-- a property that each step hands on from what it reads again
+pub recur-induct : {A : Type 0} (P : List ℕ → A → Type 0) (b : A) (step : (List ℕ → A) → List ℕ → A)
+    → ((f : List ℕ → A) (s : List ℕ) → ((t : List ℕ) → length t < length s → P t (f t)) → P s (step f s)) → (s : List ℕ) → P s (recur b step s)
+unfolding recurAt recur
+recur-induct P b step h s = at (suc (length s)) s (omega arith)
+  where
+    at : (n : ℕ) (s : List ℕ) → length s < n → P s (recurAt b step n s)
+    at zero s l = absurd (omega arith)
+    at (suc n) s l = h (recurAt b step n) s (λ t q. at n t (omega arith))
+
+-- a property of two branches, each under its own test
+pub cond-elim : {A : Type 0} (P : A → Type 0) (b : Bool) {x y : A} → (b ≡ true → P x) → (b ≡ false → P y) → P (cond b x y)
+cond-elim P true f g = f refl
+cond-elim P false f g = g refl

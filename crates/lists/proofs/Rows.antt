@@ -1,11 +1,11 @@
 -- Numbers as bytes, and texts in rows, at every width. Assumes nothing.
 use mathlib.Core.Path.{_≡_, refl, ap, _∙_}
-use mathlib.Core.List.{List, [], _∷_, _++_}
-use Prim.Native.Nat.{ℕ, zero, suc, _+_, _-_, _*_, _^_, _/_, _%_, _<_}
+use mathlib.Core.List.{List, [], _∷_, _++_, append-assoc}
+use Prim.Native.Nat.{ℕ, zero, suc, _+_, _-_, _*_, _^_, _/_, _%_, _≤_, _<_}
 use native.Mathlib.Nat.{pow-suc}
 use native.Mathlib.Omega.{arith}
-use lib.ListN.{length, take, getD, replicate}
-use lib.Seq.{take-append-seam}
+use lib.ListN.{length, take, getD, replicate, length-append, length-replicate}
+use lib.Seq.{take-append-seam, getD-append-seam}
 use Rattle.lists.specs.LittleEndian.{leValue, leBytes}
 use Rattle.lists.specs.Packed.{pack, unpack}
 
@@ -24,6 +24,11 @@ leBytes-value (suc w) n h =
     omega arith
 
 -- a row gives its text back
-pub unpack-pack : (w : ℕ) (s : List ℕ) → unpack (pack w s) ≡ s
+pub unpack-pack : (s : List ℕ) → length s ≤ 15 → unpack (pack s) ≡ s
 unfolding unpack pack
-unpack-pack w s = take-append-seam s (replicate (w - 1 - length s) 0)
+unpack-pack s h =
+    let z : List ℕ = replicate (15 - length s) 0 in
+    let n : length z ≡ 15 - length s = length-replicate (15 - length s) 0 in
+    let e : length (s ++ z) ≡ 15 = length-append s z ∙ omega arith in
+    let g : getD (s ++ (z ++ length s ∷ [])) 15 0 ≡ length s = rw (append-assoc, e) at (getD-append-seam (s ++ z) (length s) [] 0) in
+    rw g (take-append-seam s (z ++ length s ∷ []))

@@ -1,4 +1,4 @@
--- Laws of `all`, `span`, `count`, `afterLast` and `sameBy` along a list, over the test, for loops that count. Assumes nothing.
+-- Laws of `all`, `span`, `count`, `keep`, `afterLast` and `sameBy` along a list, over the test, for loops that count. Assumes nothing.
 use mathlib.Core.Path.{_≡_, refl, sym, ap, _∙_}
 use mathlib.Core.Bool.{Bool, true, false, cond, _&&_, and-false, and-assoc}
 use mathlib.Core.List.{List, [], _∷_, _++_}
@@ -9,7 +9,7 @@ use lib.Dec.{eqb}
 use lib.ListN.{length, take, drop, getD, length-drop, drop-of-length-le, List·getD-eq-default}
 use lib.Seq.{drop-cons, take-all, take-suc, length-take-le}
 use borrow.Author.Tests.{ne-eqb}
-use Rattle.lists.specs.Bytes.{all, span, count, afterLast, sameBy}
+use Rattle.lists.specs.Bytes.{all, span, count, keep, afterLast, sameBy}
 
 module _ (p : ℕ → Bool) (s : List ℕ) (i : ℕ) where
   -- what a loop keeps: the bytes before i passed
@@ -131,3 +131,13 @@ span-again p (b ∷ s) = go (p b) refl (span-again p s)
         → length (take (cond t (suc (span p s)) 0) (b ∷ s)) ≤ span p (take (cond t (suc (span p s)) 0) (b ∷ s))
     go true e h = rw e (omega arith)
     go false e h = omega arith
+
+-- the bytes that pass are no more than there are
+pub keep-le : (p : ℕ → Bool) (s : List ℕ) → length (keep p s) ≤ length s
+unfolding keep
+keep-le p [] = omega arith
+keep-le p (b ∷ s) = go (p b) (keep-le p s)
+  where
+    go : (t : Bool) → length (keep p s) ≤ length s → length (cond t (b ∷ keep p s) (keep p s)) ≤ suc (length s)
+    go true h = omega arith
+    go false h = omega arith

@@ -1,12 +1,12 @@
--- A text in a row of fixed width. Definitions only.
-use mathlib.Core.List.{List, _∷_, _++_}
+-- A text of up to 15 bytes in a row of 16. Definitions only.
+use mathlib.Core.List.{List, [], _∷_, _++_}
 use Prim.Native.Nat.{ℕ, _-_}
-use lib.ListN.{length, take, drop, getD, replicate}
+use lib.ListN.{length, take, getD, replicate}
 
--- a text as a row of w bytes: its length, its bytes, and zeros
-unfoldable pub pack : ℕ → List ℕ → List ℕ
-pack w s = length s ∷ (s ++ replicate (w - 1 - length s) 0)
+-- the text's bytes, zeros, and its length in the last byte
+unfoldable pub pack : List ℕ → List ℕ
+pack s = s ++ (replicate (15 - length s) 0 ++ length s ∷ [])
 
 -- the text in a row
 unfoldable pub unpack : List ℕ → List ℕ
-unpack r = take (getD r 0 0) (drop 1 r)
+unpack r = take (getD r 15 0) r

@@ -246,11 +246,11 @@ pub fn ends_same(lowered: bool, s: &[u8], t: &[u8]) -> bool
     false
 }
 
-// The text in a row of fixed width.
+// The text in a row of 16 bytes.
 pub fn unpacked(row: &[u8]) -> &[u8]
     ensures { λ r. ⌜ now r ≡ unpack (now (row .entry)) ⌝ }
 {
-    front(tail(row, 1), byte_at(row, 0) as usize)
+    front(row, byte_at(row, 15) as usize)
 }
 
 // How many of n bytes from index `at` on fall within len bytes.

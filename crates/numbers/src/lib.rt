@@ -13,8 +13,12 @@ use readings::years::say_year;
 use sink::Pen;
 use sink::Spoken;
 ghost use mathlib.Core.Path.{_≡_};
-ghost use Rattle.sink.specs.Sink.{sink, emitAll};
-ghost use Rattle.sink.specs.Words.{wordsCall, asWords};
+ghost use mathlib.Core.Bool.{_&&_};
+ghost use Prim.Native.Nat.{_/_, _<_};
+ghost use lib.Dec.{ltb};
+ghost use lib.ListN.{length};
+ghost use Rattle.sink.specs.Sink.{top, sink, emitAll};
+ghost use Rattle.sink.specs.Words.{storeOf, shortFor, wordsCall, asWords};
 ghost use Rattle.numerals.specs.Words.{spelled};
 ghost use Rattle.numerals.specs.Cardinal.{cardinal, digits};
 ghost use Rattle.numerals.specs.Ordinal.{ordinal};
@@ -54,7 +58,28 @@ pub fn say_by(reader: Reader, s: &[u8], store: &mut [u8], table: &mut [u8], pen:
     }
 }
 
-// The words of s in store and table: measured on empty buffers first, and then written by the same walk.
+// Whether buffers of these lengths hold the words of every text of n bytes.
+fn roomy(n: usize, store: usize, table: usize) -> bool
+    ensures { λ r. ⌜ r ≡ (ltb n (store / 22) && ltb n (table / 16)) ⌝ }
+{
+    (n < store / 22) & (n < table / 16)
+}
+
+// Whether a buffer is too short for the words of s: they are measured by the walk that writes them, on empty buffers.
+fn too_short(reader: Reader, s: &[u8], store: usize, table: usize) -> bool
+    requires { ⌜ (store < top) × (table < top) ⌝ }
+    ensures { λ r. ⌜ r ≡ shortFor (length (storeOf (spelled (wordsBy reader (now (s .entry)))))) (length (spelled (wordsBy reader (now (s .entry))))) store table ⌝ }
+{
+    if roomy(s.len(), store, table) {
+        return false;
+    }
+    let mut no_store = [0u8; 0];
+    let mut no_table = [0u8; 0];
+    let measured = say_by(reader, s, &mut no_store, &mut no_table, Pen::start());
+    measured.short(store, table)
+}
+
+// The words of s in store and table: measured first, and then written.
 fn speak(reader: Reader, s: &[u8], store: &mut [u8], table: &mut [u8]) -> Spoken
     ensures { λ r. ⌜ asWords r (now (store .exit)) (now (table .exit)) ≡ wordsCall (now (s .entry)) (spelled (wordsBy reader (now (s .entry)))) (now (store .entry)) (now (table .entry)) ⌝ }
 {
@@ -62,10 +87,7 @@ fn speak(reader: Reader, s: &[u8], store: &mut [u8], table: &mut [u8]) -> Spoken
     if refusal != 0 {
         return Spoken::refused(refusal);
     }
-    let mut no_store = [0u8; 0];
-    let mut no_table = [0u8; 0];
-    let measured = say_by(reader, s, &mut no_store, &mut no_table, Pen::start());
-    if measured.short(store.len(), table.len()) {
+    if too_short(reader, s, store.len(), table.len()) {
         let answer = Answer::Refused(Refusal::BufferTooShort);
         return Spoken::refused(answer.number());
     }

@@ -5,3 +5,4 @@ pub mod Every
 pub mod Forms
 pub mod Flushing
 pub mod Value
+pub mod Room

@@ -4,3 +4,4 @@ pub mod PartLaws
 pub mod LetterLaws
 pub mod RomanLaws
 pub mod YearLaws
+pub mod Room

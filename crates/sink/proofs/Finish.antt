@@ -81,6 +81,21 @@ or-right : (a b : Bool) → (a || b) ≡ false → b ≡ false
 or-right false b e = e
 or-right true b e = let z : _≡_ {A = Bool} true false = e in cc
 
+-- the pen after the words ws, on any buffers, tells whether buffers of a and b bytes are too short for them
+pub measured : (ws : List (List ℕ)) (a b : ℕ) → a < top → b < top → (x y x₀ y₀ : List ℕ) {m p₀ : Pen} → p₀ ≡ startPen → sink x y m ≡ emitAll ws (sink x₀ y₀ p₀)
+    → shortFor (m .at) (m .words) a b ≡ shortFor (length (storeOf ws)) (length ws) a b
+measured ws a b ha hb x y x₀ y₀ {m} {p₀} e₀ e =
+    let s₀ = sink x₀ y₀ p₀ in
+    let i : p₀ .at ≡ 0 = ap (λ (p : Pen). p .at) e₀ in
+    let j : p₀ .words ≡ 0 = ap (λ (p : Pen). p .words) e₀ in
+    let n : m .at ≡ min (p₀ .at + length (storeOf ws)) top = ap (λ (q : Sink). q .at) e ∙ emitAll-at ws s₀ (omega arith) in
+    let w : m .words ≡ min (p₀ .words + length ws) top = ap (λ (q : Sink). q .words) e ∙ emitAll-words ws s₀ (omega arith) in
+    rw (ltb-same (m .at) (length (storeOf ws)) a (λ h. omega arith) (λ h. omega arith), ltb-same (pairBytes * m .words) (pairBytes * length ws) b (λ h. omega arith) (λ h. omega arith))
+
+-- buffers that are long enough are not too short
+pub long-enough : (ws : List (List ℕ)) (a b : ℕ) → length (storeOf ws) ≤ a → pairBytes * length ws ≤ b → shortFor (length (storeOf ws)) (length ws) a b ≡ false
+long-enough ws a b h k = rw (le-ltb a (length (storeOf ws)) h, le-ltb b (pairBytes * length ws) k)
+
 -- ws are the words of the text s, whose refusal n is tested first; st and tb are the lent buffers
 module _ (s : List ℕ) (ws : List (List ℕ)) (st tb : List ℕ) (n : ℕ) (due : n ≡ textRefusal textLimit s) where
   abbrev isShort : Bool
@@ -91,34 +106,22 @@ module _ (s : List ℕ) (ws : List (List ℕ)) (st tb : List ℕ) (n : ℕ) (due
   unfolding wordsCall
   text-refused z e = rw e (call-refused _ _ n (numberDue (textDue textLimit s isShort)) z (due-refused textLimit s isShort n z due))
 
-  -- m is where the pen stood after the same words on other buffers
-  module _ (z : n ≡ 0) (hs : length st < top) (ht : length tb < top) (x y x₀ y₀ : List ℕ) {m p₀ : Pen} (e₀ : p₀ ≡ startPen) (e : sink x y m ≡ emitAll ws (sink x₀ y₀ p₀)) where
-    measured : shortFor (m .at) (m .words) (length st) (length tb) ≡ isShort
-    measured =
-        let s₀ = sink x₀ y₀ p₀ in
-        let i : p₀ .at ≡ 0 = ap (λ (p : Pen). p .at) e₀ in
-        let j : p₀ .words ≡ 0 = ap (λ (p : Pen). p .words) e₀ in
-        let a : m .at ≡ min (p₀ .at + length (storeOf ws)) top = ap (λ (q : Sink). q .at) e ∙ emitAll-at ws s₀ (omega arith) in
-        let w : m .words ≡ min (p₀ .words + length ws) top = ap (λ (q : Sink). q .words) e ∙ emitAll-words ws s₀ (omega arith) in
-        rw (ltb-same (m .at) (length (storeOf ws)) (length st) (λ h. omega arith) (λ h. omega arith), ltb-same (pairBytes * m .words) (pairBytes * length ws) (length tb) (λ h. omega arith) (λ h. omega arith))
+  -- a buffer is too short
+  pub short-refused : n ≡ 0 → isShort ≡ true → {r : Spoken} → r ≡ refusedBy 5 → asWords r st tb ≡ wordsCall s ws st tb
+  unfolding wordsCall
+  short-refused z t q = rw (q, due-accepted textLimit s isShort (sym due ∙ z), t)
 
-    -- a buffer is too short
-    pub short-refused : {f : Bool} → f ≡ shortFor (m .at) (m .words) (length st) (length tb) → f ≡ true → {r : Spoken} → r ≡ refusedBy 5 → asWords r st tb ≡ wordsCall s ws st tb
-    unfolding wordsCall
-    short-refused g t q = rw (q, due-accepted textLimit s isShort (sym due ∙ z), sym measured ∙ sym g ∙ t)
-
-    -- both are long enough, and the same words are written to them
-    pub all-written : {f : Bool} → f ≡ shortFor (m .at) (m .words) (length st) (length tb) → f ≡ false
-        → {st′ tb′ : List ℕ} {p p₁ : Pen} → p₁ ≡ startPen → sink st′ tb′ p ≡ emitAll ws (sink st tb p₁)
-        → {r : Spoken} → r ≡ spokenBy p → asWords r st′ tb′ ≡ wordsCall s ws st tb
-    unfolding wordsCall
-    all-written g t {st′} {tb′} {p} {p₁} e₁ d q =
-        let f : isShort ≡ false = sym measured ∙ sym g ∙ t in
-        let fs : length (storeOf ws) ≤ length st = ltb-false _ _ (or-left (ltb (length st) (length (storeOf ws))) (ltb (length tb) (pairBytes * length ws)) f) in
-        let ft : pairBytes * length ws ≤ length tb = ltb-false _ _ (or-right (ltb (length st) (length (storeOf ws))) (ltb (length tb) (pairBytes * length ws)) f) in
-        let all : sink st′ tb′ p ≡ after ws (sink st tb startPen) = d ∙ ap (λ (k : Pen). emitAll ws (sink st tb k)) e₁ ∙ emitAll-is ws (sink st tb startPen) (omega arith) (omega arith) in
-        let es : st′ ≡ over (storeOf ws) st = ap (λ (k : Sink). k .store) all ∙ sets-front st (storeOf ws) fs in
-        let et : tb′ ≡ over (tableOf 0 ws) tb = ap (λ (k : Sink). k .table) all ∙ sets-front tb (tableOf 0 ws) (omega (arith, tableOf-length 0 ws)) in
-        let ea : p .at ≡ length (storeOf ws) = ap (λ (k : Sink). k .at) all ∙ zero-add (length (storeOf ws)) in
-        let ew : p .words ≡ length ws = ap (λ (k : Sink). k .words) all ∙ zero-add (length ws) in
-        rw (q, due-accepted textLimit s isShort (sym due ∙ z), f) (λ j. record { refusal = 0; value = record { words = ew j; bytes = ea j; store = es j; table = et j } })
+  -- both are long enough, and the words are written to them
+  pub all-written : n ≡ 0 → isShort ≡ false → length st < top → length tb < top
+      → {st′ tb′ : List ℕ} {p p₁ : Pen} → p₁ ≡ startPen → sink st′ tb′ p ≡ emitAll ws (sink st tb p₁)
+      → {r : Spoken} → r ≡ spokenBy p → asWords r st′ tb′ ≡ wordsCall s ws st tb
+  unfolding wordsCall
+  all-written z f hs ht {st′} {tb′} {p} {p₁} e₁ d q =
+      let fs : length (storeOf ws) ≤ length st = ltb-false _ _ (or-left (ltb (length st) (length (storeOf ws))) (ltb (length tb) (pairBytes * length ws)) f) in
+      let ft : pairBytes * length ws ≤ length tb = ltb-false _ _ (or-right (ltb (length st) (length (storeOf ws))) (ltb (length tb) (pairBytes * length ws)) f) in
+      let all : sink st′ tb′ p ≡ after ws (sink st tb startPen) = d ∙ ap (λ (k : Pen). emitAll ws (sink st tb k)) e₁ ∙ emitAll-is ws (sink st tb startPen) (omega arith) (omega arith) in
+      let es : st′ ≡ over (storeOf ws) st = ap (λ (k : Sink). k .store) all ∙ sets-front st (storeOf ws) fs in
+      let et : tb′ ≡ over (tableOf 0 ws) tb = ap (λ (k : Sink). k .table) all ∙ sets-front tb (tableOf 0 ws) (omega (arith, tableOf-length 0 ws)) in
+      let ea : p .at ≡ length (storeOf ws) = ap (λ (k : Sink). k .at) all ∙ zero-add (length (storeOf ws)) in
+      let ew : p .words ≡ length ws = ap (λ (k : Sink). k .words) all ∙ zero-add (length ws) in
+      rw (q, due-accepted textLimit s isShort (sym due ∙ z), f) (λ j. record { refusal = 0; value = record { words = ew j; bytes = ea j; store = es j; table = et j } })

@@ -1,6 +1,6 @@
 use mathlib.Core.Path.{_∙_}
 use Prim.Native.Nat.{_<_}
-use Rattle.lists.proofs.Rows.{unpack-pack}
+use Rattle.lexicon.proofs.Laws as lexicon
 use Rattle.units.specs.Units.{unitIndex}
 use Rattle.units.proofs.Laws.{word-row}
 use Rattle.patterns.proofs.Laws.{word-refused, word-found, word-none}
@@ -26,5 +26,5 @@ unit-word-spec =
     (λ c.
     let u = c .before .before .before .before .before .before .before .before .before .before .before .before .before .before .args .unit .now in
     let h : unitIndex u < 22 = rw (c .before .before .before .before .before .before .before .before .before .unit-index .ensures) at (c .before .before .before .before .before .before .before .before .if2 .left) in
-    rw (c .before .before .before .before .unpacked .ensures, c .before .before .before .before .before .before .row .ensures, unpack-pack 16, c .before .before .before .before .before .before .before .word-number .ensures, c .before .before .before .before .before .before .before .before .before .unit-index .ensures, word-row (unitIndex u) h) at (c .before .before .store-word .ensures)
+    rw (c .before .before .before .before .unpacked .ensures, c .before .before .before .before .before .before .row .ensures, lexicon.word-row, c .before .before .before .before .before .before .before .word-number .ensures, c .before .before .before .before .before .before .before .before .before .unit-index .ensures, word-row (unitIndex u) h) at (c .before .before .store-word .ensures)
     ∙ word-found u (c .before .before .before .before .before .before .before .before .before .before .before .before .before .before .args .store .now) _ (c .before .before .before .before .before .before .before .before .before .before .before .refusal-of .ensures) (c .before .before .before .before .before .before .before .before .before .before .if1 .left) h))

@@ -1,6 +1,6 @@
 use Rattle.sink.specs.Sink.{emit}
 use Rattle.lexicon.specs.Lexicon.{wordOf}
-use Rattle.lists.proofs.Rows.{unpack-pack}
+use Rattle.lexicon.proofs.Laws.{word-row}
 use Rattle.lists.proofs.Sets.{sets-out}
 use borrow.Author.Needs.{needs}
 use Rattle.numerals.proofs.saying.say.Statement.{statement}
@@ -24,4 +24,4 @@ say-spec =
     (λ c κs. search needs)
     (λ c. search needs)
     (λ c. search needs)
-    (λ c. rw (c .before .before .before .before .before .unpacked .ensures, c .before .before .before .before .before .before .before .before .before .row .ensures, unpack-pack 16 (wordOf (c .before .before .before .before .before .before .before .before .before .before .before .before .before .before .args .k))) at (c .before .before .before .before .word .ensures)))
+    (λ c. rw (c .before .before .before .before .before .unpacked .ensures, c .before .before .before .before .before .before .before .before .before .row .ensures, word-row (c .before .before .before .before .before .before .before .before .before .before .before .before .before .before .args .k)) at (c .before .before .before .before .word .ensures)))
