@@ -1,15 +1,16 @@
 -- One pass over a numeral from its right end: the sums of the values that add and that subtract, and the largest of them.
 -- Assumes nothing.
-use mathlib.Core.Path.{_≡_, refl, sym, ap, ap₂, _∙_}
+use mathlib.Core.Path.{_≡_, sym, ap, ap₂, _∙_}
 use mathlib.Core.Bool.{Bool, true, false, cond, _||_, or-true}
 use mathlib.Core.Logic.{_⊎_, inl, inr, ⊎-elim}
 use mathlib.Core.List.{List, [], _∷_, map}
 use Prim.Native.Nat.{ℕ, zero, suc, _+_, _-_, _*_, _≤_, _<_, max}
+use Prim.Native.String.{String}
 use native.Mathlib.Omega.{arith}
 use lib.Dec.{ltb, eqb}
 use lib.ListN.{length, drop, getD}
 use lib.Seq.{drop-cons, drop-length}
-use borrow.Author.Tests.{lt-ltb, le-ltb, eq-eqb, ne-eqb}
+use borrow.Author.Tests.{lt-ltb, le-ltb, ne-eqb}
 use Rattle.lists.specs.Bytes.{bytes, has}
 use Rattle.lists.proofs.Sets.{le-or-lt}
 use Rattle.readings.specs.Roman.{numeral, larger, added, taken, romanValue}
@@ -19,11 +20,11 @@ unfolding has
 neither b x y n = rw (ne-eqb x b (λ e. n (inl (sym e))), ne-eqb y b (λ e. n (inr (sym e))))
 
 -- what the last arm of `value` knows: b is neither letter of each pair
-abbrev Neither : ℕ → List (ℕ × ℕ) → Type 0
+abbrev Neither : ℕ → List String → Type 0
 Neither b [] = Unit
-Neither b (p ∷ ps) = Neither b ps × ((b ≡ p .0) ⊎ (b ≡ p .1) → ⊥)
+Neither b (p ∷ ps) = Neither b ps × ((b ≡ getD (bytes p) 0 0) ⊎ (b ≡ getD (bytes p) 1 0) → ⊥)
 
-pub no-letter : (b : ℕ) → Neither b ((77, 109) ∷ (68, 100) ∷ (67, 99) ∷ (76, 108) ∷ (88, 120) ∷ (86, 118) ∷ (73, 105) ∷ []) → 0 ≡ numeral b
+pub no-letter : (b : ℕ) → Neither b ("Mm" ∷ "Dd" ∷ "Cc" ∷ "Ll" ∷ "Xx" ∷ "Vv" ∷ "Ii" ∷ []) → 0 ≡ numeral b
 unfolding numeral
 no-letter b (((((((u, i), v), x), l), c), d), m) = rw (neither b _ _ i, neither b _ _ v, neither b _ _ x, neither b _ _ l, neither b _ _ c, neither b _ _ d, neither b _ _ m)
 

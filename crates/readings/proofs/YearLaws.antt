@@ -3,7 +3,7 @@ use mathlib.Core.Path.{_≡_, refl, sym, ap, _∙_}
 use mathlib.Core.Bool.{Bool, true, false, cond, not, _&&_}
 use mathlib.Core.Logic.{⊎-elim}
 use mathlib.Core.List.{List, [], _∷_, _++_, map}
-use Prim.Native.Nat.{ℕ, zero, suc, _+_, _-_, _%_, _≤_, _<_}
+use Prim.Native.Nat.{ℕ, suc, _+_, _-_, _%_, _≤_, _<_}
 use native.Mathlib.Numerals.{add-one}
 use native.Mathlib.Omega.{arith}
 use lib.Dec.{leb, eqb}
@@ -17,16 +17,15 @@ use Rattle.lists.proofs.Scan.{span-le}
 use Rattle.lists.proofs.Sets.{le-or-lt}
 use Rattle.lexicon.specs.Lexicon.{wordOf, othersAt}
 use Rattle.lexicon.proofs.Laws.{lexicon}
-use Rattle.sink.specs.Sink.{Sink, emitAll}
 use Rattle.numerals.specs.Words.{Word, one, hundred, other, spelled}
 use Rattle.numerals.specs.Cardinal.{digitValue, clean, pair, cardinalFew, cardinalOf}
 use Rattle.numerals.specs.Walk.{FewOf}
 use Rattle.numerals.specs.declared.few.Few.{Few}
+use Rattle.numerals.proofs.Digits.{spelled-append}
 use Rattle.numerals.proofs.Cardinal.{cardinal-2}
 use Rattle.readings.specs.Year.{yearStep, yearOf, year}
 use Rattle.readings.specs.Walk.{PickedFrom, leadCount, leadWords}
 use Rattle.readings.specs.declared.turn.Picked.{Picked}
-use Rattle.readings.proofs.Said.{says-more}
 
 -- the first digit of a text stands after those bytes that are none
 clean-some : (s : List ℕ) → span nonDigit s < length s → clean s ≡ digitValue (getD s (span nonDigit s) 0) ∷ clean (drop (span nonDigit s + 1) s)
@@ -163,21 +162,21 @@ pub picked-two : (s : List ℕ) (a b : Picked) → PickedFrom s a → PickedFrom
 picked-two s a b p q =
     (q .digit ∙ rw (p .others, getD-drop), rw (← drop-drop, q .others, p .others, drop-drop), omega (arith, p .within, q .within, length-drop (a .next) s))
 
--- what the loop keeps: the count of the digits that are left. A turn reads the next n bytes, which hold one digit or two
-module _ (s : List ℕ) (i left : ℕ) (e : left ≡ length (clean (drop i s))) where
-  pub year-turn : (n : ℕ) → 4 < left → clean (drop n (drop i s)) ≡ drop (leadCount (eqb (left % 2) 1)) (clean (drop i s))
-      → (σ : Sink) {τ z : Sink} → τ ≡ emitAll (spelled (leadWords (eqb (left % 2) 1) (clean (drop i s)))) σ → emitAll (spelled (year (drop i s))) σ ≡ z
-      → (left - (2 - left % 2) ≡ length (clean (drop (i + n) s))) × (emitAll (spelled (year (drop (i + n) s))) τ ≡ z)
-  unfolding year
-  year-turn n h d σ p k =
-      let ds = clean (drop i s) in
-      let rest : clean (drop (i + n) s) ≡ drop (leadCount (eqb (left % 2) 1)) ds = ap clean (sym (drop-drop n i s)) ∙ d in
-      let words = year-long ds left e h ∙ ap (λ (t : List ℕ). leadWords (eqb (left % 2) 1) ds ++ yearOf t) (sym rest) in
-      (rw rest (simp length-drop (omega (arith, lead-count left))), says-more (leadWords (eqb (left % 2) 1) ds) (yearOf (clean (drop (i + n) s))) words σ p refl ∙ k)
+-- the loop counts the digits that are left from i on. A turn reads the next n bytes, which hold one digit or two
+module _ (s : List ℕ) (i n left : ℕ) (e : left ≡ length (clean (drop i s))) (d : clean (drop n (drop i s)) ≡ drop (leadCount (eqb (left % 2) 1)) (clean (drop i s))) where
+  after : clean (drop (i + n) s) ≡ drop (leadCount (eqb (left % 2) 1)) (clean (drop i s))
+  after = ap clean (sym (drop-drop n i s)) ∙ d
 
-  -- the last digits, at most four
-  pub year-last : left ≤ 4 → (r : Few) → FewOf (drop i s) r → {t : List ℕ} → t ≡ take (r .n) (r .d) → (length t ≤ 4) × (yearOf t ≡ year (drop i s))
+  pub left-after : left - (2 - left % 2) ≡ length (clean (drop (i + n) s))
+  left-after = rw after (simp length-drop (omega (arith, lead-count left)))
+
+  pub year-at : 4 < left → spelled (year (drop i s)) ≡ spelled (leadWords (eqb (left % 2) 1) (clean (drop i s))) ++ spelled (year (drop (i + n) s))
   unfolding year
-  year-last h r f q =
-      let all : take (r .n) (r .d) ≡ clean (drop i s) = ⊎-elim (λ (k : r .n ≤ 12). f .all k) (λ (k : 12 < r .n). absurd (omega (arith, f .more k))) (le-or-lt (r .n) 12) in
-      (omega (arith, ap length (q ∙ all)), ap yearOf (q ∙ all))
+  year-at h = ap spelled (year-long (clean (drop i s)) left e h) ∙ rw (spelled-append, after)
+
+-- the last digits, at most four
+pub year-last : (s : List ℕ) (left : ℕ) → left ≡ length (clean s) → left ≤ 4 → (r : Few) → FewOf s r → {t : List ℕ} → t ≡ take (r .n) (r .d) → (length t ≤ 4) × (yearOf t ≡ year s)
+unfolding year
+year-last s left e h r f q =
+    let all : take (r .n) (r .d) ≡ clean s = ⊎-elim (λ (k : r .n ≤ 12). f .all k) (λ (k : 12 < r .n). absurd (omega (arith, f .more k))) (le-or-lt (r .n) 12) in
+    (omega (arith, ap length (q ∙ all)), ap yearOf (q ∙ all))

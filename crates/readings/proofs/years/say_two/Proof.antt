@@ -1,21 +1,25 @@
-use mathlib.Core.Path.{ap, _∙_}
-use Prim.Native.Nat.{_+_}
+use mathlib.Core.Path.{_∙_}
+use mathlib.Core.List.{[], _∷_}
 use borrow.Author.Tests.{eq-eqb, ne-eqb}
-use Rattle.sink.specs.Sink.{emit, emitAll}
-use Rattle.numerals.specs.Words.{spell, spelled}
-use Rattle.lexicon.specs.Lexicon.{wordOf}
+use Rattle.numerals.specs.Words.{one, other, spell}
+use Rattle.lists.specs.Bytes.{bytes}
+use Rattle.readings.proofs.Said.{said-word, says-more}
 use Rattle.readings.proofs.YearLaws.{year-two, oh}
 use borrow.Author.Needs.{needs}
 use Rattle.readings.proofs.years.say_two.Statement.{statement}
 use Rattle.readings.proofs.years.say_two.Tie as tie
 
 returns-2 : tie.Need-returns-2
-unfolding emitAll spelled spell
-returns-2 c = rw (year-two (c .before .before .before .before .before .before .before .before .before .before .before .before .before .before .before .before .before .before .args .a) (c .before .before .before .before .before .before .before .before .before .before .before .before .before .before .before .before .before .before .args .b), eq-eqb _ _ (c .before .before .before .before .before .before .before .before .before .before .before .before .before .before .before .if1 .left), eq-eqb _ _ (c .before .before .before .before .before .before .before .before .before .before .before .before .before .before .if2 .taken)) (c .before .before .before .before .say2 .ensures ∙ ap (emit (wordOf 16)) (c .before .before .before .before .before .before .before .before .before .before .before .say .ensures))
+unfolding spell
+returns-2 c =
+    says-more (one 0 ∷ []) (one 0 ∷ []) (year-two (c .before .before .before .before .before .before .before .before .before .before .before .before .before .before .before .before .before .before .args .a) (c .before .before .before .before .before .before .before .before .before .before .before .before .before .before .before .before .before .before .args .b) ∙ rw (eq-eqb _ _ (c .before .before .before .before .before .before .before .before .before .before .before .before .before .before .before .if1 .left), eq-eqb _ _ (c .before .before .before .before .before .before .before .before .before .before .before .before .before .before .if2 .taken)))
+    _ (said-word (one 0) _ (c .before .before .before .before .before .before .before .before .before .before .before .say .ensures)) (said-word (one 0) _ (c .before .before .before .before .say2 .ensures))
 
 returns-3 : tie.Need-returns-3
-unfolding emitAll spelled spell
-returns-3 c = rw (year-two (c .before .before .before .before .before .before .before .before .before .before .before .before .before .before .before .before .before .before .args .a) (c .before .before .before .before .before .before .before .before .before .before .before .before .before .before .before .before .before .before .args .b), eq-eqb _ _ (c .before .before .before .before .before .before .before .before .before .before .before .before .before .before .before .if1 .left), ne-eqb _ _ (c .before .before .before .before .before .before .before .before .before .before .before .before .before .before .if2 .left), ← oh) (c .before .before .before .before .say4 .ensures ∙ ap (emit (wordOf (16 + c .before .before .before .before .before .before .before .before .before .before .before .before .before .before .before .before .before .before .args .b))) (c .before .before .before .before .before .before .before .before .before .before .before .say3 .ensures))
+unfolding spell
+returns-3 c =
+    says-more (other (bytes "oh") ∷ []) (one (c .before .before .before .before .before .before .before .before .before .before .before .before .before .before .before .before .before .before .args .b) ∷ []) (year-two (c .before .before .before .before .before .before .before .before .before .before .before .before .before .before .before .before .before .before .args .a) (c .before .before .before .before .before .before .before .before .before .before .before .before .before .before .before .before .before .before .args .b) ∙ rw (eq-eqb _ _ (c .before .before .before .before .before .before .before .before .before .before .before .before .before .before .before .if1 .left), ne-eqb _ _ (c .before .before .before .before .before .before .before .before .before .before .before .before .before .before .if2 .left)))
+    _ (said-word (other (bytes "oh")) _ (rw oh at (c .before .before .before .before .before .before .before .before .before .before .before .say3 .ensures))) (said-word (one (c .before .before .before .before .before .before .before .before .before .before .before .before .before .before .before .before .before .before .args .b)) _ (c .before .before .before .before .say4 .ensures))
 
 pub say-two-spec : {M : Type 1} → statement M
 say-two-spec =

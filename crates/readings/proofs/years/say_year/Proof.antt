@@ -3,10 +3,11 @@ use Prim.Native.Nat.{_≤_, zero-le}
 use native.Mathlib.Omega.{arith}
 use lib.ListN.{length, drop, length-drop}
 use Rattle.sink.specs.Sink.{sink, emitAll}
+use Rattle.sink.proofs.Walks.{turn}
 use Rattle.numerals.specs.Words.{spelled}
 use Rattle.numerals.specs.Cardinal.{clean}
 use Rattle.readings.specs.Year.{year}
-use Rattle.readings.proofs.YearLaws.{clean-length, year-turn, year-last}
+use Rattle.readings.proofs.YearLaws.{clean-length, left-after, year-at, year-last}
 use borrow.Author.Needs.{needs}
 use Rattle.readings.proofs.years.say_year.Statement.{statement}
 use Rattle.readings.proofs.years.say_year.Tie as tie
@@ -33,19 +34,19 @@ say-year-spec =
     (λ c. search needs)
     (λ c.
     let l = c .before .before .before .before .before .before .before .before .before .before .before .loop in
+    let s = c .before .before .before .before .before .before .before .before .before .before .before .before .before .before .before .before .args .s .now in
     let e = rw (c .before .before .before .before .before .before .before .before .before .tail .ensures) at (c .before .before .before .before .before .before .say-lead .ensures) in
-    let q = year-turn (c .before .before .before .before .before .before .before .before .before .before .before .before .before .before .before .before .args .s .now) (l .i) (l .left) (l .inv .1) (c .before .before .before .before .before .before .say-lead .result .next) (omega arith) (e .1) (sink (l .store) (l .table) (l .p)) (e .0) (l .inv .2) in
-    (omega (arith, e .2, length-drop (l .i) (c .before .before .before .before .before .before .before .before .before .before .before .before .before .before .before .before .args .s .now)), q .0, q .1, search needs, search needs))
+    (omega (arith, e .2, length-drop (l .i) s), left-after s (l .i) _ _ (l .inv .1) (e .1), turn (λ t. spelled (year t)) s (l .i) _ _ (year-at s (l .i) _ _ (l .inv .1) (e .1) (omega arith)) (sink (l .store) (l .table) (l .p)) (e .0) (l .inv .2), search needs, search needs))
     (λ c κs. search needs)
     (λ c κs. search needs)
     (λ c. search needs)
     (λ c κs. search needs)
     (λ c κs.
     let l = c .before .before .before .before .before .before .before .before .loop in
-    year-last (c .before .before .before .before .before .before .before .before .before .before .before .before .before .args .s .now) (l .i) (l .left) (l .inv .1) (omega arith) (c .before .before .before .before .before .find-few .result) (rw (c .before .before .before .before .before .before .tail2 .ensures) at (c .before .before .before .before .before .find-few .ensures)) (c .before .before .front .ensures) .0)
+    year-last _ (l .left) (l .inv .1) (omega arith) _ (rw (c .before .before .before .before .before .before .tail2 .ensures) at (c .before .before .before .before .before .find-few .ensures)) (c .before .before .front .ensures) .0)
     (λ c. search needs)
     (λ c. search needs)
     (λ c.
     let l = c .before .before .before .before .before .before .before .before .before .before .before .before .before .loop in
-    let q = year-last (c .before .before .before .before .before .before .before .before .before .before .before .before .before .before .before .before .before .before .args .s .now) (l .i) (l .left) (l .inv .1) (omega arith) (c .before .before .before .before .before .before .before .before .before .before .find-few .result) (rw (c .before .before .before .before .before .before .before .before .before .before .before .tail2 .ensures) at (c .before .before .before .before .before .before .before .before .before .before .find-few .ensures)) (c .before .before .before .before .before .before .before .front .ensures) in
+    let q = year-last _ (l .left) (l .inv .1) (omega arith) _ (rw (c .before .before .before .before .before .before .before .before .before .before .before .tail2 .ensures) at (c .before .before .before .before .before .before .before .before .before .before .find-few .ensures)) (c .before .before .before .before .before .before .before .front .ensures) in
     (rw (q .1) at (c .before .before .before .before .say-last .ensures)) ∙ l .inv .2))
