@@ -12,8 +12,8 @@ const ROMAN_VALUE: &str = "roman_value";
 const KIB: usize = 1_024;
 
 /// Room for every reading of 64 KiB.
-const STORE: usize = 10 * 64 * KIB + 6;
-const TABLE: usize = 13 * 64 * KIB + 8;
+const STORE: usize = 22 * 64 * KIB + 22;
+const TABLE: usize = 16 * 64 * KIB + 16;
 
 /// A reader and a text for it.
 #[rustfmt::skip]

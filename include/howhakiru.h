@@ -168,11 +168,11 @@ typedef struct hwk_words {
     size_t bytes;    /* how many bytes all words have, at the front of the store */
 } hwk_words;
 
-/* Room for the words of every text of up to `len` bytes, whichever of the six calls reads it. A number of ten sevens comes
- * close: 16 words of 99 bytes; the ordinal of the empty text has one word of 6. hwk_digits needs no more than 5 bytes of
- * store for a byte of text, hwk_year 6 and hwk_letters 2, and these three no more than 8 of table. */
-#define HWK_WORDS_STORE_MOST(len) (10 * (size_t)(len) + 6)
-#define HWK_WORDS_TABLE_MOST(len) (13 * (size_t)(len) + 8)
+/* Room for the words of every text of up to `len` bytes, whichever of the six calls reads it: proved, and on the ample side. A
+ * call that is lent so much writes at once; one that is lent less measures the words first, which takes about as long again.
+ * A reading fits whatever buffers are as long as it is: ten sevens are 16 words of together 99 bytes. */
+#define HWK_WORDS_STORE_MOST(len) (22 * (size_t)(len) + 22)
+#define HWK_WORDS_TABLE_MOST(len) (16 * (size_t)(len) + 16)
 
 /* The four bytes of a table as a number. */
 static inline uint32_t hwk_table_number(const uint8_t *four)

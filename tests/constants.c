@@ -24,8 +24,8 @@ SAME(number_size, sizeof(hwk_number) == 8);
 SAME(number_value, offsetof(hwk_number, value) == 4);
 
 /* The comparison with the Rust holds every reading to these same sums. */
-SAME(store_most, HWK_WORDS_STORE_MOST(1000) == 10006);
-SAME(table_most, HWK_WORDS_TABLE_MOST(1000) == 13008);
+SAME(store_most, HWK_WORDS_STORE_MOST(1000) == 22022);
+SAME(table_most, HWK_WORDS_TABLE_MOST(1000) == 16016);
 
 static const char *const units[] = {"LB", "LBS", "lb", "lbs", "ft", "FT", "kg", "km", "cm", "mm", "ml",
                                     "oz", "hz", "Hz", "HZ", "KHz", "MHz", "GHz", "KB", "GB", "MB", "TB"};

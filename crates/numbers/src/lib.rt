@@ -58,11 +58,16 @@ pub fn say_by(reader: Reader, s: &[u8], store: &mut [u8], table: &mut [u8], pen:
     }
 }
 
+// Room in store and table that each byte of a text needs at most.
+const STORE_ROOM: usize = 22;
+
+const TABLE_ROOM: usize = 16;
+
 // Whether buffers of these lengths hold the words of every text of n bytes.
 fn roomy(n: usize, store: usize, table: usize) -> bool
     ensures { λ r. ⌜ r ≡ (ltb n (store / 22) && ltb n (table / 16)) ⌝ }
 {
-    (n < store / 22) & (n < table / 16)
+    (n < store / STORE_ROOM) & (n < table / TABLE_ROOM)
 }
 
 // Whether a buffer is too short for the words of s: they are measured by the walk that writes them, on empty buffers.
