@@ -54,7 +54,7 @@ static const struct {
 };
 
 /* There is room for every name of up to so many bytes. Many longer ones fit too; the others are refused. */
-#define CALLED_MOST 24
+#define CALLED_MOST 16
 
 /* The header's refusals in words. */
 static void print_refusal(uint8_t refusal)

@@ -24,7 +24,7 @@
  * lent buffer as it was. In an accepted call the bytes of a buffer past the result stay as they were.
  *
  * Nothing is allocated, and no call goes deeper for a longer text: a number of up to 12 digits is read by a function that
- * calls itself on fewer digits, five deep at most, and nothing else recurses. Each call needs less than 1 KiB of stack.
+ * calls itself on fewer digits, five deep at most, and nothing else recurses. Each call needs less than 4 KiB of stack.
  * (Where a program is linked dynamically and bound lazily, its first call of memcpy, ours or another, needs the dynamic
  * linker's own few KiB on top.) Digits, letters and cases are ASCII's.
  */
