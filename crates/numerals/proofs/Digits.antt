@@ -1,7 +1,7 @@
 -- The digits of a text, byte by byte. Assumes nothing.
 use mathlib.Core.Path.{_≡_, refl, sym, ap, _∙_}
 use mathlib.Core.Bool.{Bool, true, false, cond, _&&_, not}
-use mathlib.Core.List.{List, [], _∷_, _++_, map, append-assoc, append-nil}
+use mathlib.Core.List.{List, [], _∷_, _++_, map, map-append, append-assoc, append-nil}
 use Prim.Native.Nat.{ℕ, zero, suc, _+_, _-_, _≤_, _<_}
 use native.Mathlib.Numerals.{add-one}
 use native.Mathlib.Omega.{arith}
@@ -48,19 +48,14 @@ pub clean-high : (b : ℕ) → 48 ≤ b → 57 < b → clean (b ∷ []) ≡ []
 unfolding clean keep
 clean-high b h k = rw (le-leb 48 b h, lt-leb b 57 k)
 
-pub map-append : (s t : List ℕ) → map one (s ++ t) ≡ map one s ++ map one t
-map-append [] t = refl
-map-append (d ∷ s) t = ap (λ (ws : List Word). one d ∷ ws) (map-append s t)
-
 pub spelled-append : (ws vs : List Word) → spelled (ws ++ vs) ≡ spelled ws ++ spelled vs
 unfolding spelled
-spelled-append [] vs = refl
-spelled-append (w ∷ ws) vs = ap (λ (l : List (List ℕ)). spell w ∷ l) (spelled-append ws vs)
+spelled-append ws vs = map-append spell ws vs
 
 -- the words of what is left are those of the byte at i and those from the next on
 pub digits-at : (s : List ℕ) (i : ℕ) → i < length s → spelled (digits (drop i s)) ≡ spelled (digits (getD s i 0 ∷ [])) ++ spelled (digits (drop (i + 1) s))
 unfolding digits
-digits-at s i h = rw (clean-at s i h, map-append (clean (getD s i 0 ∷ [])) (clean (drop (i + 1) s))) (spelled-append _ _)
+digits-at s i h = rw (clean-at s i h, map-append one (clean (getD s i 0 ∷ [])) (clean (drop (i + 1) s))) (spelled-append _ _)
 
 no-clean : clean [] ≡ []
 unfolding clean keep

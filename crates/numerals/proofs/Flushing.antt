@@ -1,7 +1,7 @@
 -- What is written when the word that is held is flushed, as it is or in its ordinal form. Assumes nothing.
 use mathlib.Core.Path.{_≡_, refl, sym, ap, _∙_}
 use mathlib.Core.Bool.{Bool, true, false, cond}
-use mathlib.Core.List.{List, [], _∷_, _++_, map}
+use mathlib.Core.List.{List, [], _∷_, _++_, map, map-append}
 use Prim.Native.Nat.{ℕ, zero, suc, _+_, _≤_, _<_}
 use native.Mathlib.Omega.{arith}
 use lib.Dec.{leb, eqb}
@@ -15,7 +15,7 @@ use Rattle.numerals.specs.Ordinal.{ordinalForm, orZero, onLast, ordinal}
 use Rattle.numerals.specs.Walk.{numberOf, HeldSink, flushed, holds, holdAll, ordinalNumber}
 use Rattle.sink.proofs.Finish.{emitAll-append}
 use Rattle.numerals.proofs.Every.{Every, every-last}
-use Rattle.numerals.proofs.Digits.{clean-commas, map-append, spelled-append}
+use Rattle.numerals.proofs.Digits.{clean-commas, spelled-append}
 use Rattle.numerals.proofs.Forms.{Numeral, spell-number, number-some, cardinal-numerals, Formed, formed-form, formed-numeral, zero-formed, form-number, few-formed, clean-digits}
 
 -- a writer that holds no word
@@ -80,4 +80,4 @@ pub long-said : (s t : List ℕ) (d : ℕ) (σ : Sink) {ρ τ : Sink} → 12 < l
 unfolding ordinal cardinal cardinalOf digits emitAll spelled spell
 long-said s t d σ h e p q =
     let z : d < 10 = every-last (λ b. b < 10) (clean t) d (rw e at (clean-digits s)) in
-    q ∙ rw (p, clean-commas s, lt-leb (length (clean s)) 12 h, e, map-append (clean t) (d ∷ []), onLast-snoc (map one (clean t)) (one d), spelled-append (map one (clean t)) (other (ordinalForm (spell (one d))) ∷ []), emitAll-append (spelled (map one (clean t))) (ordinalForm (spell (one d)) ∷ []) σ, form-number d (omega arith))
+    q ∙ rw (p, clean-commas s, lt-leb (length (clean s)) 12 h, e, map-append one (clean t) (d ∷ []), onLast-snoc (map one (clean t)) (one d), spelled-append (map one (clean t)) (other (ordinalForm (spell (one d))) ∷ []), emitAll-append (spelled (map one (clean t))) (ordinalForm (spell (one d)) ∷ []) σ, form-number d (omega arith))

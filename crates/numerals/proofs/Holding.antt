@@ -1,7 +1,7 @@
 -- Words that are held back by one. Assumes nothing.
 use mathlib.Core.Path.{_≡_, refl, sym, ap, _∙_}
 use mathlib.Core.Bool.{Bool, true, false, cond}
-use mathlib.Core.List.{List, [], _∷_, _++_, map}
+use mathlib.Core.List.{List, [], _∷_, _++_, map, map-append}
 use Prim.Native.Nat.{ℕ, zero, suc, _+_}
 use native.Mathlib.Omega.{arith}
 use lib.Dec.{eqb}
@@ -16,12 +16,8 @@ unfolding holdAll
 holdAll-append [] js h = refl
 holdAll-append (k ∷ ks) js h = holdAll-append ks js (holds k h)
 
-numbers-append : (ws vs : List Word) → map numberOf (ws ++ vs) ≡ map numberOf ws ++ map numberOf vs
-numbers-append [] vs = refl
-numbers-append (w ∷ ws) vs = ap (λ (ks : List ℕ). numberOf w ∷ ks) (numbers-append ws vs)
-
 pub holds-append : (ws vs : List Word) (h : HeldSink) → holdAll (map numberOf (ws ++ vs)) h ≡ holdAll (map numberOf vs) (holdAll (map numberOf ws) h)
-holds-append ws vs h = rw (numbers-append ws vs) (holdAll-append (map numberOf ws) (map numberOf vs) h)
+holds-append ws vs h = rw (map-append numberOf ws vs) (holdAll-append (map numberOf ws) (map numberOf vs) h)
 
 -- a pair by tests, as the code has it
 pub pair-tests : (t n : ℕ) → pair t n ≡ cond (eqb t 0) (cond (eqb n 0) [] (one n ∷ [])) (cond (eqb n 0) (ten t ∷ []) (cond (eqb t 1) (teen n ∷ []) (ten t ∷ one n ∷ [])))
