@@ -1,3 +1,4 @@
+-- The loop keeps the lengths of the three rooms. The measure is the calls that are left. Assumes nothing.
 use borrow.Author.Needs.{needs}
 use mathlib.Core.Path.{_≡_}
 use Prim.Native.Nat.{_-_}
