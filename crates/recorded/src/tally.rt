@@ -24,7 +24,7 @@ pub fn say(text: &[u8]) {
     io::write_all(STDOUT_FILENO, text);
 }
 
-pub fn say_number(n: usize) {
+fn say_number(n: usize) {
     io::print_decimal(STDOUT_FILENO, n as u64);
 }
 
@@ -72,13 +72,15 @@ impl Tally {
         }
     }
 
-    // Whether the next text is to be named: it differs, and few did before it.
-    pub fn names(self, r: Report) -> bool {
-        (r.differ != 0) & (self.differing_texts < NAMED)
+    fn say_text(self, name: &[u8]) {
+        say(b"line ");
+        say_number(plus(self.texts, 1));
+        say(b": ");
+        say(name);
+        say(b"\n");
     }
 
-    // The next text.
-    pub fn add(self, r: Report) -> Tally {
+    fn counted(self, r: Report) -> Tally {
         if r.differ == 0 {
             return Tally {
                 texts: plus(self.texts, 1),
@@ -95,11 +97,12 @@ impl Tally {
         }
     }
 
-    // The place of the next text, before its name.
-    pub fn say_line(self) {
-        say(b"line ");
-        say_number(plus(self.texts, 1));
-        say(b": ");
+    // The next text, and the name of what differs in it first: it is said where few texts differed before.
+    pub fn add(self, r: Report, name: &[u8]) -> Tally {
+        if (r.differ != 0) & (self.differing_texts < NAMED) {
+            self.say_text(name);
+        }
+        self.counted(r)
     }
 
     pub fn say(self, name: &[u8]) {

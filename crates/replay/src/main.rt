@@ -17,7 +17,6 @@ use recorded::file::load;
 use recorded::room::room;
 use recorded::tally::Report;
 use recorded::tally::Tally;
-use recorded::tally::say;
 use recorded::told::text_of;
 
 // All verdicts of is_n_digits have one name.
@@ -31,21 +30,13 @@ fn name_number(what: usize) -> usize {
     what - (TIME - N_DIGITS - 1)
 }
 
-// The name of what was compared.
-fn say_name(what: usize) {
-    let names =
-        b"is_digits is_alpha is_double is_comma_int is_ordinal is_us_money is_illion is_roman is_dr_or_st is_number_s is_leading_zero_digits is_seven_digit_phone is_time is_dotted_abbrev is_digits_slash_digits is_digits_dash_digits is_n_digits split_time_meridiem split_unit unit_word malformed";
-    say(field(names, b' ', name_number(what)));
-}
-
-// The next text, which is named where it differs and few did before it.
 fn add(t: Tally, r: Report) -> Tally {
-    if t.names(r) {
-        t.say_line();
-        say_name(r.first);
-        say(b"\n");
-    }
-    t.add(r)
+    let names =
+        b"is_digits is_alpha is_double is_comma_int is_ordinal is_us_money is_illion is_roman is_dr_or_st \
+        is_number_s is_leading_zero_digits is_seven_digit_phone is_time is_dotted_abbrev \
+        is_digits_slash_digits is_digits_dash_digits is_n_digits split_time_meridiem split_unit unit_word \
+        malformed";
+    t.add(r, field(names, b' ', name_number(r.first)))
 }
 
 fn compare_line(line: &[u8], text: &mut [u8]) -> Report {

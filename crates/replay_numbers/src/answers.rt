@@ -5,39 +5,78 @@ use crate::words::holds;
 use crate::words::pairs_in;
 use crate::words::words_in;
 use lists::byte_at;
+use lists::front;
 use recorded::fields::BAD;
 use recorded::fields::field;
 use recorded::fields::has_fields;
+use recorded::fields::minus;
 use recorded::fields::number;
 use recorded::fields::repeat;
 use recorded::tally::Report;
 use sink::Spoken;
 ghost use Prim.Native.Nat.{_≤_};
 
-// The readings that give words, and the numbers of what is compared past those.
-pub const READERS: usize = 6;
-
+// The numbers of what is compared: six readings that give words, and one that gives a value.
 pub const YEAR: usize = 2;
 
 const ROMAN: usize = 6;
 
 pub const MALFORMED: usize = 7;
 
-// The most words of a field, and the bytes of their table.
-const MOST_PAIRS: usize = 8 * 64;
+// A reading is called with room to spare, with just enough, and with a byte too few in the store and in the table.
+const SPARE: usize = 0;
 
-// The room of a store and of a table, with a word to spare.
+const SHORT_STORE: usize = 2;
+
+const SHORT_TABLE: usize = 3;
+
+pub const CASES: usize = 4;
+
+// The cases of the six readings.
+pub const CALLS: usize = 6 * CASES;
+
+// The room of a store, and of a table of as many words as a field can have.
 const STORE_ROOM: usize = 11 * 65;
 
-const TABLE_ROOM: usize = 8 * 65;
+const TABLE_ROOM: usize = 8 * 64;
 
 // The refusal where a buffer is too short.
 const SHORT: usize = 5;
 
-// How much of the lent store and table a call is lent, all of them where that is more.
-pub struct Rooms {
-    pub store: usize,
-    pub table: usize,
+fn store_room(case: usize, words: &[u8]) -> usize {
+    match case {
+        SPARE => BAD,
+        SHORT_STORE => minus(bytes_in(words), 1),
+        _ => bytes_in(words),
+    }
+}
+
+fn table_room(case: usize, words: &[u8]) -> usize {
+    match case {
+        SPARE => BAD,
+        SHORT_TABLE => minus(pairs_in(words), 1),
+        _ => pairs_in(words),
+    }
+}
+
+// Whether the room is too short for the words.
+fn is_short(case: usize, words: &[u8]) -> bool {
+    (SHORT_STORE <= case) & (words.len() != 0)
+}
+
+fn due(case: usize, refusal: usize, words: &[u8]) -> usize {
+    if is_short(case, words) {
+        SHORT
+    } else {
+        refusal
+    }
+}
+
+fn given(case: usize, words: &[u8]) -> &[u8] {
+    if is_short(case, words) {
+        return front(words, 0);
+    }
+    words
 }
 
 fn read(k: usize, s: &[u8], store: &mut [u8], table: &mut [u8]) -> Spoken {
@@ -57,19 +96,31 @@ fn least(a: usize, b: usize) -> usize
     if a < b { a } else { b }
 }
 
-fn read_within(k: usize, s: &[u8], rooms: Rooms, store: &mut [u8], table: &mut [u8]) -> Spoken {
-    let a = least(rooms.store, store.len());
-    let b = least(rooms.table, table.len());
-    read(k, s, &mut store[..a], &mut table[..b])
+// The reading k in the front of store and table.
+fn read_within(
+    k: usize,
+    s: &[u8],
+    a: usize,
+    b: usize,
+    store: &mut [u8],
+    table: &mut [u8],
+) -> Spoken {
+    let store_len = least(a, store.len());
+    let table_len = least(b, table.len());
+    read(k, s, &mut store[..store_len], &mut table[..table_len])
 }
 
-// Whether the reading k answers this refusal and the words of the field, and leaves just these in store and table.
-fn agrees(
+fn is_answer(a: Spoken, refusal: usize, words: &[u8]) -> bool {
+    (a.refusal as usize == refusal) & (a.words == words_in(words)) & (a.bytes == bytes_in(words))
+}
+
+// Whether a call of the reading k answers what is due, and leaves just that in store and table.
+pub fn agrees(
+    case: usize,
     k: usize,
     s: &[u8],
     refusal: usize,
     words: &[u8],
-    rooms: Rooms,
     store: &mut [u8],
     table: &mut [u8],
 ) -> bool {
@@ -77,105 +128,68 @@ fn agrees(
     let table_len = table.len();
     repeat(store, store_len, GUARD);
     repeat(table, table_len, GUARD);
-    let a = read_within(k, s, rooms, store, table);
-    (a.refusal as usize == refusal)
-        & (a.words == words_in(words))
-        & (a.bytes == bytes_in(words))
-        & holds(words, store, table)
+    let a = read_within(
+        k,
+        s,
+        store_room(case, words),
+        table_room(case, words),
+        store,
+        table,
+    );
+    let due = due(case, refusal, words);
+    let given = given(case, words);
+    is_answer(a, due, given) & holds(given, store, table)
 }
 
-// With a byte too few in the store, and then in the table.
-fn compare_short(
-    r: Report,
-    k: usize,
-    s: &[u8],
-    least: Rooms,
-    store: &mut [u8],
-    table: &mut [u8],
-) -> Report {
-    if least.store == 0 {
-        return r;
+// Whether a field was left out, since its words are more than the table has room for.
+fn is_left_out(field: &[u8]) -> bool {
+    (field.len() == 1) & (byte_at(field, 0) == b'\\')
+}
+
+fn told_refusal(refusal: usize, field: &[u8]) -> usize {
+    if is_left_out(field) { SHORT } else { refusal }
+}
+
+fn told_words(field: &[u8]) -> &[u8] {
+    if is_left_out(field) {
+        return front(field, 0);
     }
-    if least.table == 0 {
-        return r;
-    }
-    let store_short = Rooms {
-        store: least.store - 1,
-        table: least.table,
-    };
-    let table_short = Rooms {
-        store: least.store,
-        table: least.table - 1,
-    };
-    let none = b"";
-    let r1 = r.count(k, agrees(k, s, SHORT, none, store_short, store, table));
-    r1.count(k, agrees(k, s, SHORT, none, table_short, store, table))
+    field
 }
 
-// With room to spare, with just enough, and too little.
-pub fn compare_words(
-    r: Report,
-    k: usize,
-    s: &[u8],
-    refusal: usize,
-    words: &[u8],
-    store: &mut [u8],
-    table: &mut [u8],
-) -> Report {
-    let all = Rooms {
-        store: BAD,
-        table: BAD,
-    };
-    let least = Rooms {
-        store: bytes_in(words),
-        table: pairs_in(words),
-    };
-    let r1 = r.count(k, agrees(k, s, refusal, words, all, store, table));
-    let r2 = r1.count(k, agrees(k, s, refusal, words, least, store, table));
-    compare_short(r2, k, s, least, store, table)
-}
-
-// A field that was left out has more words than there is room for.
-fn compare_field(
-    r: Report,
-    k: usize,
-    s: &[u8],
-    refusal: usize,
-    words: &[u8],
-    store: &mut [u8],
-    table: &mut [u8],
-) -> Report {
-    if (words.len() == 1) & (byte_at(words, 0) == b'\\') {
-        let most = Rooms {
-            store: BAD,
-            table: MOST_PAIRS,
-        };
-        return r.count(k, agrees(k, s, SHORT, &words[..0], most, store, table));
-    }
-    compare_words(r, k, s, refusal, words, store, table)
-}
-
-fn compare_fields(
-    r: Report,
+fn compare_words(
     s: &[u8],
     refusal: usize,
     line: &[u8],
     store: &mut [u8],
     table: &mut [u8],
 ) -> Report {
-    let mut now = r;
-    let mut k = 0;
-    while k < READERS {
-        now = compare_field(now, k, s, refusal, field(line, b'\t', k + 1), store, table);
-        k += 1;
+    let mut now = Report::none();
+    let mut i = 0;
+    while i < CALLS {
+        let k = i / CASES;
+        let told = field(line, b'\t', k + 1);
+        let agreed = agrees(
+            i % CASES,
+            k,
+            s,
+            told_refusal(refusal, told),
+            told_words(told),
+            store,
+            table,
+        );
+        now = now.count(k, agreed);
+        i += 1;
     }
     now
 }
 
 fn compare_roman(r: Report, s: &[u8], refusal: usize, value: usize) -> Report {
     let a = numbers::roman_value(s);
-    let r1 = r.count(ROMAN, a.refusal as usize == refusal);
-    r1.count(ROMAN, a.value as usize == value)
+    r.count(
+        ROMAN,
+        (a.refusal as usize == refusal) & (a.value as usize == value),
+    )
 }
 
 // Every reading of the text s, held against its line.
@@ -188,6 +202,6 @@ pub fn compare_text(line: &[u8], s: &[u8]) -> Report {
     }
     let mut store = [0u8; STORE_ROOM];
     let mut table = [0u8; TABLE_ROOM];
-    let r = compare_fields(Report::none(), s, refusal, line, &mut store, &mut table);
+    let r = compare_words(s, refusal, line, &mut store, &mut table);
     compare_roman(r, s, refusal, value)
 }

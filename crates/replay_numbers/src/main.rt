@@ -17,23 +17,11 @@ use recorded::file::load;
 use recorded::room::room;
 use recorded::tally::Report;
 use recorded::tally::Tally;
-use recorded::tally::say;
 use recorded::told::text_of;
 
-// The name of what was compared.
-fn say_name(what: usize) {
-    let names = b"cardinal ordinal year digits real letters roman_value malformed";
-    say(field(names, b' ', what));
-}
-
-// The next text, which is named where it differs and few did before it.
 fn add(t: Tally, r: Report) -> Tally {
-    if t.names(r) {
-        t.say_line();
-        say_name(r.first);
-        say(b"\n");
-    }
-    t.add(r)
+    let names = b"cardinal ordinal year digits real letters roman_value malformed";
+    t.add(r, field(names, b' ', r.first))
 }
 
 fn compare_line(line: &[u8], text: &mut [u8]) -> Report {

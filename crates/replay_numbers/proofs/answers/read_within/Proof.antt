@@ -1,3 +1,4 @@
+-- A part of a buffer is as long as its room. Assumes nothing.
 use borrow.Author.Needs.{needs}
 use mathlib.Core.Path.{sym}
 use lib.Seq.{length-take-le}

@@ -1,3 +1,4 @@
+-- The loop keeps the lengths of the three rooms. The measure is the calls that are left. Assumes nothing.
 use borrow.Author.Needs.{needs}
 use mathlib.Core.Path.{_≡_}
 use Prim.Native.Nat.{_-_}
@@ -6,10 +7,10 @@ use Rattle.replay_numbers.proofs.limit.compare_fives.Statement.{stateme
 use Rattle.replay_numbers.proofs.limit.compare_fives.Tie as tie
 
 abbrev Inv-loop : tie.InvT-loop
-Inv-loop s out₀ store₀ table₀ now₀ k₀ out store table now k = (length out ≡ length out₀) × (length store ≡ length store₀) × (length table ≡ length table₀)
+Inv-loop s out₀ store₀ table₀ now₀ i₀ out store table now i = (length out ≡ length out₀) × (length store ≡ length store₀) × (length table ≡ length table₀)
 
 abbrev μ-loop : tie.MeasureT-loop
-μ-loop s out₀ store₀ table₀ now₀ k₀ out store table now k = 6 - k
+μ-loop s out₀ store₀ table₀ now₀ i₀ out store table now i = 24 - i
 
 pub compare-fives-spec : {M : Type 1} → statement M
 compare-fives-spec =
@@ -19,6 +20,7 @@ compare-fives-spec =
     μ-loop
     (λ c κs. search needs)
     (λ c. search needs)
+    (λ c κs. search needs)
     (λ c κs. search needs)
     (λ c κs. search needs)
     (λ c κs. search needs)
