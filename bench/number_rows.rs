@@ -25,6 +25,9 @@ const SHORT: &[(&str, &str)] = &[
 /// Readers whose time is linear in the Rust too.
 const LONG: &[(&str, &str)] = &[("digits", "7"), ("cardinal", "7"), ("letters", "Zurich "), ("letters", "aé€𐍈")];
 
+/// Read in buffers of the exact size too, so that ours measures before it writes.
+const EXACT: &[(&str, &str, usize)] = &[("cardinal", "123456", 6), ("cardinal", "777777777777", 12), ("digits", "7", 64 * KIB)];
+
 /// A reader, and what its text repeats. The Rust's year, real and roman_value are quadratic, so all are timed at 8 KiB alone.
 #[rustfmt::skip]
 const DOUBLED: &[(&str, &str)] = &[
@@ -39,6 +42,9 @@ pub fn rows() -> Vec<Row> {
         SHORT.iter().map(|&(call, text)| row(call, format!("`{text}`"), text.as_bytes())).collect();
     for &(call, piece) in LONG {
         rows.push(row(call, format!("64 KiB of `{piece}`"), &drawn_out(piece, 64 * KIB)));
+    }
+    for &(call, piece, len) in EXACT {
+        rows.push(exact_row(call, format!("{len} bytes of `{piece}`, exact buffers"), &drawn_out(piece, len)));
     }
     rows
 }
@@ -63,6 +69,13 @@ fn row(call: &'static str, input: String, text: &[u8]) -> Row {
     Row { call, input, ours, rust }
 }
 
+fn exact_row(call: &'static str, input: String, text: &[u8]) -> Row {
+    let (mut ours, rust) = (Sides::new(call), Sides::new(call));
+    ours.cut_to(text);
+    let (ours, rust) = compared(&input, text, |text| ours.ours(text), |text| rust.rust(text));
+    Row { call, input, ours, rust }
+}
+
 /// Both sides of one call, and the buffers of ours. Each side answers a number that must be the same.
 struct Sides {
     reader: Option<usize>,
@@ -75,6 +88,13 @@ impl Sides {
         let reader = READERS.iter().position(|(name, _)| *name == call);
         assert!(reader.is_some() || call == ROMAN_VALUE, "no call {call}");
         Sides { reader, store: vec![0; STORE], table: vec![0; TABLE] }
+    }
+
+    /// Leaves the buffers just the room for the reading of `text`.
+    fn cut_to(&mut self, text: &[u8]) {
+        let words = READERS[self.reader.expect("a reader")].1(from_utf8(text).expect("UTF-8"));
+        self.store.truncate(words.iter().map(String::len).sum());
+        self.table.truncate(8 * words.len());
     }
 
     fn ours(&mut self, text: &[u8]) -> usize {

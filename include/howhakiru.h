@@ -14,8 +14,8 @@
  *
  * What holds for every call
  * -------------------------
- * A text is a pointer and a length in bytes. It needs no final NUL, and may hold NULs. Length 0 is the empty text, which
- * every call accepts; its pointer may be NULL. A buffer is lent the same way, so a buffer of length 0 may be NULL too. A
+ * A text is a pointer and a length in bytes. It needs no final NUL, and may hold NULs. Length 0 is the empty text, a text
+ * like any other; its pointer may be NULL. A buffer is lent the same way, so a buffer of length 0 may be NULL too. A
  * lent buffer overlaps neither another buffer nor a text. A call reads what it is lent, writes only the buffers that it
  * says it writes, keeps nothing once it has returned, and has no state: calls may run on several threads at once.
  *
@@ -197,8 +197,8 @@ hwk_words hwk_ordinal(const uint8_t *s, size_t s_len, uint8_t *store, size_t sto
 /* A year, or a number told in pairs. Only the digits count. "1984" is nineteen eighty four, "07" oh seven, "00" zero zero. An
  * odd count of digits starts with a single one: "747" is seven forty seven; but "500" is five hundred. The last four digits
  * are read as a cardinal where the two in their middle are 00 ("2005" is two thousand five, "0000" zero thousand), and else
- * in hundreds where the last two are ("1900" is nineteen hundred). In a pair before the last one a 0 in front has no word:
- * "190705" is nineteen seven oh five. */
+ * in hundreds where the last two are ("1900" is nineteen hundred). In a pair before the last one a 0 in front has no word,
+ * and 00 has none: "190705" is nineteen seven oh five, "000012" twelve. */
 hwk_words hwk_year(const uint8_t *s, size_t s_len, uint8_t *store, size_t store_len, uint8_t *table, size_t table_len);
 
 /* One word for each digit, nothing for any other character: "555-0123" is five five five zero one two three. */

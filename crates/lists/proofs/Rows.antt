@@ -1,10 +1,10 @@
 -- Numbers as bytes, and texts in rows, at every width. Assumes nothing.
 use mathlib.Core.Path.{_≡_, refl, ap, _∙_}
 use mathlib.Core.List.{List, [], _∷_, _++_, append-assoc}
-use Prim.Native.Nat.{ℕ, zero, suc, _+_, _-_, _*_, _^_, _/_, _%_, _≤_, _<_}
+use Prim.Native.Nat.{ℕ, zero, suc, _+_, _-_, _^_, _/_, _≤_, _<_}
 use native.Mathlib.Nat.{pow-suc}
 use native.Mathlib.Omega.{arith}
-use lib.ListN.{length, take, getD, replicate, length-append, length-replicate}
+use lib.ListN.{length, getD, replicate, length-append, length-replicate}
 use lib.Seq.{take-append-seam, getD-append-seam}
 use Rattle.lists.specs.LittleEndian.{leValue, leBytes}
 use Rattle.lists.specs.Packed.{pack, unpack}

@@ -45,7 +45,7 @@ pub struct Numeral {
 }
 
 // Says what a reader reads s as.
-pub fn say_by(reader: Reader, s: &[u8], store: &mut [u8], table: &mut [u8], pen: Pen) -> Pen
+fn say_by(reader: Reader, s: &[u8], store: &mut [u8], table: &mut [u8], pen: Pen) -> Pen
     ensures { λ r. ⌜ sink (now (store .exit)) (now (table .exit)) r ≡ emitAll (spelled (wordsBy reader (now (s .entry)))) (sink (now (store .entry)) (now (table .entry)) pen) ⌝ }
 {
     match reader {

@@ -1,18 +1,17 @@
 -- `cardinalFew` is its own step, at each length. Assumes nothing.
-use mathlib.Core.Path.{_≡_, refl, sym, ap, _∙_, subst⁻¹}
+use mathlib.Core.Path.{_≡_, refl, ap, _∙_, subst⁻¹}
 use mathlib.Core.Bool.{Bool, true, false, cond, _&&_, _||_}
 use mathlib.Core.Logic.{⊎-elim}
 use mathlib.Core.List.{List, [], _∷_, _++_, map}
-use Prim.Native.Nat.{ℕ, zero, suc, _+_, _-_, _*_, _≤_, _<_}
+use Prim.Native.Nat.{ℕ, _+_, _-_, _*_, _≤_, _<_}
 use native.Mathlib.Omega.{arith}
-use lib.Dec.{ltb, eqb}
+use lib.Dec.{eqb}
 use lib.ListN.{length, take, drop, getD, length-take, length-drop}
 use lib.Seq.{length-take-le}
 use borrow.Author.Tests.{lt-ltb, le-ltb}
-use Rattle.lists.specs.Recur.{recur}
 use Rattle.lexicon.specs.Lexicon.{onesAt}
 use Rattle.lists.proofs.Sets.{le-or-lt}
-use Rattle.lists.proofs.Recursion.{Local, recur-eq, cond-cong}
+use Rattle.lists.proofs.Recursion.{Local, recur-eq}
 use Rattle.numerals.specs.Words.{Word, one, teen, ten, hundred, scale}
 use Rattle.numerals.specs.Cardinal.{pair, scaleFor, join, splitAt, byScale, cardinalStep, cardinalFew}
 use Rattle.numerals.specs.Walk.{numberOf, HeldSink, holds, holdAll, silentOf}

@@ -1,12 +1,10 @@
 -- What is written when the word that is held is flushed, as it is or in its ordinal form. Assumes nothing.
-use mathlib.Core.Path.{_≡_, refl, sym, ap, _∙_}
-use mathlib.Core.Bool.{Bool, true, false, cond}
+use mathlib.Core.Path.{_≡_, refl, ap, _∙_}
 use mathlib.Core.List.{List, [], _∷_, _++_, map, map-append}
-use Prim.Native.Nat.{ℕ, zero, suc, _+_, _≤_, _<_}
+use Prim.Native.Nat.{ℕ, _+_, _≤_, _<_}
 use native.Mathlib.Omega.{arith}
-use lib.Dec.{leb, eqb}
 use lib.ListN.{length}
-use borrow.Author.Tests.{ne-eqb, le-leb, lt-leb, lt-ltb}
+use borrow.Author.Tests.{ne-eqb, le-leb, lt-leb}
 use Rattle.lexicon.specs.Lexicon.{wordOf, onesAt, ordinalStep}
 use Rattle.sink.specs.Sink.{Sink, emit, emitAll}
 use Rattle.numerals.specs.Words.{Word, one, other, spell, spelled}

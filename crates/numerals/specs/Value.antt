@@ -4,7 +4,7 @@ use Prim.Native.Nat.{ℕ, _+_, _*_, _^_}
 use Rattle.numerals.specs.Words.{Word, one, teen, ten, hundred, scale, other}
 
 -- "units, teens and tens add, hundred multiplies by 100, scale words by their power of ten": t is what the scale words so far
--- have closed, c what stands after the last of them
+-- have closed, c what stands after the last of them. `cardinal` has no other word
 unfoldable pub valueFrom : ℕ → ℕ → List Word → ℕ
 valueFrom t c [] = t + c
 valueFrom t c (one d ∷ ws) = valueFrom t (c + d) ws

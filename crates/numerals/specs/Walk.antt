@@ -49,7 +49,9 @@ holdAll (k ∷ ks) h = holdAll ks (holds k h)
 
 -- up to three digits that have no words
 unfoldable pub silentOf : List ℕ → Bool
-silentOf s = (eqb (length s) 2 && (eqb (getD s 0 0) 0 && eqb (getD s 1 0) 0)) || (eqb (length s) 3 && (eqb (getD s 0 0) 0 && (eqb (getD s 1 0) 0 && eqb (getD s 2 0) 0)))
+silentOf s =
+    (eqb (length s) 2 && (eqb (getD s 0 0) 0 && eqb (getD s 1 0) 0))
+    || (eqb (length s) 3 && (eqb (getD s 0 0) 0 && (eqb (getD s 1 0) 0 && eqb (getD s 2 0) 0)))
 
 -- the number of the ordinal form of word k, or that of "zeroth"
 unfoldable pub ordinalNumber : ℕ → ℕ

@@ -1,5 +1,4 @@
 // The digits of a text, picked from its own bytes, as far as they are few.
-ghost use mathlib.Core.Path.{_≡_};
 ghost use Rattle.numerals.specs.Walk.{FewOf};
 
 // The most digits of a number that is read by scales.

@@ -14,7 +14,7 @@ use Rattle.lists.specs.Bytes.{bytes, lower, span, starts, onto}
 use Rattle.lists.specs.Classes.{continuation}
 use Rattle.lists.proofs.Recursion.{recur-induct, cond-elim}
 use Rattle.sink.specs.Words.{storeOf}
-use Rattle.numerals.specs.Words.{Word, one, other, spell, spelled}
+use Rattle.numerals.specs.Words.{Word, other, spell, spelled}
 use Rattle.numerals.specs.Cardinal.{clean, cardinalOf}
 use Rattle.numerals.proofs.Room.{Room, room-none, room-cons, room-append, room-more, one-short, hundred-short, cardinalOf-room, clean-le, cardinal-room, ones-room, digits-room}
 use Rattle.readings.specs.Year.{zeroAt, yearStep, yearOf, year}

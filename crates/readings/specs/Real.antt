@@ -1,5 +1,5 @@
 -- Document 01, "Number words": `real`. Definitions only.
-use mathlib.Core.Bool.{cond, not}
+use mathlib.Core.Bool.{cond}
 use mathlib.Core.List.{List, [], _∷_, _++_}
 use Prim.Native.Nat.{ℕ, _+_}
 use Prim.Native.Char.{code}

@@ -1,6 +1,6 @@
 -- What the walkers of this crate pass on to each other. Definitions only; no public promise is made of them.
 use mathlib.Core.Path.{_≡_}
-use mathlib.Core.Bool.{Bool, cond, not, _||_}
+use mathlib.Core.Bool.{Bool, cond, _||_}
 use mathlib.Core.List.{List, [], _∷_, _++_}
 use Prim.Native.Nat.{ℕ, suc, _+_, _≤_}
 use Prim.Native.Char.{code}
@@ -8,11 +8,9 @@ use lib.Dec.{ltb}
 use lib.ListN.{length, take, drop, getD}
 use Rattle.lists.specs.Bytes.{bytes, span, starts}
 use Rattle.lists.specs.Classes.{continuation}
-use Rattle.sink.specs.Sink.{Sink, emitAll}
-use Rattle.numerals.specs.Words.{Word, one, other, spelled}
+use Rattle.numerals.specs.Words.{Word, one, other}
 use Rattle.numerals.specs.Cardinal.{clean, pair}
 use Rattle.readings.specs.Real.{eAt, pointed}
-use Rattle.readings.specs.Letters.{letterWord}
 use Rattle.readings.specs.declared.turn.Picked.{Picked}
 
 -- the first digit of a text, and the place from which the others follow

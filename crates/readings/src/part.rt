@@ -15,8 +15,6 @@ use numerals::saying::say;
 use numerals::saying::say_digits;
 use sink::Pen;
 ghost use mathlib.Core.Path.{_≡_};
-ghost use Prim.Native.Nat.{_≤_};
-ghost use lib.ListN.{length};
 ghost use Rattle.sink.specs.Sink.{sink, emitAll};
 ghost use Rattle.numerals.specs.Words.{spelled};
 ghost use Rattle.readings.specs.Real.{pointed, real};

@@ -4,7 +4,6 @@ use lists::byte_at;
 use lists::span_of;
 use numerals::saying::digit_value;
 use sink::Pen;
-ghost use mathlib.Core.Path.{_≡_};
 ghost use Rattle.readings.specs.Walk.{PickedFrom};
 
 // Where the pen stands, and how many bytes were read.

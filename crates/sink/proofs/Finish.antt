@@ -14,9 +14,9 @@ use Rattle.lists.specs.Bytes.{over}
 use Rattle.lists.specs.LittleEndian.{leBytes}
 use Rattle.lists.proofs.Sets.{sets-append, sets-front, le-or-lt}
 use Rattle.admit.specs.Refusals.{textLimit, textRefusal, numberDue, textDue}
-use Rattle.admit.proofs.Calls.{call-refused, call-accepted, due-refused, due-accepted}
+use Rattle.admit.proofs.Calls.{call-refused, due-refused, due-accepted}
 use Rattle.sink.specs.Sink.{top, pairOf, pairBytes, Sink, sink, emit, emitAll}
-use Rattle.sink.specs.Words.{storeOf, tableOf, nothingWritten, written, shortFor, short, wordsCall, asWords, startPen, spokenBy, refusedBy}
+use Rattle.sink.specs.Words.{storeOf, tableOf, shortFor, short, wordsCall, asWords, startPen, spokenBy, refusedBy}
 use Rattle.sink.specs.declared.Pen.{Pen}
 use Rattle.sink.specs.declared.Spoken.{Spoken}
 

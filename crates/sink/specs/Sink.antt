@@ -1,4 +1,5 @@
--- What the writer of words does to the two lent buffers, as functions on lists. Definitions only.
+-- What the writer of words does to the two lent buffers, as functions on lists: walkers promise it to each other. Of all this
+-- a public promise speaks of `pairOf` and `pairBytes` alone. Definitions only.
 use mathlib.Core.List.{List, [], _∷_, _++_}
 use Prim.Native.Nat.{ℕ, _+_, _*_, min}
 use lib.ListN.{length}

@@ -54,6 +54,8 @@ wordsCall s ws store table =
 abbrev pub asWords : Spoken → List ℕ → List ℕ → Call Written
 asWords r store table = record { refusal = r .refusal; value = record { words = r .words; bytes = r .bytes; store = store; table = table } }
 
+-- ---- no public promise is made of these
+
 -- a pen at the start of both buffers
 abbrev pub startPen : Pen
 startPen = record { at = 0; words = 0 }

@@ -3,8 +3,7 @@
 use lists::copy;
 use lists::put;
 ghost use mathlib.Core.Path.{_≡_};
-ghost use Prim.Native.Nat.{_+_, _*_, _≤_, min};
-ghost use lib.ListN.{length};
+ghost use Prim.Native.Nat.{_+_, _*_, min};
 ghost use lib.Seq.{sets};
 ghost use Rattle.sink.specs.Sink.{top, pairOf, pairBytes, sink, moved, emit};
 ghost use Rattle.sink.specs.Words.{shortFor, startPen, spokenBy, refusedBy};
