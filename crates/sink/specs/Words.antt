@@ -27,7 +27,7 @@ pub record Written : Type 0 where
   pub store : List ℕ
   pub table : List ℕ
 
--- "every count 0", and "writes nothing"
+-- "with every count and value 0", and "writes nothing"
 abbrev pub nothingWritten : List ℕ → List ℕ → Written
 nothingWritten store table = record { words = 0; bytes = 0; store = store; table = table }
 
