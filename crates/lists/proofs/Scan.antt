@@ -1,6 +1,6 @@
 -- Laws of `all`, `span`, `count`, `keep`, `afterLast` and `sameBy` along a list, over the test, for loops that count. Assumes nothing.
 use mathlib.Core.Path.{_≡_, refl, sym, ap, _∙_}
-use mathlib.Core.Bool.{Bool, true, false, cond, _&&_, and-false, and-assoc}
+use mathlib.Core.Bool.{Bool, true, false, cond, _&&_, and-false, and-assoc, true≢false}
 use mathlib.Core.List.{List, [], _∷_, _++_}
 use Prim.Native.Nat.{ℕ, zero, suc, _+_, _-_, _≤_, _<_}
 use native.Mathlib.Numerals.{add-one}
@@ -141,3 +141,36 @@ keep-le p (b ∷ s) = go (p b) (keep-le p s)
     go : (t : Bool) → length (keep p s) ≤ length s → length (cond t (b ∷ keep p s) (keep p s)) ≤ suc (length s)
     go true h = omega arith
     go false h = omega arith
+
+-- a scan of bytes that all pass goes to the end, and otherwise stops at one that fails
+pub all-span : (p : ℕ → Bool) (s : List ℕ) → all p s ≡ true → span p s ≡ length s
+unfolding all span
+all-span p [] h = refl
+all-span p (b ∷ s) h = go (p b) h (all-span p s)
+  where
+    go : (t : Bool) → (t && all p s) ≡ true → (all p s ≡ true → span p s ≡ length s) → cond t (suc (span p s)) 0 ≡ suc (length s)
+    go true h i = ap suc (i h)
+    go false h i = cc
+
+pub span-short : (p : ℕ → Bool) (s : List ℕ) → all p s ≡ false → span p s < length s
+unfolding all span
+span-short p [] h = absurd (true≢false h)
+span-short p (b ∷ s) h = go (p b) h (span-short p s)
+  where
+    go : (t : Bool) → (t && all p s) ≡ false → (all p s ≡ false → span p s < length s) → cond t (suc (span p s)) 0 < suc (length s)
+    go true h i = let k = i h in omega arith
+    go false h i = omega arith
+
+pub span-fails : (p : ℕ → Bool) (s : List ℕ) → span p s < length s → p (getD s (span p s) 0) ≡ false
+unfolding span
+span-fails p [] h = absurd (omega arith)
+span-fails p (b ∷ s) h = go (p b) refl h (span-fails p s)
+  where
+    go : (t : Bool) → p b ≡ t → cond t (suc (span p s)) 0 < suc (length s) → (span p s < length s → p (getD s (span p s) 0) ≡ false) → p (getD (b ∷ s) (cond t (suc (span p s)) 0) 0) ≡ false
+    go true e h i = i (omega arith)
+    go false e h i = e
+
+pub span-some : (p : ℕ → Bool) (s : List ℕ) → 0 < length s → p (getD s 0 0) ≡ true → 0 < span p s
+unfolding span
+span-some p [] h e = absurd (omega arith)
+span-some p (b ∷ s) h e = rw e (omega arith)
