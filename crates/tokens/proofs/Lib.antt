@@ -1,2 +1,4 @@
 pub mod Forward
 pub mod Count
+pub mod Cutting
+pub mod Records
