@@ -26,9 +26,10 @@ cut-marks run m e h =
     let a : all leadingMark run ≡ true = span-full leadingMark run (omega arith) in
     let k : span leadingMark run ≡ length run = omega arith in
     let l : length (lead leadingMark run) ≡ length run = length-take-le (span leadingMark run) run (omega arith) ∙ k in
-    let r : after leadingMark run ≡ [] = drop-of-length-le run {i = span leadingMark run} (omega arith) in
-    (record { name = rw a; punctuation = rw a (omega arith); within = omega arith },
-     record { name = omega arith; punctuation = rw r (omega arith); within = omega arith })
+    let r : after leadingMark run ≡ [] = drop-of-length-le run {i = span leadingMark run} (omega arith) in (
+      record { name = rw a; punctuation = rw a (omega arith); within = omega arith },
+      record { name = omega arith; punctuation = rw r (omega arith); within = omega arith },
+    )
 
 -- another one
 pub cut-named : (run : List ℕ) (ends : Bool) (m k : ℕ) → m ≡ span leadingMark run → (m ≡ length run → ⊥) → k ≡ afterLast unmarked (drop (m + 1) run) → CutAt run ends m ((m + 1) + k)
@@ -50,12 +51,13 @@ cut-named run ends m k e h q =
     go false x = x
 
 -- the parts of a run do not ask what its whitespace is
-same-name : (w run : List ℕ) (ends : Bool) → (cut w run ends .prepunctuation ≡ cut [] run ends .prepunctuation) × (cut w run ends .name ≡ cut [] run ends .name) × (cut w run ends .whitespace ≡ w)
+pub same-name : (w run : List ℕ) (ends : Bool) → (cut w run ends .prepunctuation ≡ cut [] run ends .prepunctuation) × (cut w run ends .name ≡ cut [] run ends .name) × (cut w run ends .whitespace ≡ w)
 unfolding cut
 same-name w run ends = go (ends && all leadingMark run)
   where
     x : List ℕ → Bool → Token
     x w t = cond t (record { whitespace = w; prepunctuation = []; name = run; punctuation = [] }) (marked w (lead leadingMark run) (after leadingMark run))
+
     go : (t : Bool) → (x w t .prepunctuation ≡ x [] t .prepunctuation) × (x w t .name ≡ x [] t .name) × (x w t .whitespace ≡ w)
     go true = (refl, refl, refl)
     go false = (refl, refl, refl)
@@ -94,8 +96,8 @@ module _ (s : List ℕ) (at q r : ℕ) (eq : q ≡ span whitespace (drop at s)) 
   run-ends : leb (length s) (at + q + r) ≡ eqb (length (afterRun (drop at s))) 0
   run-ends =
       let n : length (afterRun (drop at s)) ≡ length s - (at + q + r) =
-              ap (λ (d : List ℕ). length (after nonWhitespace d)) (sym run-white) ∙ length-drop (span nonWhitespace (drop (at + q) s)) (drop (at + q) s)
-              ∙ ap (λ (k : ℕ). k - span nonWhitespace (drop (at + q) s)) (length-drop (at + q) s) ∙ omega arith in
+      ap (λ (d : List ℕ). length (after nonWhitespace d)) (sym run-white) ∙ length-drop (span nonWhitespace (drop (at + q) s)) (drop (at + q) s)
+      ∙ ap (λ (k : ℕ). k - span nonWhitespace (drop (at + q) s)) (length-drop (at + q) s) ∙ omega arith in
       rw n
       (⊎-elim (λ (h : length s ≤ at + q + r). le-leb _ _ h ∙ sym (eq-eqb (length s - (at + q + r)) 0 (omega arith)))
       (λ (h : at + q + r < length s). lt-leb _ _ h ∙ sym (ne-eqb (length s - (at + q + r)) 0 (λ z. omega arith))) (le-or-lt (length s) (at + q + r)))

@@ -55,6 +55,7 @@ cut-joined white run ends = go (ends && all leadingMark run)
   where
     rest : List ℕ
     rest = after leadingMark run
+
     go : (t : Bool) → storeOf (parts (cond t (record { whitespace = white; prepunctuation = []; name = run; punctuation = [] }) (marked white (lead leadingMark run) rest))) ≡ white ++ run
     go true = ap (λ (r : List ℕ). white ++ r) (append-nil run)
     go false =
@@ -82,6 +83,7 @@ tokens-induct P none more s = at (suc (length s)) s (omega arith)
     go : (n : ℕ) (s : List ℕ) → length s < suc n → ((r : List ℕ) → length r < n → P r) → (t : Bool) → all whitespace s ≡ t → P s
     go n s l i true e = none s e
     go n s l i false e = let k = afterRun-less s e in more s e (i (afterRun s) (omega arith))
+
     at : (n : ℕ) (s : List ℕ) → length s < n → P s
     at zero s l = absurd (omega arith)
     at (suc n) s l = go n s l (at n) (all whitespace s) refl

@@ -122,10 +122,30 @@ fn put_record(table: &mut [u8], place: usize, t: Places)
     requires { ⌜ place + recordBytes ≤ length (now table) ⌝ }
     ensures { λ _. ⌜ now (table .exit) ≡ sets (now (table .entry)) place (recordAt t) ⌝ }
 {
-    put_pair_at(table, place, t.whitespace, minus(t.prepunctuation, t.whitespace));
-    put_pair_at(table, place + PAIR, t.prepunctuation, minus(t.name, t.prepunctuation));
-    put_pair_at(table, place + 2 * PAIR, t.name, minus(t.punctuation, t.name));
-    put_pair_at(table, place + 3 * PAIR, t.punctuation, minus(t.end, t.punctuation));
+    put_pair_at(
+        table,
+        place,
+        t.whitespace,
+        minus(t.prepunctuation, t.whitespace),
+    );
+    put_pair_at(
+        table,
+        place + PAIR,
+        t.prepunctuation,
+        minus(t.name, t.prepunctuation),
+    );
+    put_pair_at(
+        table,
+        place + 2 * PAIR,
+        t.name,
+        minus(t.punctuation, t.name),
+    );
+    put_pair_at(
+        table,
+        place + 3 * PAIR,
+        t.punctuation,
+        minus(t.end, t.punctuation),
+    );
 }
 
 // Writes the records of all tokens, and answers how many there are.
