@@ -69,3 +69,14 @@ first-joined s =
     ∙ append-assoc (lead whitespace s) (lead nonWhitespace (afterWhite s)) (afterRun s)
     ∙ ap (λ (r : List ℕ). lead whitespace s ++ r) (take-append-drop (span nonWhitespace (afterWhite s)) (afterWhite s))
     ∙ take-append-drop (span whitespace s) s
+
+-- induction along the tokens
+pub tokens-induct : (P : List ℕ → Type 0) → ((s : List ℕ) → all whitespace s ≡ true → P s) → ((s : List ℕ) → all whitespace s ≡ false → P (afterRun s) → P s) → (s : List ℕ) → P s
+tokens-induct P none more s = at (suc (length s)) s (omega arith)
+  where
+    go : (n : ℕ) (s : List ℕ) → length s < suc n → ((r : List ℕ) → length r < n → P r) → (t : Bool) → all whitespace s ≡ t → P s
+    go n s l i true e = none s e
+    go n s l i false e = let k = afterRun-less s e in more s e (i (afterRun s) (omega arith))
+    at : (n : ℕ) (s : List ℕ) → length s < n → P s
+    at zero s l = absurd (omega arith)
+    at (suc n) s l = go n s l (at n) (all whitespace s) refl
