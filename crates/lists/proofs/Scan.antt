@@ -206,3 +206,20 @@ pub span-some : (p : ℕ → Bool) (s : List ℕ) → 0 < length s → p (getD s
 unfolding span
 span-some p [] h e = absurd (omega arith)
 span-some p (b ∷ s) h e = rw e (omega arith)
+
+pub span-full : (p : ℕ → Bool) (s : List ℕ) → length s ≤ span p s → all p s ≡ true
+span-full p s h = go (all p s) refl
+  where
+    go : (t : Bool) → all p s ≡ t → all p s ≡ true
+    go true e = e
+    go false e = let k : span p s < length s = span-short p s e in absurd (omega arith)
+
+pub last-le : (p : ℕ → Bool) (s : List ℕ) → afterLast p s ≤ length s
+unfolding afterLast
+last-le p [] = omega arith
+last-le p (b ∷ s) = go (eqb (afterLast p s) 0) (p b) (last-le p s)
+  where
+    go : (t u : Bool) → afterLast p s ≤ length s → cond t (cond u 1 0) (suc (afterLast p s)) ≤ suc (length s)
+    go true true h = omega arith
+    go true false h = omega arith
+    go false u h = omega arith

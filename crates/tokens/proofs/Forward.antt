@@ -6,7 +6,7 @@ use Prim.Native.Nat.{ℕ, zero, suc, _+_, _-_, _≤_, _<_}
 use native.Mathlib.Nat.{add-zero}
 use native.Mathlib.Omega.{arith}
 use lib.Dec.{eqb}
-use lib.ListN.{length, take, drop, getD, length-drop, take-append-drop}
+use lib.ListN.{length, take, drop, getD, length-append, length-drop, take-append-drop}
 use lib.Seq.{getD-drop}
 use Rattle.lists.specs.Bytes.{all, span, lead, after}
 use Rattle.lists.specs.Classes.{whitespace, nonWhitespace, leadingMark}
@@ -61,6 +61,11 @@ cut-joined white run ends = go (ends && all leadingMark run)
         ap (λ (r : List ℕ). white ++ (lead leadingMark run ++ (take (nameSize rest) rest ++ r))) (append-nil (drop (nameSize rest) rest))
         ∙ ap (λ (r : List ℕ). white ++ (lead leadingMark run ++ r)) (take-append-drop (nameSize rest) rest)
         ∙ ap (λ (r : List ℕ). white ++ r) (take-append-drop (span leadingMark run) run)
+
+-- the bytes of a token's parts
+pub size-parts : (t : Token) → length (storeOf (parts t)) ≡ length (t .whitespace) + (length (t .prepunctuation) + (length (t .name) + length (t .punctuation)))
+unfolding storeOf
+size-parts t = simp (length-append, append-nil) refl
 
 -- the text is its first token's parts and what follows them
 pub first-joined : (s : List ℕ) → storeOf (parts (firstToken s)) ++ afterRun s ≡ s

@@ -1,3 +1,5 @@
 pub mod Forward
 pub mod Count
 pub mod Texts
+pub mod Cutting
+pub mod Records
