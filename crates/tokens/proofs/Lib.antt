@@ -1,5 +1,6 @@
 pub mod Forward
 pub mod Count
+pub mod Texts
 pub mod Cutting
 pub mod Records
 pub mod Walks
