@@ -14,14 +14,18 @@ use Rattle.lists.specs.Bytes.{over}
 use Rattle.admit.specs.Refusals.{numberDue, textLimit, textDue, textRefusal}
 use Rattle.admit.proofs.Calls.{call-refused, due-refused, due-accepted}
 use Rattle.tokens.specs.Tokens.{tokens}
-use Rattle.tokens.specs.Table.{recordBytes, filledCall, asFilled}
+use Rattle.tokens.specs.Table.{recordBytes, records, filledCall, asFilled}
+use Rattle.tokens.proofs.Records.{records-length}
 use Rattle.tokens.specs.declared.Tokens.{Tokens}
 
 -- whether so many records fit
-pub records-fit : (len n : ℕ) → ltb len (recordBytes * n) ≡ ltb (len / recordBytes) n
+records-fit : (len n : ℕ) → ltb len (recordBytes * n) ≡ ltb (len / recordBytes) n
 records-fit len n =
     ⊎-elim (λ (h : recordBytes * n ≤ len). le-ltb _ _ h ∙ sym (le-ltb (len / recordBytes) n (omega arith)))
     (λ (h : len < recordBytes * n). lt-ltb _ _ h ∙ sym (lt-ltb (len / recordBytes) n (omega arith))) (le-or-lt (recordBytes * n) len)
+
+pub records-short : (s old : List ℕ) → ltb (length old) (length (records 0 (tokens s))) ≡ ltb (length old / recordBytes) (length (tokens s))
+records-short s old = rw (records-length 0 (tokens s)) (records-fit (length old) (length (tokens s)))
 
 -- `result` is what is written for the text s, whose refusal n is tested first; `old` is the lent buffer
 module _ (s result old : List ℕ) (n : ℕ) (due : n ≡ textRefusal textLimit s) where
