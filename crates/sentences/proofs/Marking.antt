@@ -9,9 +9,10 @@ use lib.ListN.{length, set}
 use lib.Seq.{sets}
 use Rattle.admit.specs.Utf8.{utf8}
 use Rattle.admit.specs.Refusals.{numberDue, textLimit, textRefusal}
+use Rattle.admit.proofs.Calls.{call-refused, call-accepted}
 use Rattle.tokens.specs.Tokens.{Token, tokens}
-use Rattle.sentences.specs.Sentences.{starts, startsAfter, breakAfter, told, kept, flag, isSet, fresh}
-use Rattle.sentences.specs.Calls.{flags, startBytes, stepDue, firstDue}
+use Rattle.sentences.specs.Sentences.{starts, startsAfter, breakAfter, told, kept, flag, isSet, fresh, breaks}
+use Rattle.sentences.specs.Calls.{flags, startBytes, stepDue, stepCall, asStep, firstDue}
 use Rattle.sentences.specs.declared.State.{State}
 use Rattle.sentences.proofs.Kept.{marksFrom, marks-starts}
 
@@ -77,3 +78,13 @@ pub three-due : (w n p : List ℕ) → firstDue (firstDue (textRefusal textLimit
 three-due w n p =
     ap (λ (k : ℕ). firstDue k (textRefusal textLimit p)) (two (ltb textLimit (length w)) (utf8 w) (ltb textLimit (length n)) (utf8 n))
     ∙ two (ltb textLimit (length w) || ltb textLimit (length n)) (utf8 w && utf8 n) (ltb textLimit (length p)) (utf8 p)
+
+-- k is the number that the code has for the three texts
+module _ (st : State) (w n p : List ℕ) (k : ℕ) (due : k ≡ numberDue (stepDue w n p)) where
+  pub step-refused : (k ≡ 0 → ⊥) → asStep (record { refusal = k; breaks = false; state = st }) ≡ stepCall st w n p
+  unfolding stepCall
+  step-refused z = call-refused _ _ k (numberDue (stepDue w n p)) z due
+
+  pub step-done : k ≡ 0 → {b : Bool} {st′ : State} → b ≡ breaks st w n → st′ ≡ kept n p → asStep (record { refusal = 0; breaks = b; state = st′ }) ≡ stepCall st w n p
+  unfolding stepCall
+  step-done z {b} {st′} e f = call-accepted _ _ _ (numberDue (stepDue w n p)) (sym z ∙ due) (λ j. record { breaks = e j; state = f j })
