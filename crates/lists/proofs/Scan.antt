@@ -3,6 +3,7 @@ use mathlib.Core.Path.{_≡_, refl, sym, ap, _∙_}
 use mathlib.Core.Bool.{Bool, true, false, cond, _&&_, and-false, and-assoc, true≢false}
 use mathlib.Core.List.{List, [], _∷_, _++_}
 use Prim.Native.Nat.{ℕ, zero, suc, _+_, _-_, _≤_, _<_}
+use native.Mathlib.Nat.{add-zero}
 use native.Mathlib.Numerals.{add-one}
 use native.Mathlib.Omega.{arith}
 use lib.Dec.{eqb}
@@ -186,6 +187,15 @@ span-append p (b ∷ s) t = go (p b) (all p s) (span-append p s t)
     go true true i = omega arith
     go true false i = omega arith
     go false v i = refl
+
+-- a scan stops before a byte that fails
+pub span-before : (p : ℕ → Bool) (s : List ℕ) (c : ℕ) (t : List ℕ) → p c ≡ false → span p (s ++ c ∷ t) ≡ span p s
+unfolding span
+span-before p s c t h = span-append p s (c ∷ t) ∙ go (all p s) refl
+  where
+    go : (u : Bool) → all p s ≡ u → cond u (length s + cond (p c) (suc (span p t)) 0) (span p s) ≡ span p s
+    go true e = rw (h, all-span p s e) (add-zero (length s))
+    go false e = refl
 
 -- no byte passes p where all pass a test that p excludes
 pub last-none : (p q : ℕ → Bool) → ((b : ℕ) → q b ≡ true → p b ≡ false) → (s : List ℕ) → all q s ≡ true → afterLast p s ≡ 0

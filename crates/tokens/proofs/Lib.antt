@@ -1,2 +1,3 @@
 pub mod Forward
 pub mod Joined
+pub mod Glue
