@@ -1,7 +1,7 @@
 -- Joined, the pairs give the text less its trailing whitespace, and each part is where its pair says. Assumes nothing.
 use mathlib.Core.Path.{_≡_, refl, sym, ap, ap₂, _∙_}
 use mathlib.Core.Bool.{Bool, true, false}
-use mathlib.Core.List.{List, [], _∷_, _++_, append-assoc, append-nil}
+use mathlib.Core.List.{List, [], _∷_, _++_, flatMap, append-assoc, append-nil}
 use Prim.Native.Nat.{ℕ, zero, suc, _+_, _*_, _^_, _<_}
 use native.Mathlib.Nat.{add-zero, add-assoc}
 use native.Mathlib.Omega.{arith}
@@ -60,9 +60,8 @@ tokens-joined =
     (λ s h i. rw (tokens-more s h, last-first s h, take-add (firstSize s), ← afterRun-drop s, i) (ap (λ (x : List ℕ). x ++ take (afterLast nonWhitespace (afterRun s)) (afterRun s)) (first-take s)))
 
 -- the parts of all tokens in their order
-unfoldable pub allParts : List Token → List (List ℕ)
-allParts [] = []
-allParts (t ∷ ts) = parts t ++ allParts ts
+abbrev pub allParts : List Token → List (List ℕ)
+allParts ts = flatMap parts ts
 
 store-append : (xs ys : List (List ℕ)) → storeOf (xs ++ ys) ≡ storeOf xs ++ storeOf ys
 unfolding storeOf
@@ -77,19 +76,19 @@ table-append at (x ∷ xs) ys =
     (sym (append-assoc (pairOf at (length x)) (tableOf (at + length x) xs) (tableOf (at + length x + length (storeOf xs)) ys)))
 
 joined-store : (ts : List Token) → joined ts ≡ storeOf (allParts ts)
-unfolding joined allParts storeOf
+unfolding joined flatMap storeOf
 joined-store [] = refl
 joined-store (t ∷ ts) = rw (joined-store ts) (sym (store-append (parts t) (allParts ts)))
 
 -- the records are one table of all parts
 pub records-table : (at : ℕ) (ts : List Token) → records at ts ≡ tableOf at (allParts ts)
-unfolding records recordOf allParts tableOf
+unfolding records recordOf flatMap tableOf
 records-table at [] = refl
 records-table at (t ∷ ts) = rw (records-table (at + size t) ts) (sym (table-append at (parts t) (allParts ts)))
 
 -- part j of token i among all parts
 parts-at : (ts : List Token) (none : Token) (i j : ℕ) → i < length ts → j < 4 → (4 * i + j < length (allParts ts)) × (getD (allParts ts) (4 * i + j) [] ≡ getD (parts (getD ts i none)) j [])
-unfolding allParts
+unfolding flatMap
 parts-at [] none i j h k = absurd (omega arith)
 parts-at (t ∷ ts) none zero j h k =
     let e : 4 * 0 + j ≡ j = omega arith in
