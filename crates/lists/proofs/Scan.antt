@@ -1,6 +1,6 @@
 -- Laws of `all`, `span`, `count`, `keep`, `afterLast` and `sameBy` along a list, over the test, for loops that count. Assumes nothing.
 use mathlib.Core.Path.{_≡_, refl, sym, ap, _∙_}
-use mathlib.Core.Bool.{Bool, true, false, cond, _&&_, and-false, and-assoc, true≢false}
+use mathlib.Core.Bool.{Bool, true, false, cond, _&&_, and-false, and-assoc, and-eq-true-iff, true≢false}
 use mathlib.Core.List.{List, [], _∷_, _++_}
 use Prim.Native.Nat.{ℕ, zero, suc, _+_, _-_, _≤_, _<_}
 use native.Mathlib.Nat.{add-zero}
@@ -84,6 +84,17 @@ last-more p s (suc i) z h =
     let d : suc i - 1 ≡ i = omega arith in
     rw (d, take-suc s i 0) (rw e at (last-snoc p (take i s) (getD s i 0)))
 
+-- the bytes after the last one that passes p fail p
+pub last-rest : (p q : ℕ → Bool) → ((b : ℕ) → p b ≡ false → q b ≡ true) → (s : List ℕ) → all q (drop (afterLast p s) s) ≡ true
+unfolding all afterLast
+last-rest p q f [] = refl
+last-rest p q f (b ∷ s) = go (afterLast p s) (p b) refl (last-rest p q f s)
+  where
+    go : (n : ℕ) (t : Bool) → p b ≡ t → all q (drop n s) ≡ true → all q (drop (cond (eqb n 0) (cond t 1 0) (suc n)) (b ∷ s)) ≡ true
+    go zero true e h = h
+    go zero false e h = rw (f b e, h)
+    go (suc n) t e h = rw (ne-eqb (suc n) 0 (omega arith)) h
+
 pub same-more : (f : ℕ → ℕ) (x y : List ℕ) (i : ℕ) → i < length x → i < length y → sameBy f (drop i x) (drop i y) ≡ eqb (f (getD x i 0)) (getD y i 0) && sameBy f (drop (i + 1) x) (drop (i + 1) y)
 unfolding sameBy
 same-more f x y i h k = rw (add-one, drop-cons x i 0, drop-cons y i 0)
@@ -121,6 +132,27 @@ span-all p (b ∷ s) = go (p b) refl (span-all p s)
     go : (t : Bool) → p b ≡ t → all p (take (span p s) s) ≡ true → all p (take (cond t (suc (span p s)) 0) (b ∷ s)) ≡ true
     go true e h = rw (e, h)
     go false e h = refl
+
+-- the byte at which a scan stops, 0 at the end
+pub span-front : (p q : ℕ → Bool) → q 0 ≡ true → ((b : ℕ) → p b ≡ false → q b ≡ true) → (s : List ℕ) → q (getD (drop (span p s) s) 0 0) ≡ true
+unfolding span
+span-front p q z f [] = z
+span-front p q z f (b ∷ s) = go (p b) refl (span-front p q z f s)
+  where
+    go : (t : Bool) → p b ≡ t → q (getD (drop (span p s) s) 0 0) ≡ true → q (getD (drop (cond t (suc (span p s)) 0) (b ∷ s)) 0 0) ≡ true
+    go true e h = h
+    go false e h = f b e
+
+pub all-front : (p : ℕ → Bool) → p 0 ≡ true → (s : List ℕ) → all p s ≡ true → p (getD s 0 0) ≡ true
+unfolding all
+all-front p z [] h = z
+all-front p z (b ∷ s) h = and-eq-true-iff (p b) (all p s) .0 h .0
+
+-- a class within another
+pub all-within : (p q : ℕ → Bool) → ((b : ℕ) → p b ≡ true → q b ≡ true) → (s : List ℕ) → all p s ≡ true → all q s ≡ true
+unfolding all
+all-within p q f [] h = refl
+all-within p q f (b ∷ s) h = let k = and-eq-true-iff (p b) (all p s) .0 h in rw (f b (k .0), all-within p q f s (k .1))
 
 -- a scan of those bytes passes them all again
 pub span-again : (p : ℕ → Bool) (s : List ℕ) → length (take (span p s) s) ≤ span p (take (span p s) s)
@@ -175,6 +207,23 @@ pub span-some : (p : ℕ → Bool) (s : List ℕ) → 0 < length s → p (getD s
 unfolding span
 span-some p [] h e = absurd (omega arith)
 span-some p (b ∷ s) h e = rw e (omega arith)
+
+pub span-full : (p : ℕ → Bool) (s : List ℕ) → length s ≤ span p s → all p s ≡ true
+span-full p s h = go (all p s) refl
+  where
+    go : (t : Bool) → all p s ≡ t → all p s ≡ true
+    go true e = e
+    go false e = let k : span p s < length s = span-short p s e in absurd (omega arith)
+
+pub last-le : (p : ℕ → Bool) (s : List ℕ) → afterLast p s ≤ length s
+unfolding afterLast
+last-le p [] = omega arith
+last-le p (b ∷ s) = go (eqb (afterLast p s) 0) (p b) (last-le p s)
+  where
+    go : (t u : Bool) → afterLast p s ≤ length s → cond t (cond u 1 0) (suc (afterLast p s)) ≤ suc (length s)
+    go true true h = omega arith
+    go true false h = omega arith
+    go false u h = omega arith
 
 -- a scan over two texts goes on into the second where the first passes whole
 pub span-append : (p : ℕ → Bool) (s t : List ℕ) → span p (s ++ t) ≡ cond (all p s) (length s + span p t) (span p s)

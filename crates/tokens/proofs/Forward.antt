@@ -6,7 +6,7 @@ use Prim.Native.Nat.{ℕ, zero, suc, _+_, _-_, _≤_, _<_}
 use native.Mathlib.Nat.{add-zero}
 use native.Mathlib.Omega.{arith}
 use lib.Dec.{eqb}
-use lib.ListN.{length, take, drop, getD, length-drop, take-append-drop}
+use lib.ListN.{length, take, drop, getD, length-append, length-drop, take-append-drop}
 use lib.Seq.{getD-drop}
 use Rattle.lists.specs.Bytes.{all, span, lead, after}
 use Rattle.lists.specs.Classes.{whitespace, nonWhitespace, leadingMark}
@@ -55,12 +55,18 @@ cut-joined white run ends = go (ends && all leadingMark run)
   where
     rest : List ℕ
     rest = after leadingMark run
+
     go : (t : Bool) → storeOf (parts (cond t (record { whitespace = white; prepunctuation = []; name = run; punctuation = [] }) (marked white (lead leadingMark run) rest))) ≡ white ++ run
     go true = ap (λ (r : List ℕ). white ++ r) (append-nil run)
     go false =
         ap (λ (r : List ℕ). white ++ (lead leadingMark run ++ (take (nameSize rest) rest ++ r))) (append-nil (drop (nameSize rest) rest))
         ∙ ap (λ (r : List ℕ). white ++ (lead leadingMark run ++ r)) (take-append-drop (nameSize rest) rest)
         ∙ ap (λ (r : List ℕ). white ++ r) (take-append-drop (span leadingMark run) run)
+
+-- the bytes of a token's parts
+pub size-parts : (t : Token) → length (storeOf (parts t)) ≡ length (t .whitespace) + (length (t .prepunctuation) + (length (t .name) + length (t .punctuation)))
+unfolding storeOf
+size-parts t = simp (length-append, append-nil) refl
 
 -- the text is its first token's parts and what follows them
 pub first-joined : (s : List ℕ) → storeOf (parts (firstToken s)) ++ afterRun s ≡ s
@@ -69,3 +75,15 @@ first-joined s =
     ∙ append-assoc (lead whitespace s) (lead nonWhitespace (afterWhite s)) (afterRun s)
     ∙ ap (λ (r : List ℕ). lead whitespace s ++ r) (take-append-drop (span nonWhitespace (afterWhite s)) (afterWhite s))
     ∙ take-append-drop (span whitespace s) s
+
+-- induction along the tokens
+pub tokens-induct : (P : List ℕ → Type 0) → ((s : List ℕ) → all whitespace s ≡ true → P s) → ((s : List ℕ) → all whitespace s ≡ false → P (afterRun s) → P s) → (s : List ℕ) → P s
+tokens-induct P none more s = at (suc (length s)) s (omega arith)
+  where
+    go : (n : ℕ) (s : List ℕ) → length s < suc n → ((r : List ℕ) → length r < n → P r) → (t : Bool) → all whitespace s ≡ t → P s
+    go n s l i true e = none s e
+    go n s l i false e = let k = afterRun-less s e in more s e (i (afterRun s) (omega arith))
+
+    at : (n : ℕ) (s : List ℕ) → length s < n → P s
+    at zero s l = absurd (omega arith)
+    at (suc n) s l = go n s l (at n) (all whitespace s) refl

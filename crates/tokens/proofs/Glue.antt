@@ -14,8 +14,8 @@ use Rattle.lists.specs.Classes.{whitespace, nonWhitespace, leadingMark}
 use Rattle.lists.proofs.Scan.{all-append, span-le, span-all, span-fails, span-some, span-append, span-before, last-none, last-span, last-drop}
 use Rattle.tokens.specs.Tokens.{Token, marked, cut, afterWhite, afterRun, firstToken, tokens}
 use Rattle.tokens.specs.Ends.{trailing, widen, lastRun, openEnd}
-use Rattle.tokens.proofs.Forward.{run-some, tokens-none, tokens-more}
-use Rattle.tokens.proofs.Joined.{tokens-induct, firstSize, afterRun-drop, last-white, last-first}
+use Rattle.tokens.proofs.Forward.{run-some, tokens-none, tokens-more, tokens-induct}
+use Rattle.tokens.proofs.Joined.{firstSize, afterRun-drop, last-white, last-first}
 
 -- a token's cut looks at the text's end only where its run is wholly leading marks
 pub cut-alike : (white run : List ℕ) → all leadingMark run ≡ false → cut white run true ≡ cut white run false

@@ -1,6 +1,6 @@
 -- Joined, the pairs give the text less its trailing whitespace, and each part is where its pair says. Assumes nothing.
 use mathlib.Core.Path.{_≡_, refl, sym, ap, ap₂, _∙_}
-use mathlib.Core.Bool.{Bool, true, false}
+use mathlib.Core.Bool.{true, false}
 use mathlib.Core.List.{List, [], _∷_, _++_, flatMap, append-assoc, append-nil}
 use Prim.Native.Nat.{ℕ, zero, suc, _+_, _*_, _^_, _<_}
 use native.Mathlib.Nat.{add-zero, add-assoc}
@@ -11,22 +11,13 @@ use lib.Seq.{take-add, drop-drop, take-append-le, drop-append-le, getD-append-ad
 use Rattle.lists.specs.Bytes.{all, span, lead, afterLast}
 use Rattle.lists.specs.Classes.{whitespace, nonWhitespace}
 use Rattle.lists.specs.LittleEndian.{leValue, leBytes}
-use Rattle.lists.proofs.Recursion.{recur-induct}
 use Rattle.lists.proofs.Scan.{last-none, last-span, last-drop}
 use Rattle.sink.specs.Sink.{pairOf}
 use Rattle.sink.specs.Words.{storeOf, tableOf}
 use Rattle.sink.proofs.ReadBack.{wordAt, word-read}
 use Rattle.tokens.specs.Tokens.{Token, afterWhite, afterRun, firstToken, tokens, parts}
 use Rattle.tokens.specs.Table.{size, recordOf, records, joined}
-use Rattle.tokens.proofs.Forward.{run-some, afterRun-less, tokens-none, tokens-more, cut-joined}
-
--- a property that holds of whitespace, and that the rest of a text hands on to the text
-pub tokens-induct : (P : List ℕ → Type 0) → ((s : List ℕ) → all whitespace s ≡ true → P s) → ((s : List ℕ) → all whitespace s ≡ false → P (afterRun s) → P s) → (s : List ℕ) → P s
-tokens-induct P none more s = recur-induct (λ (s : List ℕ) (u : Unit {0}). P s) tt (λ f s. tt) (λ f s i. go s i (all whitespace s) refl) s
-  where
-    go : (s : List ℕ) → ((t : List ℕ) → length t < length s → P t) → (b : Bool) → all whitespace s ≡ b → P s
-    go s i true h = none s h
-    go s i false h = more s h (i (afterRun s) (afterRun-less s h))
+use Rattle.tokens.proofs.Forward.{run-some, tokens-none, tokens-more, cut-joined, tokens-induct}
 
 -- the bytes that the first token takes
 abbrev pub firstSize : List ℕ → ℕ

@@ -1,15 +1,16 @@
 -- Document 01, "Token table and sentences": the token table, and what a call answers that gives so many bytes a token.
 -- Definitions only.
+use mathlib.Core.Path.{_≡_}
 use mathlib.Core.Bool.{Bool}
 use mathlib.Core.List.{List, [], _∷_, _++_}
-use Prim.Native.Nat.{ℕ, _+_, _-_}
+use Prim.Native.Nat.{ℕ, _+_, _-_, _≤_}
 use lib.Dec.{ltb}
 use lib.ListN.{length}
 use Rattle.lists.specs.Bytes.{over}
 use Rattle.admit.specs.Refusals.{numberDue, textLimit, textDue, Call, call}
 use Rattle.sink.specs.Sink.{pairOf}
 use Rattle.sink.specs.Words.{storeOf, tableOf}
-use Rattle.tokens.specs.Tokens.{Token, tokens, parts}
+use Rattle.tokens.specs.Tokens.{Token, cut, tokens, parts}
 use Rattle.tokens.specs.declared.Tokens.{Tokens}
 use Rattle.tokens.specs.declared.Places.{Places}
 
@@ -72,3 +73,9 @@ recordAt p =
     pairOf (p .whitespace) (p .prepunctuation - p .whitespace)
     ++ (pairOf (p .prepunctuation) (p .name - p .prepunctuation)
     ++ (pairOf (p .name) (p .punctuation - p .name) ++ pairOf (p .punctuation) (p .end - p .punctuation)))
+
+-- a run's name starts after n of its bytes, and its punctuation after p
+pub record CutAt (run : List ℕ) (ends : Bool) (n p : ℕ) : Type 0 where
+  pub name : n ≡ length (cut [] run ends .prepunctuation)
+  pub punctuation : p ≡ n + length (cut [] run ends .name)
+  pub within : p ≤ length run

@@ -15,13 +15,12 @@ use lists::tail;
 use lists::tally;
 use sink::put_pair_at;
 ghost use mathlib.Core.Path.{_≡_};
-ghost use mathlib.Core.List.{[]};
 ghost use Prim.Native.Nat.{_+_, _*_, _≤_};
 ghost use lib.Dec.{ltb};
 ghost use lib.ListN.{length, drop};
 ghost use lib.Seq.{sets};
-ghost use Rattle.tokens.specs.Tokens.{tokens, cut, firstToken};
-ghost use Rattle.tokens.specs.Table.{recordBytes, records, filledCall, asFilled, placesOf, recordAt};
+ghost use Rattle.tokens.specs.Tokens.{tokens, firstToken};
+ghost use Rattle.tokens.specs.Table.{recordBytes, records, filledCall, asFilled, placesOf, recordAt, CutAt};
 
 // The bytes of a token's record in the table.
 pub const TOKEN: usize = 32;
@@ -53,7 +52,7 @@ pub struct Tokens {
 
 // The run cut into its parts; `ends` says that the text ends with it.
 fn cut_run(run: &[u8], ends: bool) -> Cut
-    ensures { λ r. ⌜ (r .name ≡ length (cut [] (now (run .entry)) ends .prepunctuation)) × (r .punctuation ≡ r .name + length (cut [] (now (run .entry)) ends .name)) × (r .punctuation ≤ length (now (run .entry))) ⌝ }
+    ensures { λ r. ⌜ CutAt (now (run .entry)) ends (r .name) (r .punctuation) ⌝ }
 {
     let marks = span_of(LEADING_MARK, 0, run);
     if marks == run.len() {
@@ -123,10 +122,30 @@ fn put_record(table: &mut [u8], place: usize, t: Places)
     requires { ⌜ place + recordBytes ≤ length (now table) ⌝ }
     ensures { λ _. ⌜ now (table .exit) ≡ sets (now (table .entry)) place (recordAt t) ⌝ }
 {
-    put_pair_at(table, place, t.whitespace, minus(t.prepunctuation, t.whitespace));
-    put_pair_at(table, place + PAIR, t.prepunctuation, minus(t.name, t.prepunctuation));
-    put_pair_at(table, place + 2 * PAIR, t.name, minus(t.punctuation, t.name));
-    put_pair_at(table, place + 3 * PAIR, t.punctuation, minus(t.end, t.punctuation));
+    put_pair_at(
+        table,
+        place,
+        t.whitespace,
+        minus(t.prepunctuation, t.whitespace),
+    );
+    put_pair_at(
+        table,
+        place + PAIR,
+        t.prepunctuation,
+        minus(t.name, t.prepunctuation),
+    );
+    put_pair_at(
+        table,
+        place + 2 * PAIR,
+        t.name,
+        minus(t.punctuation, t.name),
+    );
+    put_pair_at(
+        table,
+        place + 3 * PAIR,
+        t.punctuation,
+        minus(t.end, t.punctuation),
+    );
 }
 
 // Writes the records of all tokens, and answers how many there are.
