@@ -3,12 +3,13 @@ use mathlib.Core.Path.{_≡_, refl, sym, ap, _∙_}
 use mathlib.Core.Bool.{Bool, true, false, cond, _&&_, and-false, and-assoc, and-eq-true-iff, true≢false}
 use mathlib.Core.List.{List, [], _∷_, _++_}
 use Prim.Native.Nat.{ℕ, zero, suc, _+_, _-_, _≤_, _<_}
+use native.Mathlib.Nat.{add-zero}
 use native.Mathlib.Numerals.{add-one}
 use native.Mathlib.Omega.{arith}
 use lib.Dec.{eqb}
 use lib.ListN.{length, take, drop, getD, length-drop, drop-of-length-le, List·getD-eq-default}
 use lib.Seq.{drop-cons, take-all, take-suc, length-take-le}
-use borrow.Author.Tests.{ne-eqb}
+use borrow.Author.Tests.{eqb-true, ne-eqb}
 use Rattle.lists.specs.Bytes.{all, span, count, keep, afterLast, sameBy}
 
 module _ (p : ℕ → Bool) (s : List ℕ) (i : ℕ) where
@@ -223,3 +224,54 @@ last-le p (b ∷ s) = go (eqb (afterLast p s) 0) (p b) (last-le p s)
     go true true h = omega arith
     go true false h = omega arith
     go false u h = omega arith
+
+-- a scan over two texts goes on into the second where the first passes whole
+pub span-append : (p : ℕ → Bool) (s t : List ℕ) → span p (s ++ t) ≡ cond (all p s) (length s + span p t) (span p s)
+unfolding all span
+span-append p [] t = omega arith
+span-append p (b ∷ s) t = go (p b) (all p s) (span-append p s t)
+  where
+    go : (u v : Bool) → span p (s ++ t) ≡ cond v (length s + span p t) (span p s)
+        → cond u (suc (span p (s ++ t))) 0 ≡ cond (u && v) (suc (length s) + span p t) (cond u (suc (span p s)) 0)
+    go true true i = omega arith
+    go true false i = omega arith
+    go false v i = refl
+
+-- a scan stops before a byte that fails
+pub span-before : (p : ℕ → Bool) (s : List ℕ) (c : ℕ) (t : List ℕ) → p c ≡ false → span p (s ++ c ∷ t) ≡ span p s
+unfolding span
+span-before p s c t h = span-append p s (c ∷ t) ∙ go (all p s) refl
+  where
+    go : (u : Bool) → all p s ≡ u → cond u (length s + cond (p c) (suc (span p t)) 0) (span p s) ≡ span p s
+    go true e = rw (h, all-span p s e) (add-zero (length s))
+    go false e = refl
+
+-- no byte passes p where all pass a test that p excludes
+pub last-none : (p q : ℕ → Bool) → ((b : ℕ) → q b ≡ true → p b ≡ false) → (s : List ℕ) → all q s ≡ true → afterLast p s ≡ 0
+unfolding all afterLast
+last-none p q x [] h = refl
+last-none p q x (b ∷ s) h = go (q b) refl h (last-none p q x s)
+  where
+    go : (u : Bool) → q b ≡ u → (u && all q s) ≡ true → (all q s ≡ true → afterLast p s ≡ 0)
+        → cond (eqb (afterLast p s) 0) (cond (p b) 1 0) (suc (afterLast p s)) ≡ 0
+    go true e h i = rw (i h, x b e)
+    go false e h i = cc
+
+-- the place after the last byte that passes, past the bytes that pass at the front
+pub last-span : (p : ℕ → Bool) (s : List ℕ) → afterLast p s ≡ span p s + afterLast p (drop (span p s) s)
+unfolding span afterLast
+last-span p [] = omega arith
+last-span p (b ∷ s) = go (p b) refl (eqb (afterLast p s) 0) refl (last-span p s)
+  where
+    go : (u : Bool) → p b ≡ u → (v : Bool) → eqb (afterLast p s) 0 ≡ v → afterLast p s ≡ span p s + afterLast p (drop (span p s) s)
+        → cond v (cond u 1 0) (suc (afterLast p s)) ≡ cond u (suc (span p s)) 0 + afterLast p (drop (cond u (suc (span p s)) 0) (b ∷ s))
+    go true e true z i = omega (arith, eqb-true)
+    go true e false z i = omega arith
+    go false e v z i = rw (e, z) (omega arith)
+
+-- the same past any n bytes, where one that passes follows them
+pub last-drop : (p : ℕ → Bool) (s : List ℕ) (n : ℕ) → 0 < afterLast p (drop n s) → afterLast p s ≡ n + afterLast p (drop n s)
+unfolding afterLast
+last-drop p s zero h = omega arith
+last-drop p [] (suc n) h = absurd (omega arith)
+last-drop p (b ∷ s) (suc n) h = let i = last-drop p s n h in rw (ne-eqb (afterLast p s) 0 (omega arith)) (omega arith)

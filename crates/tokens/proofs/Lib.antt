@@ -5,3 +5,5 @@ pub mod Cutting
 pub mod Records
 pub mod Walks
 pub mod Answers
+pub mod Joined
+pub mod Glue
