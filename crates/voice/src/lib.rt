@@ -5,8 +5,11 @@ use patterns::SplitTime;
 use patterns::SplitUnit;
 use patterns::UnitWord;
 use patterns::Verdict;
+use sentences::State;
+use sentences::Step;
 use shapes::TimeSplit;
 use sink::Spoken;
+use tokens::Tokens;
 ghost use mathlib.Core.Path.{_≡_};
 ghost use Prim.Native.Nat.{_-_};
 ghost use lib.ListN.{length};
@@ -20,6 +23,10 @@ ghost use Rattle.readings.specs.Year.{year};
 ghost use Rattle.readings.specs.Real.{real};
 ghost use Rattle.readings.specs.Letters.{letters};
 ghost use Rattle.numbers.specs.Calls.{asNumeral, romanCall};
+ghost use Rattle.tokens.specs.Tokens.{tokens};
+ghost use Rattle.tokens.specs.Table.{records, filledCall, asFilled};
+ghost use Rattle.sentences.specs.Sentences.{fresh};
+ghost use Rattle.sentences.specs.Calls.{startBytes, stepCall, asStep};
 ghost use Rattle.voice.specs.AtC.{timeAtC};
 
 // split_time_meridiem for C, which takes no enum: each part by its offset and its length.
@@ -256,4 +263,32 @@ pub extern "C" fn hwk_roman_value(s: &[u8]) -> Numeral
     ensures { λ r. ⌜ asNumeral r ≡ romanCall (now (s .entry)) ⌝ }
 {
     numbers::roman_value(s)
+}
+
+#[no_mangle]
+pub extern "C" fn hwk_tokenize(s: &[u8], table: &mut [u8]) -> Tokens
+    ensures { λ r. ⌜ asFilled r (now (table .exit)) ≡ filledCall (now (s .entry)) (records 0 (tokens (now (s .entry)))) (now (table .entry)) ⌝ }
+{
+    tokens::tokenize(s, table)
+}
+
+#[no_mangle]
+pub extern "C" fn hwk_sentences(s: &[u8], starts: &mut [u8]) -> Tokens
+    ensures { λ r. ⌜ asFilled r (now (starts .exit)) ≡ filledCall (now (s .entry)) (startBytes (now (s .entry))) (now (starts .entry)) ⌝ }
+{
+    sentences::sentences(s, starts)
+}
+
+#[no_mangle]
+pub extern "C" fn hwk_fresh() -> State
+    ensures { λ r. ⌜ r ≡ fresh ⌝ }
+{
+    State::fresh()
+}
+
+#[no_mangle]
+pub extern "C" fn hwk_push(state: State, whitespace: &[u8], name: &[u8], punctuation: &[u8]) -> Step
+    ensures { λ r. ⌜ asStep r ≡ stepCall state (now (whitespace .entry)) (now (name .entry)) (now (punctuation .entry)) ⌝ }
+{
+    state.push(whitespace, name, punctuation)
 }
