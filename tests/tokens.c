@@ -28,12 +28,13 @@ static const struct {
     const char *text, *starts;
 } told[] = {
     {"a\n\nb", "11"}, {"a\n \nb", "11"}, {"a\nb", "10"}, {"Yahoo!\n\nb", "11"},
-    {"yAHOO! b", "10"}, {"yahoo?! b", "10"}, {"yahoo! B", "11"}, {"yahoo? b", "11"}, {"yahoos! b", "11"},
+    {"yAHOO! b", "10"}, {"yahoo?! b", "10"}, {"yahoo! B", "11"}, {"yahoo! \xc3\xa9", "11"}, {"yahoo? b", "11"},
+    {"yahoos! b", "11"},
     {"a: b", "11"}, {"a? b", "11"}, {"a! b", "11"},
     {"ended, Then", "10"}, {"a ? B", "100"},
     {"ended. then", "10"}, {"a. ( B", "100"},
     {"Dr.  Smith", "11"},
-    {"Dr. Smith", "10"}, {"Dr.\nSmith", "10"}, {"ended.inA. Then", "10"},
+    {"Dr. Smith", "10"}, {"Dr.\nSmith", "10"}, {"Rev. Smith", "10"}, {"ended.inA. Then", "10"},
     {"9:30. Rack", "11"}, {"Then. Then", "11"}, {"a. \"B", "11"}, {"\xc3\x89. B", "11"},
 };
 
@@ -182,8 +183,9 @@ static void check_states(void)
     assert(hands_back(push(odd, "\n\n", "\xff", ""), HWK_NOT_UTF8, odd));
     assert(hands_back(push(odd_fresh, "\xff", "a", "."), HWK_NOT_UTF8, odd_fresh));
     assert(hands_back(push(racks, "\n\n", "a", "\xc3"), HWK_NOT_UTF8, racks));
-    assert(hands_back(hwk_push(fresh, bytes("\xff"), 1, NULL, 0, text, sizeof text), HWK_TEXT_TOO_LONG, fresh));
-    assert(hands_back(hwk_push(fresh, NULL, 0, text, sizeof text, bytes("\xff"), 1), HWK_TEXT_TOO_LONG, fresh));
+    assert(hands_back(hwk_push(fresh, bytes("\xff"), 1, text, sizeof text, NULL, 0), HWK_TEXT_TOO_LONG, fresh));
+    assert(hands_back(hwk_push(fresh, NULL, 0, bytes("\xff"), 1, text, sizeof text), HWK_TEXT_TOO_LONG, fresh));
+    assert(hands_back(hwk_push(fresh, text, sizeof text, NULL, 0, bytes("\xff"), 1), HWK_TEXT_TOO_LONG, fresh));
 }
 
 int main(void)
