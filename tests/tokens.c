@@ -23,7 +23,7 @@ static const struct {
     {"a\"'`.,:;!?(){}[]", {0, 0, 1, 15}},
 };
 
-/* A text, and for each token whether it starts a sentence: a row for each of the header's lines. */
+/* A text, and for each token whether it starts a sentence, in the order of the header's lines. */
 static const struct {
     const char *text, *starts;
 } told[] = {
