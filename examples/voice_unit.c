@@ -236,16 +236,16 @@ static void print_sheet(size_t len)
 static int print_file(const char *name)
 {
     FILE *file = fopen(name, "rb");
-    size_t len;
+    size_t len = file == NULL ? 0 : fread(sheet, 1, sizeof sheet, file);
+    int failed = file == NULL || ferror(file);
 
-    if (file == NULL) {
+    if (failed) {
         perror(name);
-        return 1;
+    } else {
+        print_sheet(len);
     }
-    len = fread(sheet, 1, sizeof sheet, file);
-    fclose(file);
-    print_sheet(len);
-    return 0;
+    if (file != NULL) fclose(file);
+    return failed;
 }
 
 int main(int argc, char **argv)
