@@ -17,9 +17,6 @@ mod number_rows;
 #[path = "../tests/readings.rs"]
 mod readings;
 mod shape_rows;
-#[allow(dead_code)]
-#[path = "../tests/steps.rs"]
-mod steps;
 mod timing;
 mod token_rows;
 #[allow(dead_code)]

@@ -2,7 +2,8 @@
 
 use crate::answers;
 use crate::comparison::{Comparison, Lent};
-use crate::steps::{Fed, State, Step, Steps};
+use crate::steps::{Fed, Steps};
+use crate::tokens::{State, Step};
 use crate::voice;
 
 impl Comparison {

@@ -3,8 +3,8 @@
 use crate::comparison::Comparison;
 use crate::random::Random;
 use crate::step_texts::{damaged_or, fed};
-use crate::steps::State;
 use crate::token_corners::{BLANKS, MARKS, NAMES};
+use crate::tokens::State;
 
 // States with odd lengths, bytes and flags.
 #[rustfmt::skip]

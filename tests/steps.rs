@@ -6,27 +6,7 @@ use reference::text::{SentenceBuilder, Token};
 
 use crate::answers::{self, TEXT_TOO_LONG};
 use crate::comparison::shown;
-
-#[repr(C)]
-#[derive(Clone, Copy, Debug, Default, PartialEq, Eq)]
-pub struct State {
-    pub len: usize,
-    pub head: [u8; 5],
-    pub last: u8,
-    pub point: u8,
-    pub colon: u8,
-    pub question: u8,
-    pub exclamation: u8,
-    pub fresh: u8,
-}
-
-#[repr(C)]
-#[derive(Clone, Copy, Debug, Default, PartialEq, Eq)]
-pub struct Step {
-    pub refusal: u8,
-    pub breaks: u8,
-    pub state: State,
-}
+use crate::tokens::{State, Step};
 
 /// The three texts of a step.
 #[derive(Clone, Copy)]

@@ -3,8 +3,8 @@
 use std::ptr::null_mut;
 
 use crate::comparison::{shown, Comparison, Lent};
-use crate::steps::{Fed, State, Step};
-use crate::tokens::{Tokenized, Tokens, TOKEN_BYTES};
+use crate::steps::Fed;
+use crate::tokens::{State, Step, Tokenized, Tokens, TOKEN_BYTES};
 use crate::voice;
 
 /// How many there are: the table, the sentence starts, and a step.

@@ -1,4 +1,5 @@
-//! The tokens and sentence starts that the Rust gives for any bytes, in the types and buffers of include/howhakiru.h.
+//! The tokens and sentence starts that the Rust gives for any bytes, in the types and buffers of include/howhakiru.h. The
+//! types of a step are here too; steps.rs has its answers.
 
 use reference::text::{self, Token};
 
@@ -9,6 +10,27 @@ use crate::answers::{Admitted, BUFFER_TOO_SHORT};
 pub struct Tokens {
     pub refusal: u8,
     pub tokens: usize,
+}
+
+#[repr(C)]
+#[derive(Clone, Copy, Debug, Default, PartialEq, Eq)]
+pub struct State {
+    pub len: usize,
+    pub head: [u8; 5],
+    pub last: u8,
+    pub point: u8,
+    pub colon: u8,
+    pub question: u8,
+    pub exclamation: u8,
+    pub fresh: u8,
+}
+
+#[repr(C)]
+#[derive(Clone, Copy, Debug, Default, PartialEq, Eq)]
+pub struct Step {
+    pub refusal: u8,
+    pub breaks: u8,
+    pub state: State,
 }
 
 /// Four pairs of offset and length, four bytes a number.

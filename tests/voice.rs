@@ -2,8 +2,7 @@
 
 use crate::answers::{Part, Time, Verdict, Word};
 use crate::readings::{Number, Words};
-use crate::steps::{State, Step};
-use crate::tokens::Tokens;
+use crate::tokens::{State, Step, Tokens};
 
 /// A call that takes the text alone and answers a verdict.
 pub type VerdictCall = unsafe extern "C" fn(*const u8, usize) -> Verdict;
