@@ -5,7 +5,7 @@ use std::str::from_utf8;
 
 use crate::inputs::{repeated, KIB};
 use crate::readings::READERS;
-use crate::timing::{alone, compared};
+use crate::timing::{compared, in_turn};
 use crate::voice;
 use crate::Row;
 
@@ -55,7 +55,7 @@ pub fn doubling() {
     println!("|---|---|---:|---:|---:|---:|---:|---:|");
     for &(call, piece) in DOUBLED {
         let (mut ours, rust) = (Sides::new(call), Sides::new(call));
-        let times = SIZES.map(|size| alone(&repeated(piece, size), |text| ours.ours(text)));
+        let times = in_turn(SIZES.map(|size| repeated(piece, size)), |text| ours.ours(text));
         let smallest = repeated(piece, SIZES[0]);
         let (_, rust) = compared(call, &smallest, |text| ours.ours(text), |text| rust.rust(text));
         let told = times.map(|time| format!("{time:.0}")).join(" | ");

@@ -8,7 +8,7 @@ use std::str::from_utf8;
 use reference::text::{self, SentenceBuilder, Token};
 
 use crate::inputs::{repeated, KIB};
-use crate::timing::{alone, compared};
+use crate::timing::{compared, in_turn};
 use crate::tokens::TOKEN_BYTES;
 use crate::voice;
 use crate::Row;
@@ -112,7 +112,7 @@ pub fn doubling() {
     for (name, call) in &CALLS[..2] {
         for &(sheet, piece) in SHEETS {
             let mut buffers = Buffers::ample();
-            let times = SIZES.map(|size| alone(&repeated(piece, size), |text| call(&mut buffers, text)));
+            let times = in_turn(SIZES.map(|size| repeated(piece, size)), |text| call(&mut buffers, text));
             let told = times.map(|time| format!("{time:.0}")).join(" | ");
             println!("| {name} | {sheet} | {told} | {:.1} |", times[2] / times[0]);
         }
