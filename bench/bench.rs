@@ -1,6 +1,7 @@
 //! Times each call of the static library beside the Rust's from_utf8 and function, on the same bytes.
 //!
-//! Writes Markdown tables. A time is the median of the samples; the two sides take turns at each sample.
+//! bench [shapes] [numbers] [tokens]: all three unless some are named. Writes Markdown tables. A time is the median of the
+//! samples; the two sides take turns at each sample.
 //!
 //! Safety of the calls: each gets a text, and some get buffers, that live through the call and overlap nothing.
 
@@ -17,6 +18,10 @@ mod number_rows;
 mod readings;
 mod shape_rows;
 mod timing;
+mod token_rows;
+#[allow(dead_code)]
+#[path = "../tests/tokens.rs"]
+mod tokens;
 #[allow(dead_code)]
 #[path = "../tests/voice.rs"]
 mod voice;
@@ -30,13 +35,27 @@ pub struct Row {
 }
 
 fn main() {
-    let shapes = shape_rows::rows();
-    table(&shapes);
-    sum_up(&shapes);
-    println!();
-    table(&number_rows::rows());
-    println!();
-    number_rows::doubling();
+    let chosen: Vec<String> = std::env::args().skip(1).collect();
+    let wanted = |part: &str| chosen.is_empty() || chosen.iter().any(|word| word == part);
+    if wanted("shapes") {
+        let shapes = shape_rows::rows();
+        table(&shapes);
+        sum_up(&shapes);
+        println!();
+    }
+    if wanted("numbers") {
+        table(&number_rows::rows());
+        println!();
+        number_rows::doubling();
+        println!();
+    }
+    if wanted("tokens") {
+        table(&token_rows::rows());
+        println!();
+        token_rows::doubling();
+        println!();
+        table(&token_rows::step_rows());
+    }
 }
 
 fn table(rows: &[Row]) {

@@ -1,6 +1,8 @@
 //! The texts that are timed.
 
-const LONG: usize = 65_536;
+pub const KIB: usize = 1_024;
+
+const LONG: usize = 64 * KIB;
 
 pub struct Input {
     pub name: &'static str,
@@ -81,4 +83,9 @@ fn input(name: &'static str, text: &str) -> Input {
 fn drawn_out(front: &str, middle: &str, back: &str) -> Vec<u8> {
     let times = (LONG - front.len() - back.len()) / middle.len();
     [front, &middle.repeat(times), back].concat().into_bytes()
+}
+
+/// The piece repeated, as often as it fits whole.
+pub fn repeated(piece: &str, len: usize) -> Vec<u8> {
+    piece.repeat(len / piece.len()).into_bytes()
 }

@@ -3,13 +3,13 @@
 use std::hint::black_box;
 use std::str::from_utf8;
 
+use crate::inputs::{repeated, KIB};
 use crate::readings::READERS;
-use crate::timing::{alone, compared};
+use crate::timing::{compared, in_turn};
 use crate::voice;
 use crate::Row;
 
 const ROMAN_VALUE: &str = "roman_value";
-const KIB: usize = 1_024;
 
 /// Room for every reading of 64 KiB.
 const STORE: usize = 22 * 64 * KIB + 22;
@@ -41,10 +41,10 @@ pub fn rows() -> Vec<Row> {
     let mut rows: Vec<Row> =
         SHORT.iter().map(|&(call, text)| row(call, format!("`{text}`"), text.as_bytes())).collect();
     for &(call, piece) in LONG {
-        rows.push(row(call, format!("64 KiB of `{piece}`"), &drawn_out(piece, 64 * KIB)));
+        rows.push(row(call, format!("64 KiB of `{piece}`"), &repeated(piece, 64 * KIB)));
     }
     for &(call, piece, len) in EXACT {
-        rows.push(exact_row(call, format!("{len} bytes of `{piece}`, exact buffers"), &drawn_out(piece, len)));
+        rows.push(exact_row(call, format!("{len} bytes of `{piece}`, exact buffers"), &repeated(piece, len)));
     }
     rows
 }
@@ -55,8 +55,8 @@ pub fn doubling() {
     println!("|---|---|---:|---:|---:|---:|---:|---:|");
     for &(call, piece) in DOUBLED {
         let (mut ours, rust) = (Sides::new(call), Sides::new(call));
-        let times = SIZES.map(|size| alone(&drawn_out(piece, size), |text| ours.ours(text)));
-        let smallest = drawn_out(piece, SIZES[0]);
+        let times = in_turn(SIZES.map(|size| repeated(piece, size)), |text| ours.ours(text));
+        let smallest = repeated(piece, SIZES[0]);
         let (_, rust) = compared(call, &smallest, |text| ours.ours(text), |text| rust.rust(text));
         let told = times.map(|time| format!("{time:.0}")).join(" | ");
         println!("| {call} | `{piece}` | {told} | {:.1} | {rust:.0} |", times[3] / times[0]);
@@ -116,9 +116,4 @@ impl Sides {
             Some(reader) => black_box(READERS[reader].1(text)).len(),
         }
     }
-}
-
-/// The piece repeated, as often as it fits whole.
-fn drawn_out(piece: &str, len: usize) -> Vec<u8> {
-    piece.repeat(len / piece.len()).into_bytes()
 }

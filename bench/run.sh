@@ -1,5 +1,5 @@
 #!/usr/bin/env bash
-# Times both sides and writes a Markdown table: bench/run.sh
+# Times both sides and writes Markdown tables: bench/run.sh [shapes] [numbers] [tokens]
 set -euo pipefail
 cd "$(dirname "$0")/.."
 
@@ -9,4 +9,4 @@ mkdir -p target/bench
 rustc --edition 2021 -C opt-level=3 -o target/bench/bench bench/bench.rs \
     -L target/reference --extern reference=target/reference/libreference.rlib \
     -L target/staticlib -l static=voice
-target/bench/bench
+target/bench/bench "$@"

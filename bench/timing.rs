@@ -23,10 +23,16 @@ pub fn compared(
     (median(times.0), median(times.1))
 }
 
-/// The median of one side.
-pub fn alone(text: &[u8], mut call: impl FnMut(&[u8]) -> usize) -> f64 {
-    let calls = calls_in_a_sample(&mut call, text);
-    median((0..SAMPLES).map(|_| sample(&mut call, text, calls)).collect())
+/// The medians of one side on several texts, which take turns.
+pub fn in_turn<const N: usize>(texts: [Vec<u8>; N], mut call: impl FnMut(&[u8]) -> usize) -> [f64; N] {
+    let calls = texts.each_ref().map(|text| calls_in_a_sample(&mut call, text));
+    let mut times = texts.each_ref().map(|_| Vec::new());
+    for _ in 0..SAMPLES {
+        for (text, (calls, times)) in texts.iter().zip(calls.iter().zip(&mut times)) {
+            times.push(sample(&mut call, text, *calls));
+        }
+    }
+    times.map(median)
 }
 
 /// How many calls take about `SAMPLE_TIME`.

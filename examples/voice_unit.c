@@ -1,6 +1,9 @@
-/* Says of each name what the voice unit's reader makes of it, and reads it aloud where it is a number.
+/* Says of each name what the voice unit's reader makes of it, and reads it aloud where it is a number; takes a sheet apart into
+ * its tokens and sentences.
  *
- * voice_unit [NAME..]: without names it takes a few of its own. */
+ * voice_unit NAME..
+ * voice_unit --sheet FILE
+ * voice_unit: takes a few names and a sheet of its own. */
 #include <stdio.h>
 #include <string.h>
 
@@ -35,6 +38,12 @@ static const char *const some_names[] = {
     "-7777777777.7777777777e777777777",
 };
 
+static const char some_sheet[] =
+    "Bar 12 at 9:30. Rack 5mm (21st)\n"
+    "No. 7 by Dr. B. Smith: \"caf\xc3\xa9\".  Stop?!\n"
+    "\n"
+    "then yahoo! once more ? \" and ended. Rest (";
+
 typedef hwk_words reader(const uint8_t *s, size_t s_len, uint8_t *store, size_t store_len, uint8_t *table, size_t table_len);
 
 /* How a name of a shape is read aloud. A name may have several shapes, and then has several readings. */
@@ -64,7 +73,7 @@ static void print_refusal(uint8_t refusal)
     switch (refusal) {
     case HWK_TEXT_TOO_LONG: words = "the text is too long"; break;
     case HWK_NOT_UTF8: words = "the text is not UTF-8"; break;
-    case HWK_BUFFER_TOO_SHORT: words = "the buffers are too short for the words"; break;
+    case HWK_BUFFER_TOO_SHORT: words = "the buffers are too short for the result"; break;
     }
     printf("  refused: %s\n", words);
 }
@@ -165,12 +174,93 @@ static void print_name(const char *name)
     print_readings(text, len);
 }
 
-int main(int argc, char **argv)
+/* Room for every sheet and its tokens; the byte over the limit is for sheets that are too long, so that they are refused. */
+static uint8_t sheet[HWK_TEXT_LIMIT + 1], tokens[HWK_TOKENS_TABLE_MOST(HWK_TEXT_LIMIT)];
+static uint8_t starts[HWK_TOKENS_STARTS_MOST(HWK_TEXT_LIMIT)];
+
+static const uint8_t *part(size_t i, size_t which) { return sheet + hwk_token_at(tokens, i, which); }
+static size_t part_len(size_t i, size_t which) { return hwk_token_len(tokens, i, which); }
+static void write_part(size_t i, size_t which) { fwrite(part(i, which), 1, part_len(i, which), stdout); }
+
+/* One line for each token: + where a sentence starts, else -; then the name, with its marks outside of the bars. */
+static void print_tokens(size_t count)
 {
-    size_t i, count = argc > 1 ? (size_t)argc - 1 : sizeof some_names / sizeof some_names[0];
+    size_t i;
 
     for (i = 0; i < count; i++) {
-        print_name(argc > 1 ? argv[i + 1] : some_names[i]);
+        printf("  %c ", starts[i] ? '+' : '-');
+        write_part(i, HWK_PREPUNCTUATION);
+        printf("|");
+        write_part(i, HWK_NAME);
+        printf("|");
+        write_part(i, HWK_PUNCTUATION);
+        printf("\n");
     }
+}
+
+/* One line for each sentence, by the step form: it has no need of `starts`, nor of the tokens still to come. No step is
+ * refused, since the parts of an accepted sheet are texts themselves. */
+static void print_sentences(size_t count)
+{
+    hwk_state state = hwk_fresh();
+    size_t i;
+
+    for (i = 0; i < count; i++) {
+        hwk_step step = hwk_push(state, part(i, HWK_WHITESPACE), part_len(i, HWK_WHITESPACE), part(i, HWK_NAME),
+                                 part_len(i, HWK_NAME), part(i, HWK_PUNCTUATION), part_len(i, HWK_PUNCTUATION));
+
+        if (step.breaks) printf("\n");
+        printf(i == 0 || step.breaks ? "  sentence: " : " ");
+        write_part(i, HWK_NAME);
+        state = step.state;
+    }
+    if (count > 0) printf("\n");
+}
+
+/* Takes the first `len` bytes of `sheet` apart. */
+static void print_sheet(size_t len)
+{
+    hwk_tokens found = hwk_tokenize(sheet, len, tokens, sizeof tokens);
+
+    if (found.refusal != HWK_ACCEPTED) {
+        printf("a sheet\n");
+        print_refusal(found.refusal);
+        return;
+    }
+    printf("a sheet of %lu bytes: %lu tokens\n", (unsigned long)len, (unsigned long)found.tokens);
+    hwk_sentences(sheet, len, starts, sizeof starts); /* not refused: the text is the same, and there is room */
+    print_tokens(found.tokens);
+    print_sentences(found.tokens);
+}
+
+static int print_file(const char *name)
+{
+    FILE *file = fopen(name, "rb");
+    size_t len = file == NULL ? 0 : fread(sheet, 1, sizeof sheet, file);
+    int failed = file == NULL || ferror(file);
+
+    if (failed) {
+        perror(name);
+    } else {
+        print_sheet(len);
+    }
+    if (file != NULL) fclose(file);
+    return failed;
+}
+
+int main(int argc, char **argv)
+{
+    size_t count = sizeof some_names / sizeof some_names[0], i;
+
+    if (argc == 3 && strcmp(argv[1], "--sheet") == 0) {
+        return print_file(argv[2]);
+    }
+    if (argc > 1) {
+        for (i = 1; i < (size_t)argc; i++) print_name(argv[i]);
+        return 0;
+    }
+    for (i = 0; i < count; i++) print_name(some_names[i]);
+    memcpy(sheet, some_sheet, sizeof some_sheet - 1);
+    print_sheet(sizeof some_sheet - 1);
     return 0;
 }

@@ -12,16 +12,23 @@
  *     for (size_t i = 0; i < read.words; i++) // none where the call is refused
  *         printf("%.*s\n", (int)hwk_word_len(table, i), (const char *)store + hwk_word_at(table, i));
  *
+ *     const char *sheet = "Rack 5mm."; // two tokens: Rack, and 5mm with a point
+ *     uint8_t tokens[HWK_TOKENS_TABLE_MOST(9)];
+ *     size_t count = hwk_tokenize((const uint8_t *)sheet, 9, tokens, sizeof tokens).tokens;
+ *     for (size_t i = 0; i < count; i++)
+ *         printf("%.*s\n", (int)hwk_token_len(tokens, i, HWK_NAME), sheet + hwk_token_at(tokens, i, HWK_NAME));
+ *
  * What holds for every call
  * -------------------------
  * A text is a pointer and a length in bytes. It needs no final NUL, and may hold NULs. Length 0 is the empty text, a text
  * like any other; its pointer may be NULL. A buffer is lent the same way, so a buffer of length 0 may be NULL too. A
  * lent buffer overlaps neither another buffer nor a text. A call reads what it is lent, writes only the buffers that it
- * says it writes, keeps nothing once it has returned, and has no state: calls may run on several threads at once.
+ * says it writes, keeps nothing once it has returned, and has no state of its own: calls may run on several threads at once.
  *
  * Every call is total: whatever the bytes and the lengths are, it answers a complete result or one refusal. Refusals are
- * tested in the order of their numbers below. A refused call answers its number with every other field 0, and leaves every
- * lent buffer as it was. In an accepted call the bytes of a buffer past the result stay as they were.
+ * tested in the order of their numbers below. A refused call answers its number with every other field 0 (hwk_push: with the
+ * state that it was given), and leaves every lent buffer as it was. In an accepted call the bytes of a buffer past the result
+ * stay as they were.
  *
  * Nothing is allocated, and no call goes deeper for a longer text: a number of up to 12 digits is read by a function that
  * calls itself on fewer digits, five deep at most, and nothing else recurses. Each call needs less than 4 KiB of stack.
@@ -224,6 +231,104 @@ typedef struct hwk_number {
  * subtracted: "XIV" is 14, "IIX" is 8, "IXC" is 89. 0 where the sum is below 0 ("IIIIIIV"), where any other character stands
  * in the text, and for the empty text. Which numerals are well formed is not asked. */
 hwk_number hwk_roman_value(const uint8_t *s, size_t s_len);
+
+/* Tokens
+ * ------
+ * A sheet is a text of tokens. Whitespace is space, tab, LF and CR; each run of other bytes, as long as it goes, is one token.
+ * A token has four parts, of which each may be empty:
+ *   whitespace      all whitespace before the run
+ *   prepunctuation  the marks in front of the name:  " ' ` ( { [
+ *   name            what is called
+ *   punctuation     the marks behind the name:       " ' ` . , : ; ! ? ( ) { } [ ]
+ * The marks in front are taken off first, as many as there are; then those behind, but the first byte that follows the
+ * prepunctuation stays in the name. "(21st)?" is the name 21st with ( in front and )? behind, "?!" the name ? with ! behind. A
+ * run wholly of marks that go in front is prepunctuation before an empty name where whitespace follows it; where the text ends
+ * there, it is itself the name.
+ *
+ * In a table a token takes HWK_TOKEN_BYTES: for each part, in the order above, where it starts in the text, then how many bytes
+ * it has, each number in four bytes, the lowest first. Each part starts where the one before it ends, empty ones too: joined,
+ * the parts are the text without the whitespace at its end. Read a table with hwk_token_at and hwk_token_len below. */
+#define HWK_TOKEN_BYTES 32
+
+/* The parts of a token. */
+#define HWK_WHITESPACE 0
+#define HWK_PREPUNCTUATION 1
+#define HWK_NAME 2
+#define HWK_PUNCTUATION 3
+
+typedef struct hwk_tokens {
+    uint8_t refusal; /* HWK_ACCEPTED, HWK_TEXT_TOO_LONG, HWK_NOT_UTF8 or HWK_BUFFER_TOO_SHORT */
+    size_t tokens;   /* how many tokens the text has */
+} hwk_tokens;
+
+/* Room for the tokens of every text of up to `len` bytes, in a table and in a buffer of sentence starts. A call that is lent
+ * so much writes at once; one that is lent less counts the tokens first. */
+#define HWK_TOKENS_TABLE_MOST(len) (HWK_TOKEN_BYTES * ((size_t)(len) / 2 + 1))
+#define HWK_TOKENS_STARTS_MOST(len) ((size_t)(len) / 2 + 1)
+
+/* A part of token i, from 0 and below the count of tokens: it starts at s + hwk_token_at(table, i, part) and has
+ * hwk_token_len(table, i, part) bytes. */
+static inline size_t hwk_token_at(const uint8_t *table, size_t i, size_t part)
+{
+    return hwk_table_number(table + HWK_TOKEN_BYTES * i + 8 * part);
+}
+static inline size_t hwk_token_len(const uint8_t *table, size_t i, size_t part)
+{
+    return hwk_table_number(table + HWK_TOKEN_BYTES * i + 8 * part + 4);
+}
+
+/* Writes a record for each token of `s` to the front of `table`. Refuses with HWK_TEXT_TOO_LONG, with HWK_NOT_UTF8, and with
+ * HWK_BUFFER_TOO_SHORT where the table is shorter than HWK_TOKEN_BYTES for each token. A text without tokens, the empty one
+ * among them, fits an empty table. */
+hwk_tokens hwk_tokenize(const uint8_t *s, size_t s_len, uint8_t *table, size_t table_len);
+
+/* Sentences
+ * ---------
+ * Whether a sentence ends before a token is decided by its whitespace and its name, and by the name and the punctuation of the
+ * token before it, the last name and the last punctuation. Lengths are in bytes. The first line that applies decides:
+ *   1. the whitespace has two LF or more (a blank line): it ends
+ *   2. the last name is yahoo, in any case, the last punctuation has a ! and the name starts with a to z: it does not
+ *   3. the last punctuation has : or ? or !: it ends
+ *   4. the last punctuation has no point: it does not
+ *   5. the name does not start with A to Z: it does not
+ *   6. the whitespace is longer than one byte: it ends
+ *   7. the last name ends with A to Z, or has fewer than 4 bytes and starts with A to Z: it does not
+ *   8. else it ends
+ * So "9:30. Rack" is two sentences, and "Dr. Smith" is one. Marks in a name don't count: a ? that stands alone is a name, and
+ * ends no sentence.
+ *
+ * Writes one byte for each token of `s` to the front of `starts`: 1 where the token starts a sentence, else 0. The first token
+ * starts one. Refuses as hwk_tokenize does, with HWK_BUFFER_TOO_SHORT where `starts` has fewer bytes than there are tokens. */
+hwk_tokens hwk_sentences(const uint8_t *s, size_t s_len, uint8_t *starts, size_t starts_len);
+
+/* The step form decides the same for a caller who has one token at a time. Its state is what it keeps of the last token; the
+ * caller holds it, and may copy it. It comes from hwk_fresh or from a step, but whatever the fields hold is taken as a state.
+ * Compare states field by field: bytes between and after the fields are no part of them. */
+typedef struct hwk_state {
+    size_t len;          /* the length of the last name */
+    uint8_t head[5];     /* its first five bytes, 0 past its end */
+    uint8_t last;        /* its last byte, 0 where it is empty */
+    uint8_t point;       /* whether the last punctuation has a point; this and what follows: 0 no, else yes */
+    uint8_t colon;       /* whether it has a : */
+    uint8_t question;    /* whether it has a ? */
+    uint8_t exclamation; /* whether it has a ! */
+    uint8_t fresh;       /* whether there was no token yet */
+} hwk_state;
+
+/* The state before the first token: `fresh` is 1, all else is 0. */
+hwk_state hwk_fresh(void);
+
+typedef struct hwk_step {
+    uint8_t refusal; /* HWK_ACCEPTED, HWK_TEXT_TOO_LONG or HWK_NOT_UTF8 */
+    uint8_t breaks;  /* 1 where a sentence ends before this token, else 0; 0 too where the state was fresh */
+    hwk_state state; /* the state for the next step; where the step is refused, the one that it was given */
+} hwk_step;
+
+/* Takes the next token. Three texts are given and nothing is written; the smallest number of a refusal wins, whichever text
+ * earns it. Fed the tokens of a text in turn, from hwk_fresh on, the steps break before those tokens that hwk_sentences marks
+ * with 1, but for the first. The texts may be any others, too. */
+hwk_step hwk_push(hwk_state state, const uint8_t *whitespace, size_t whitespace_len, const uint8_t *name, size_t name_len,
+                  const uint8_t *punctuation, size_t punctuation_len);
 
 #ifdef __cplusplus
 }

@@ -1,5 +1,5 @@
-//! Makes the same call on both sides, compares what comes back, and counts. The calls themselves are in shape_calls.rs and
-//! reading_calls.rs.
+//! Makes the same call on both sides, compares what comes back, and counts. The calls themselves are in shape_calls.rs,
+//! reading_calls.rs, token_calls.rs and step_calls.rs.
 
 use std::fmt::{Arguments, Debug};
 use std::ops::Range;
@@ -9,9 +9,12 @@ use crate::answers::{self, Admitted};
 use crate::lent::{Buffer, Fenced};
 use crate::reading_calls::READINGS;
 use crate::shape_calls::SHAPES;
+use crate::token_calls::TOKEN_CALLS;
 
-/// The calls of the header, numbered for `one_call`: those about shapes first, then the readings.
-pub const CALLS: usize = SHAPES + READINGS;
+/// The calls of the header, numbered for `one_call`: those about shapes first, then the readings, then those about tokens.
+pub const CALLS: usize = READINGS_END + TOKEN_CALLS;
+
+const READINGS_END: usize = SHAPES + READINGS;
 
 const DIFFERENCES_SHOWN: usize = 20;
 
@@ -37,9 +40,11 @@ pub struct Comparison {
     groups: Vec<Group>,
     current: usize,
     texts: Fenced,
+    /// Where the other texts of a step stand.
+    pub beside: [Fenced; 3],
     pub store: Buffer,
     pub table: Buffer,
-    /// Counts the readings, so that buffers of each size have their turn.
+    /// Counts the calls that write, so that buffers of each size have their turn.
     pub turn: usize,
     differences: usize,
 }
@@ -51,6 +56,7 @@ impl Comparison {
             groups: Vec::new(),
             current: 0,
             texts: Fenced::new(),
+            beside: [Fenced::new(), Fenced::new(), Fenced::new()],
             store: Buffer::new(),
             table: Buffer::new(),
             turn: 0,
@@ -74,7 +80,7 @@ impl Comparison {
 
     /// Compares every reading, in buffers of the exact size and of one other.
     pub fn every_reading(&mut self, text: &[u8], gap: usize) {
-        self.calls(text, gap, SHAPES..CALLS);
+        self.calls(text, gap, SHAPES..READINGS_END);
     }
 
     pub fn every_call(&mut self, text: &[u8], gap: usize) {
@@ -94,6 +100,7 @@ impl Comparison {
         (0..CALLS).for_each(|call| self.call(call, lent));
         self.word_without_store(lent);
         self.readings_without_buffers(lent);
+        self.tokens_without_buffers(lent);
     }
 
     /// Prints each group and the sum, and ends the program with status 1 where anything differed.
@@ -127,9 +134,10 @@ impl Comparison {
     }
 
     fn call(&mut self, call: usize, lent: Lent) {
-        match call.checked_sub(SHAPES) {
-            None => self.shape(call, lent),
-            Some(reading) => self.reading(reading, lent),
+        match call {
+            0..SHAPES => self.shape(call, lent),
+            SHAPES..READINGS_END => self.reading(call - SHAPES, lent),
+            _ => self.token_call(call - READINGS_END, lent),
         }
     }
 

@@ -22,10 +22,22 @@ SAME(words_words, offsetof(hwk_words, words) == 8);
 SAME(words_bytes, offsetof(hwk_words, bytes) == 16);
 SAME(number_size, sizeof(hwk_number) == 8);
 SAME(number_value, offsetof(hwk_number, value) == 4);
+SAME(tokens_size, sizeof(hwk_tokens) == 16);
+SAME(tokens_tokens, offsetof(hwk_tokens, tokens) == 8);
+SAME(state_size, sizeof(hwk_state) == 24);
+SAME(state_head, offsetof(hwk_state, head) == 8);
+SAME(state_last, offsetof(hwk_state, last) == 13);
+SAME(state_point, offsetof(hwk_state, point) == 14);
+SAME(state_fresh, offsetof(hwk_state, fresh) == 18);
+SAME(step_size, sizeof(hwk_step) == 32);
+SAME(step_breaks, offsetof(hwk_step, breaks) == 1);
+SAME(step_state, offsetof(hwk_step, state) == 8);
 
 /* The comparison with the Rust holds every reading to these same sums. */
 SAME(store_most, HWK_WORDS_STORE_MOST(1000) == 22022);
 SAME(table_most, HWK_WORDS_TABLE_MOST(1000) == 16016);
+SAME(tokens_table_most, HWK_TOKENS_TABLE_MOST(1000) == 16032);
+SAME(tokens_starts_most, HWK_TOKENS_STARTS_MOST(1000) == 501);
 
 static const char *const units[] = {"LB", "LBS", "lb", "lbs", "ft", "FT", "kg", "km", "cm", "mm", "ml",
                                     "oz", "hz", "Hz", "HZ", "KHz", "MHz", "GHz", "KB", "GB", "MB", "TB"};

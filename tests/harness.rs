@@ -23,6 +23,15 @@ mod reading_calls;
 mod readings;
 mod shape_calls;
 mod short;
+mod step_calls;
+mod step_states;
+mod step_texts;
+mod steps;
+mod token_calls;
+mod token_corners;
+mod token_long;
+mod token_texts;
+mod tokens;
 mod utf8;
 mod voice;
 
@@ -55,8 +64,10 @@ fn compare(seconds: u64, seed: u64) {
     shapes(&mut comparison, if long { 5 } else { 4 });
     println!("compare: fixed groups of shapes took {} s", start.elapsed().as_secs());
     numbers(&mut comparison, long);
-    println!("compare: all fixed groups took {} s", start.elapsed().as_secs());
+    println!("compare: those of numbers too took {} s", start.elapsed().as_secs());
     let mut random = Random::new(seed);
+    tokens(&mut comparison, long);
+    println!("compare: all fixed groups took {} s", start.elapsed().as_secs());
     loop {
         round(&mut comparison, &mut random);
         if start.elapsed() >= Duration::from_secs(seconds) {
@@ -88,6 +99,22 @@ fn numbers(comparison: &mut Comparison, long: bool) {
     number_long::limits(comparison);
 }
 
+/// With time, one character more: of the texts over eleven characters all of 7, of which the random groups draw some.
+fn tokens(comparison: &mut Comparison, long: bool) {
+    token_texts::named(comparison);
+    token_texts::one_byte_changed(comparison);
+    token_texts::placed(comparison);
+    token_texts::exhaustive(comparison, long);
+    token_texts::neighbours(comparison);
+    token_long::growing(comparison);
+    token_long::many_tokens(comparison);
+    token_long::limits(comparison);
+    step_texts::pairs(comparison);
+    step_texts::refusals(comparison);
+    step_texts::cut_characters(comparison);
+    step_states::every_choice(comparison);
+}
+
 /// Each random group for some tenths of a second.
 fn round(comparison: &mut Comparison, random: &mut Random) {
     short::random(comparison, random, 50_000);
@@ -98,4 +125,10 @@ fn round(comparison: &mut Comparison, random: &mut Random) {
     number_texts::random_pieces(comparison, random, 20_000);
     number_texts::slips(comparison, random, 5_000);
     number_long::random(comparison, random, 100);
+    token_texts::random_eleven(comparison, random, 50_000);
+    token_texts::random_pieces(comparison, random, 20_000);
+    token_texts::slips(comparison, random, 3_000);
+    token_long::random(comparison, random, 500);
+    step_states::random(comparison, random, 100_000);
+    step_texts::sequences(comparison, random, 2_000);
 }

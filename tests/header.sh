@@ -1,5 +1,5 @@
 #!/usr/bin/env bash
-# The header must compile alone, as C99 and as C++, and its constants, layouts and bound on the stack must be the library's.
+# The header must compile alone, as C99 and as C++, and its constants, layouts, tokens and bound on the stack must be the library's.
 set -euo pipefail
 cd "$(dirname "$0")/.."
 
@@ -13,8 +13,10 @@ fi
 
 tests/library.sh
 mkdir -p target/header
-gcc -std=c99 "${strict[@]}" -g -fsanitize=address,undefined -fno-sanitize-recover=all -Iinclude \
-    -o target/header/constants tests/constants.c target/staticlib/libvoice.a
-target/header/constants
+for program in constants tokens; do
+    gcc -std=c99 "${strict[@]}" -g -fsanitize=address,undefined -fno-sanitize-recover=all -Iinclude \
+        -o "target/header/$program" "tests/$program.c" target/staticlib/libvoice.a
+    "target/header/$program"
+done
 gcc -std=c99 "${strict[@]}" -O1 -Wl,-z,now -Iinclude -o target/header/stack tests/stack.c target/staticlib/libvoice.a
 target/header/stack

@@ -1,8 +1,9 @@
-//! Records the Rust's answers on two samples of texts, one line each, for the replay that needs no Rust at hand.
-//! The same texts come out at every run. record FOLDER: writes FOLDER/patterns.txt and FOLDER/numbers.txt.
+//! Records the Rust's answers on three samples of texts, one line each, for the replays that need no Rust at hand. The same
+//! texts come out at every run. record FOLDER: writes patterns.txt, numbers.txt and tokens.txt there.
 //!
-//! A line of either file starts with REPEAT BYTE TAIL REFUSAL, with a space between. The text is BYTE repeated REPEAT times,
-//! then TAIL; bytes are in hex, and - stands for none. What follows is in recorded_shapes.rs and recorded_numbers.rs.
+//! A line of each file starts with REPEAT BYTE TAIL REFUSAL, with a space between. The text is BYTE repeated REPEAT times, then
+//! TAIL; bytes are in hex, and - stands for none. What follows is in recorded_shapes.rs, recorded_numbers.rs and
+//! recorded_tokens.rs.
 
 use std::fs;
 use std::process;
@@ -18,6 +19,11 @@ mod random;
 mod readings;
 mod recorded_numbers;
 mod recorded_shapes;
+mod recorded_tokens;
+#[allow(dead_code)] // the harness feeds steps too
+mod token_corners;
+#[allow(dead_code)] // the harness asks for answers in every buffer
+mod tokens;
 mod told;
 
 fn main() {
@@ -27,6 +33,7 @@ fn main() {
     };
     write(&folder, "patterns.txt", &recorded_shapes::lines(), 250_000);
     write(&folder, "numbers.txt", &recorded_numbers::lines(), 400_000);
+    write(&folder, "tokens.txt", &recorded_tokens::lines(), 250_000);
 }
 
 fn write(folder: &str, name: &str, lines: &[String], most: usize) {

@@ -15,4 +15,5 @@ target/compare/record "$folder"
 if [ $# -eq 0 ]; then
     cp "$folder/patterns.txt" crates/replay/data/
     cp "$folder/numbers.txt" crates/replay_numbers/data/
+    cp "$folder/tokens.txt" crates/replay_tokens/data/
 fi

@@ -25,10 +25,12 @@ static reader *const readers[] = {hwk_cardinal, hwk_ordinal, hwk_year, hwk_digit
 static const char *const names[] = {
     "", "9:30am", "5kg", "kg", "mm", "-1.5e+10", "1,234,567", "U.S.A.", "1998-1999", "caf\xc3\xa9", "\xed\xa0\x80", "XIV",
     "0", "1984", "777777777777", "000000000001", "7777777777777", "-777777777777.5e-777777777777",
+    "(21st)?", "\"", "yahoo! a", "Dr. Smith ended.\n\nThen",
 };
 
-/* What a long text repeats: whole characters, digits, pairs, signs, and letters of numbers. */
-static const char *const repeated[] = {"\xc3\xa9", "7", "00", "-+", "777777777777e", ".", "IM", "aZ"};
+/* What a long text repeats: whole characters, digits, pairs, signs, letters of numbers, marks and whitespace. */
+static const char *const repeated[] = {"\xc3\xa9", "7",  "00", "-+",  "777777777777e", ".",
+                                       "IM",       "aZ", "(",  "\n", "a ",            "Rack. ( "};
 
 static uint8_t stack[65536], sheet[HWK_TEXT_LIMIT];
 static uint8_t store[HWK_WORDS_STORE_MOST(HWK_TEXT_LIMIT)], table[HWK_WORDS_TABLE_MOST(HWK_TEXT_LIMIT)];
@@ -44,6 +46,15 @@ static void unit_word(void) { hwk_unit_word(text, text_len, store, sizeof store)
 static void one_reader(void) { readers[which](text, text_len, store, sizeof store, table, sizeof table); }
 static void measured(void) { readers[which](text, text_len, store, 0, table, 0); } /* before it is refused */
 static void roman_value(void) { hwk_roman_value(text, text_len); }
+static void tokenize(void) { hwk_tokenize(text, text_len, store, sizeof store); }
+static void sentences(void) { hwk_sentences(text, text_len, table, sizeof table); }
+static void counted(void) { hwk_tokenize(text, text_len, store, 0); } /* before it is refused */
+static void counted_starts(void) { hwk_sentences(text, text_len, table, 0); }
+static void steps(void)
+{
+    hwk_state state = hwk_push(hwk_fresh(), text, text_len, text, text_len, text, text_len).state;
+    hwk_push(state, text, text_len, text, text_len, text, text_len);
+}
 
 /* The bytes that f touches, its way in and out included. */
 static size_t touched(void (*f)(void))
@@ -72,6 +83,11 @@ static size_t most_of_calls(void)
     for (which = 0; which < sizeof readers / sizeof readers[0]; which++) most = larger(most, touched(one_reader));
     for (which = 0; which < sizeof readers / sizeof readers[0]; which++) most = larger(most, touched(measured));
     most = larger(most, touched(roman_value));
+    most = larger(most, touched(tokenize));
+    most = larger(most, touched(sentences));
+    most = larger(most, touched(counted));
+    most = larger(most, touched(counted_starts));
+    most = larger(most, touched(steps));
     most = larger(most, touched(n_digits));
     most = larger(most, touched(split_time));
     most = larger(most, touched(split_unit));

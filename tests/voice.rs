@@ -2,12 +2,16 @@
 
 use crate::answers::{Part, Time, Verdict, Word};
 use crate::readings::{Number, Words};
+use crate::tokens::{State, Step, Tokens};
 
 /// A call that takes the text alone and answers a verdict.
 pub type VerdictCall = unsafe extern "C" fn(*const u8, usize) -> Verdict;
 
 /// A call that reads a text aloud: the text, the store, the table.
 pub type ReadCall = unsafe extern "C" fn(*const u8, usize, *mut u8, usize, *mut u8, usize) -> Words;
+
+/// A call that takes a text and fills one buffer.
+pub type TokenCall = unsafe extern "C" fn(*const u8, usize, *mut u8, usize) -> Tokens;
 
 extern "C" {
     pub fn hwk_is_digits(s: *const u8, s_len: usize) -> Verdict;
@@ -31,6 +35,18 @@ extern "C" {
     pub fn hwk_split_unit(s: *const u8, s_len: usize) -> Part;
     pub fn hwk_unit_word(s: *const u8, s_len: usize, store: *mut u8, store_len: usize) -> Word;
     pub fn hwk_roman_value(s: *const u8, s_len: usize) -> Number;
+    pub fn hwk_tokenize(s: *const u8, s_len: usize, table: *mut u8, table_len: usize) -> Tokens;
+    pub fn hwk_sentences(s: *const u8, s_len: usize, starts: *mut u8, starts_len: usize) -> Tokens;
+    pub fn hwk_fresh() -> State;
+    pub fn hwk_push(
+        state: State,
+        whitespace: *const u8,
+        whitespace_len: usize,
+        name: *const u8,
+        name_len: usize,
+        punctuation: *const u8,
+        punctuation_len: usize,
+    ) -> Step;
 }
 
 /// The readers have one signature.

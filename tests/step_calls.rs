@@ -1,0 +1,57 @@
+//! The step form, on both sides, its three texts lent apart.
+
+use crate::answers;
+use crate::comparison::{Comparison, Lent};
+use crate::steps::{Fed, Steps};
+use crate::tokens::{State, Step};
+use crate::voice;
+
+impl Comparison {
+    /// The next of several steps, against the Rust's push.
+    pub fn next_step(&mut self, steps: &mut Steps, fed: Fed, gap: usize) {
+        let before = steps.state;
+        let rust = steps.push(fed);
+        self.with(fed.name, gap, |comparison, lent| comparison.push(before, fed, lent, rust));
+    }
+
+    /// One step from any state, against the rule.
+    pub fn step_from(&mut self, state: State, fed: Fed, gap: usize) {
+        self.with(fed.name, gap, |comparison, lent| comparison.push(state, fed, lent, state.step(fed)));
+    }
+
+    /// A step with the text in one of the three places.
+    pub fn step_with(&mut self, lent: Lent) {
+        self.turn += 1;
+        let mut fed = Fed { whitespace: b" ", name: b"A", punctuation: b"." };
+        match self.turn % 3 {
+            0 => fed.whitespace = lent.text,
+            1 => fed.name = lent.text,
+            _ => fed.punctuation = lent.text,
+        }
+        let state = State::after(b"end", b".");
+        let lent = if self.turn % 3 == 1 { lent } else { self.name_beside(fed.name, lent.gap) };
+        self.push(state, fed, lent, state.step(fed));
+    }
+
+    fn name_beside<'a>(&mut self, name: &'a [u8], gap: usize) -> Lent<'a> {
+        let start = self.beside[2].lend(name, gap);
+        Lent { text: name, start, gap, admitted: answers::admit(name) }
+    }
+
+    /// `lent` is the name.
+    fn push(&mut self, state: State, fed: Fed, lent: Lent, wanted: Step) {
+        let whitespace = self.beside[0].lend(fed.whitespace, lent.gap);
+        let punctuation = self.beside[1].lend(fed.punctuation, lent.gap);
+        // SAFETY: the three texts are lent for the call.
+        let ours = unsafe {
+            let (name, name_len) = (lent.start, lent.text.len());
+            voice::hwk_push(state, whitespace, fed.whitespace.len(), name, name_len, punctuation, fed.punctuation.len())
+        };
+        self.settle(lent, format_args!("hwk_push ({fed}; {state:?})"), ours, wanted);
+        for (place, text) in [fed.whitespace, fed.punctuation].into_iter().enumerate() {
+            if !self.beside[place].is_as_lent(text, lent.gap) {
+                self.differ(lent, format_args!("hwk_push"), &"wrote into a text or beside it", &"leaves it alone");
+            }
+        }
+    }
+}
