@@ -38,7 +38,7 @@ mod voice;
 use comparison::Comparison;
 use random::Random;
 
-/// From this many seconds on there is time for every text of five pieces.
+/// From this many seconds on there is time for texts of one piece more.
 const LONG: u64 = 600;
 
 /// The Rust's year and real go one call deeper for each pair, sign or "e" of a text.
@@ -65,9 +65,9 @@ fn compare(seconds: u64, seed: u64) {
     println!("compare: fixed groups of shapes took {} s", start.elapsed().as_secs());
     numbers(&mut comparison, long);
     println!("compare: those of numbers too took {} s", start.elapsed().as_secs());
-    let mut random = Random::new(seed);
     tokens(&mut comparison, long);
     println!("compare: all fixed groups took {} s", start.elapsed().as_secs());
+    let mut random = Random::new(seed);
     loop {
         round(&mut comparison, &mut random);
         if start.elapsed() >= Duration::from_secs(seconds) {
@@ -107,10 +107,12 @@ fn tokens(comparison: &mut Comparison, long: bool) {
     token_texts::exhaustive(comparison, long);
     token_texts::neighbours(comparison);
     token_long::growing(comparison);
+    token_long::changed_at_each_place(comparison);
     token_long::many_tokens(comparison);
     token_long::limits(comparison);
     step_texts::pairs(comparison);
     step_texts::refusals(comparison);
+    step_texts::long(comparison);
     step_texts::cut_characters(comparison);
     step_states::every_choice(comparison);
 }

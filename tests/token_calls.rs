@@ -13,8 +13,9 @@ pub const TOKEN_CALLS: usize = 3;
 /// Every length within a record and a byte of the exact one.
 const NEAR: usize = 2 * (TOKEN_BYTES + 1) + 1;
 
-/// The buffers that are tried: those near the exact one, and five that are told from the text alone.
-const ROOMS: usize = NEAR + 5;
+/// The buffers that are tried: those near the exact one, and six far from it or told from the text's length alone. With an odd
+/// number of them, calls that take turns meet each.
+const ROOMS: usize = NEAR + 6;
 
 /// A call that fills one buffer, and its side of the Rust's answer.
 #[derive(Clone, Copy)]
@@ -36,6 +37,7 @@ impl Filling<'_> {
             Some(1) => most.saturating_sub(1),
             Some(2) => most,
             Some(3) => most + 1,
+            Some(4) => self.result.len() / 2,
             Some(_) => self.result.len() + 1_000,
         }
     }
