@@ -2,6 +2,7 @@
 
 use std::ptr::null_mut;
 
+use crate::answers::TEXT_LIMIT;
 use crate::comparison::{shown, Comparison, Lent};
 use crate::steps::{Fed, State, Step};
 use crate::tokens::{Tokenized, Tokens, TOKEN_BYTES};
@@ -30,7 +31,7 @@ struct Filling<'a> {
 impl Filling<'_> {
     /// The length of the buffer number `room`. A text has a token for every two bytes at most.
     fn len(&self, room: usize, text_len: usize) -> usize {
-        let most = self.record * text_len.div_ceil(2);
+        let most = self.record * text_len.min(TEXT_LIMIT).div_ceil(2);
         match room.checked_sub(NEAR) {
             None => (self.result.len() + room).saturating_sub(NEAR / 2),
             Some(0) => 0,
