@@ -66,7 +66,7 @@ pub fn named(comparison: &mut Comparison) {
     corners::LISTS.iter().flat_map(|list| list.iter()).for_each(|text| comparison.every_token(text.as_bytes(), 1));
 }
 
-/// Each corner with each of its bytes replaced by every byte, left out, and with every byte put before it.
+/// Each short corner with each of its bytes replaced by every byte, left out, and with every ASCII byte put before it.
 pub fn one_byte_changed(comparison: &mut Comparison) {
     comparison.begin("corners of tokens, one byte changed");
     for corner in token_corners().map(str::as_bytes).filter(|corner| corner.len() <= 12) {
