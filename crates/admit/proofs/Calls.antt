@@ -2,10 +2,11 @@
 use mathlib.Core.Path.{_≡_, refl}
 use mathlib.Core.Bool.{Bool, true, false, cond, not}
 use mathlib.Core.List.{List}
-use Prim.Native.Nat.{ℕ, zero, suc}
+use Prim.Native.Nat.{ℕ, zero, suc, _≤_}
 use native.Mathlib.Omega.{arith}
 use lib.Dec.{ltb}
 use lib.ListN.{length}
+use borrow.Author.Tests.{ltb-false, le-ltb}
 use Rattle.admit.specs.Utf8.{utf8}
 use Rattle.admit.specs.Refusals.{number, numberDue, textDue, textRefusal, call}
 use Rattle.admit.specs.declared.Refusal.the-variants.{BufferTooShort}
@@ -42,3 +43,15 @@ due-accepted limit s short h = go (ltb limit (length s)) (utf8 s) h
     go true good h = absurd (omega arith)
     go false false h = absurd (omega arith)
     go false true h = refl
+
+-- an accepted text is short enough and UTF-8, and no other is
+pub text-tests : (limit : ℕ) (s : List ℕ) → textRefusal limit s ≡ 0 → (length s ≤ limit) × (utf8 s ≡ true)
+text-tests limit s h = go (ltb limit (length s)) (utf8 s) refl h
+  where
+    go : (long good : Bool) → ltb limit (length s) ≡ long → tests long good false ≡ 0 → (length s ≤ limit) × (good ≡ true)
+    go true good e h = absurd (omega arith)
+    go false false e h = absurd (omega arith)
+    go false true e h = (ltb-false limit (length s) e, refl)
+
+pub text-accepted : (limit : ℕ) (s : List ℕ) → length s ≤ limit → utf8 s ≡ true → textRefusal limit s ≡ 0
+text-accepted limit s h e = rw (le-ltb limit (length s) h, e)

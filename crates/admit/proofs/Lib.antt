@@ -1,2 +1,3 @@
 pub mod Utf8
+pub mod Utf8Parts
 pub mod Calls

@@ -1,14 +1,15 @@
 -- Laws of `all`, `span`, `count`, `keep`, `afterLast` and `sameBy` along a list, over the test, for loops that count. Assumes nothing.
 use mathlib.Core.Path.{_≡_, refl, sym, ap, _∙_}
-use mathlib.Core.Bool.{Bool, true, false, cond, _&&_, and-false, and-assoc}
+use mathlib.Core.Bool.{Bool, true, false, cond, _&&_, and-false, and-assoc, and-eq-true-iff, true≢false}
 use mathlib.Core.List.{List, [], _∷_, _++_}
 use Prim.Native.Nat.{ℕ, zero, suc, _+_, _-_, _≤_, _<_}
+use native.Mathlib.Nat.{add-zero}
 use native.Mathlib.Numerals.{add-one}
 use native.Mathlib.Omega.{arith}
 use lib.Dec.{eqb}
 use lib.ListN.{length, take, drop, getD, length-drop, drop-of-length-le, List·getD-eq-default}
 use lib.Seq.{drop-cons, take-all, take-suc, length-take-le}
-use borrow.Author.Tests.{ne-eqb}
+use borrow.Author.Tests.{eqb-true, ne-eqb}
 use Rattle.lists.specs.Bytes.{all, span, count, keep, afterLast, sameBy}
 
 module _ (p : ℕ → Bool) (s : List ℕ) (i : ℕ) where
@@ -83,6 +84,17 @@ last-more p s (suc i) z h =
     let d : suc i - 1 ≡ i = omega arith in
     rw (d, take-suc s i 0) (rw e at (last-snoc p (take i s) (getD s i 0)))
 
+-- the bytes after the last one that passes p fail p
+pub last-rest : (p q : ℕ → Bool) → ((b : ℕ) → p b ≡ false → q b ≡ true) → (s : List ℕ) → all q (drop (afterLast p s) s) ≡ true
+unfolding all afterLast
+last-rest p q f [] = refl
+last-rest p q f (b ∷ s) = go (afterLast p s) (p b) refl (last-rest p q f s)
+  where
+    go : (n : ℕ) (t : Bool) → p b ≡ t → all q (drop n s) ≡ true → all q (drop (cond (eqb n 0) (cond t 1 0) (suc n)) (b ∷ s)) ≡ true
+    go zero true e h = h
+    go zero false e h = rw (f b e, h)
+    go (suc n) t e h = rw (ne-eqb (suc n) 0 (omega arith)) h
+
 pub same-more : (f : ℕ → ℕ) (x y : List ℕ) (i : ℕ) → i < length x → i < length y → sameBy f (drop i x) (drop i y) ≡ eqb (f (getD x i 0)) (getD y i 0) && sameBy f (drop (i + 1) x) (drop (i + 1) y)
 unfolding sameBy
 same-more f x y i h k = rw (add-one, drop-cons x i 0, drop-cons y i 0)
@@ -121,6 +133,27 @@ span-all p (b ∷ s) = go (p b) refl (span-all p s)
     go true e h = rw (e, h)
     go false e h = refl
 
+-- the byte at which a scan stops, 0 at the end
+pub span-front : (p q : ℕ → Bool) → q 0 ≡ true → ((b : ℕ) → p b ≡ false → q b ≡ true) → (s : List ℕ) → q (getD (drop (span p s) s) 0 0) ≡ true
+unfolding span
+span-front p q z f [] = z
+span-front p q z f (b ∷ s) = go (p b) refl (span-front p q z f s)
+  where
+    go : (t : Bool) → p b ≡ t → q (getD (drop (span p s) s) 0 0) ≡ true → q (getD (drop (cond t (suc (span p s)) 0) (b ∷ s)) 0 0) ≡ true
+    go true e h = h
+    go false e h = f b e
+
+pub all-front : (p : ℕ → Bool) → p 0 ≡ true → (s : List ℕ) → all p s ≡ true → p (getD s 0 0) ≡ true
+unfolding all
+all-front p z [] h = z
+all-front p z (b ∷ s) h = and-eq-true-iff (p b) (all p s) .0 h .0
+
+-- a class within another
+pub all-within : (p q : ℕ → Bool) → ((b : ℕ) → p b ≡ true → q b ≡ true) → (s : List ℕ) → all p s ≡ true → all q s ≡ true
+unfolding all
+all-within p q f [] h = refl
+all-within p q f (b ∷ s) h = let k = and-eq-true-iff (p b) (all p s) .0 h in rw (f b (k .0), all-within p q f s (k .1))
+
 -- a scan of those bytes passes them all again
 pub span-again : (p : ℕ → Bool) (s : List ℕ) → length (take (span p s) s) ≤ span p (take (span p s) s)
 unfolding span
@@ -141,3 +174,104 @@ keep-le p (b ∷ s) = go (p b) (keep-le p s)
     go : (t : Bool) → length (keep p s) ≤ length s → length (cond t (b ∷ keep p s) (keep p s)) ≤ suc (length s)
     go true h = omega arith
     go false h = omega arith
+
+-- a scan of bytes that all pass goes to the end, and otherwise stops at one that fails
+pub all-span : (p : ℕ → Bool) (s : List ℕ) → all p s ≡ true → span p s ≡ length s
+unfolding all span
+all-span p [] h = refl
+all-span p (b ∷ s) h = go (p b) h (all-span p s)
+  where
+    go : (t : Bool) → (t && all p s) ≡ true → (all p s ≡ true → span p s ≡ length s) → cond t (suc (span p s)) 0 ≡ suc (length s)
+    go true h i = ap suc (i h)
+    go false h i = cc
+
+pub span-short : (p : ℕ → Bool) (s : List ℕ) → all p s ≡ false → span p s < length s
+unfolding all span
+span-short p [] h = absurd (true≢false h)
+span-short p (b ∷ s) h = go (p b) h (span-short p s)
+  where
+    go : (t : Bool) → (t && all p s) ≡ false → (all p s ≡ false → span p s < length s) → cond t (suc (span p s)) 0 < suc (length s)
+    go true h i = let k = i h in omega arith
+    go false h i = omega arith
+
+pub span-fails : (p : ℕ → Bool) (s : List ℕ) → span p s < length s → p (getD s (span p s) 0) ≡ false
+unfolding span
+span-fails p [] h = absurd (omega arith)
+span-fails p (b ∷ s) h = go (p b) refl h (span-fails p s)
+  where
+    go : (t : Bool) → p b ≡ t → cond t (suc (span p s)) 0 < suc (length s) → (span p s < length s → p (getD s (span p s) 0) ≡ false) → p (getD (b ∷ s) (cond t (suc (span p s)) 0) 0) ≡ false
+    go true e h i = i (omega arith)
+    go false e h i = e
+
+pub span-some : (p : ℕ → Bool) (s : List ℕ) → 0 < length s → p (getD s 0 0) ≡ true → 0 < span p s
+unfolding span
+span-some p [] h e = absurd (omega arith)
+span-some p (b ∷ s) h e = rw e (omega arith)
+
+pub span-full : (p : ℕ → Bool) (s : List ℕ) → length s ≤ span p s → all p s ≡ true
+span-full p s h = go (all p s) refl
+  where
+    go : (t : Bool) → all p s ≡ t → all p s ≡ true
+    go true e = e
+    go false e = let k : span p s < length s = span-short p s e in absurd (omega arith)
+
+pub last-le : (p : ℕ → Bool) (s : List ℕ) → afterLast p s ≤ length s
+unfolding afterLast
+last-le p [] = omega arith
+last-le p (b ∷ s) = go (eqb (afterLast p s) 0) (p b) (last-le p s)
+  where
+    go : (t u : Bool) → afterLast p s ≤ length s → cond t (cond u 1 0) (suc (afterLast p s)) ≤ suc (length s)
+    go true true h = omega arith
+    go true false h = omega arith
+    go false u h = omega arith
+
+-- a scan over two texts goes on into the second where the first passes whole
+pub span-append : (p : ℕ → Bool) (s t : List ℕ) → span p (s ++ t) ≡ cond (all p s) (length s + span p t) (span p s)
+unfolding all span
+span-append p [] t = omega arith
+span-append p (b ∷ s) t = go (p b) (all p s) (span-append p s t)
+  where
+    go : (u v : Bool) → span p (s ++ t) ≡ cond v (length s + span p t) (span p s)
+        → cond u (suc (span p (s ++ t))) 0 ≡ cond (u && v) (suc (length s) + span p t) (cond u (suc (span p s)) 0)
+    go true true i = omega arith
+    go true false i = omega arith
+    go false v i = refl
+
+-- a scan stops before a byte that fails
+pub span-before : (p : ℕ → Bool) (s : List ℕ) (c : ℕ) (t : List ℕ) → p c ≡ false → span p (s ++ c ∷ t) ≡ span p s
+unfolding span
+span-before p s c t h = span-append p s (c ∷ t) ∙ go (all p s) refl
+  where
+    go : (u : Bool) → all p s ≡ u → cond u (length s + cond (p c) (suc (span p t)) 0) (span p s) ≡ span p s
+    go true e = rw (h, all-span p s e) (add-zero (length s))
+    go false e = refl
+
+-- no byte passes p where all pass a test that p excludes
+pub last-none : (p q : ℕ → Bool) → ((b : ℕ) → q b ≡ true → p b ≡ false) → (s : List ℕ) → all q s ≡ true → afterLast p s ≡ 0
+unfolding all afterLast
+last-none p q x [] h = refl
+last-none p q x (b ∷ s) h = go (q b) refl h (last-none p q x s)
+  where
+    go : (u : Bool) → q b ≡ u → (u && all q s) ≡ true → (all q s ≡ true → afterLast p s ≡ 0)
+        → cond (eqb (afterLast p s) 0) (cond (p b) 1 0) (suc (afterLast p s)) ≡ 0
+    go true e h i = rw (i h, x b e)
+    go false e h i = cc
+
+-- the place after the last byte that passes, past the bytes that pass at the front
+pub last-span : (p : ℕ → Bool) (s : List ℕ) → afterLast p s ≡ span p s + afterLast p (drop (span p s) s)
+unfolding span afterLast
+last-span p [] = omega arith
+last-span p (b ∷ s) = go (p b) refl (eqb (afterLast p s) 0) refl (last-span p s)
+  where
+    go : (u : Bool) → p b ≡ u → (v : Bool) → eqb (afterLast p s) 0 ≡ v → afterLast p s ≡ span p s + afterLast p (drop (span p s) s)
+        → cond v (cond u 1 0) (suc (afterLast p s)) ≡ cond u (suc (span p s)) 0 + afterLast p (drop (cond u (suc (span p s)) 0) (b ∷ s))
+    go true e true z i = omega (arith, eqb-true)
+    go true e false z i = omega arith
+    go false e v z i = rw (e, z) (omega arith)
+
+-- the same past any n bytes, where one that passes follows them
+pub last-drop : (p : ℕ → Bool) (s : List ℕ) (n : ℕ) → 0 < afterLast p (drop n s) → afterLast p s ≡ n + afterLast p (drop n s)
+unfolding afterLast
+last-drop p s zero h = omega arith
+last-drop p [] (suc n) h = absurd (omega arith)
+last-drop p (b ∷ s) (suc n) h = let i = last-drop p s n h in rw (ne-eqb (afterLast p s) 0 (omega arith)) (omega arith)

@@ -22,6 +22,13 @@ unfoldable pub span : (ℕ → Bool) → List ℕ → ℕ
 span p [] = 0
 span p (b ∷ s) = cond (p b) (suc (span p s)) 0
 
+-- the bytes at the front that pass p, and what follows them
+abbrev pub lead : (ℕ → Bool) → List ℕ → List ℕ
+lead p s = take (span p s) s
+
+abbrev pub after : (ℕ → Bool) → List ℕ → List ℕ
+after p s = drop (span p s) s
+
 -- the place after the last byte that passes p, 0 where none does
 unfoldable pub afterLast : (ℕ → Bool) → List ℕ → ℕ
 afterLast p [] = 0

@@ -5,7 +5,7 @@ use Prim.Native.Nat.{ℕ}
 use Prim.Native.Char.{code}
 use lib.Dec.{leb, ltb, eqb}
 use lib.ListN.{getD}
-use Rattle.lists.specs.Bytes.{lower}
+use Rattle.lists.specs.Bytes.{bytes, lower}
 
 -- a byte that is a character by itself
 abbrev pub ascii : ℕ → Bool
@@ -47,11 +47,42 @@ notE b = not (eqb b (code "e") || eqb b (code "E"))
 abbrev pub continuation : ℕ → Bool
 continuation b = leb 0x80 b && leb b 0xBF
 
--- the classes by number; c is for `except` alone
+-- the byte is one of those listed, or found already
+abbrev pub foundIn : Bool → List ℕ → ℕ → Bool
+foundIn found [] b = found
+foundIn found (c ∷ cs) b = foundIn (found || eqb b c) cs b
+
+-- the byte is one of those listed
+abbrev pub oneOf : List ℕ → ℕ → Bool
+oneOf [] b = false
+oneOf (c ∷ cs) b = foundIn (eqb b c) cs b
+
+-- document 01: "Whitespace is space, tab, LF, CR."
+abbrev pub whitespace : ℕ → Bool
+whitespace b = oneOf (bytes " \t\n\r") b
+
+abbrev pub nonWhitespace : ℕ → Bool
+nonWhitespace b = not (whitespace b)
+
+-- `PREPUNCTUATION` of text.rs: the leading marks
+abbrev pub leadingMark : ℕ → Bool
+leadingMark b = oneOf (bytes "\"'`({[") b
+
+-- `POSTPUNCTUATION` of text.rs: the trailing marks
+abbrev pub trailingMark : ℕ → Bool
+trailingMark b = oneOf (bytes "\"'`.,:;!?(){}[]") b
+
+abbrev pub unmarked : ℕ → Bool
+unmarked b = not (trailingMark b)
+
+abbrev pub only : ℕ → ℕ → Bool
+only c b = eqb b c
+
+-- the classes by number; c is for `except` and `only` alone
 abbrev pub classes : ℕ → List (ℕ → Bool)
 classes c =
     ascii ∷ digit ∷ letter ∷ digitOrComma ∷ digitOrDash ∷ romanTail ∷ colonNorPoint ∷ except c
-    ∷ nonDigit ∷ notE ∷ continuation ∷ []
+    ∷ nonDigit ∷ notE ∷ continuation ∷ whitespace ∷ nonWhitespace ∷ leadingMark ∷ unmarked ∷ only c ∷ []
 
 -- the class of a number, empty where there is none
 abbrev pub inClass : ℕ → ℕ → ℕ → Bool

@@ -6,7 +6,7 @@ ghost use Prim.Native.Nat.{_-_, _≤_, min};
 ghost use lib.ListN.{length, take, drop, getD};
 ghost use lib.Seq.{sets};
 ghost use Rattle.lists.specs.Bytes.{all, span, count, afterLast, sameBy, lower, starts, ends, stripPrefix, stripSuffix, endsBy};
-ghost use Rattle.lists.specs.Classes.{inClass, folded};
+ghost use Rattle.lists.specs.Classes.{inClass, folded, leadingMark, trailingMark};
 ghost use Rattle.lists.specs.Packed.{unpack};
 
 // The classes of bytes by number. Numbers and no enum: a scan with a constant is then compiled to that class alone.
@@ -23,7 +23,7 @@ pub const DIGIT_OR_DASH: u8 = 4;
 pub const ROMAN_TAIL: u8 = 5;
 
 pub const COLON_NOR_POINT: u8 = 6;
-// Every byte but one, which the scan is given beside the class. For any other class it is given 0.
+// Every byte but one, which the scan is given beside the class. For any other class but ONLY it is given 0.
 pub const NOT: u8 = 7;
 
 pub const NON_DIGIT: u8 = 8;
@@ -32,10 +32,29 @@ pub const NOT_E: u8 = 9;
 
 pub const CONTINUATION: u8 = 10;
 
+pub const WHITESPACE: u8 = 11;
+
+pub const NON_WHITESPACE: u8 = 12;
+
+pub const LEADING_MARK: u8 = 13;
+
+// Every byte but a trailing mark.
+pub const UNMARKED: u8 = 14;
+
+// The one byte that the scan is given beside the class.
+pub const ONLY: u8 = 15;
+
 // What a comparison does to each byte of its first text: nothing, or A to Z are lowered.
 pub const EXACT: bool = false;
 
 pub const LOWERED: bool = true;
+
+// a - b, or 0 where b is larger.
+pub fn minus(a: usize, b: usize) -> usize
+    ensures { λ r. ⌜ r ≡ a - b ⌝ }
+{
+    if b <= a { a - b } else { 0 }
+}
 
 // The byte at i, or 0 past the end.
 pub fn byte_at(s: &[u8], i: usize) -> u8
@@ -60,6 +79,16 @@ pub fn tail(s: &[u8], k: usize) -> &[u8]
 {
     if k <= s.len() {
         return &s[k..];
+    }
+    &s[..0]
+}
+
+// The bytes from index a up to b, as far as there are such.
+pub fn part(s: &[u8], a: usize, b: usize) -> &[u8]
+    ensures { λ r. ⌜ now r ≡ take (b - a) (drop a (now (s .entry))) ⌝ }
+{
+    if a <= b {
+        return front(tail(s, a), b - a);
     }
     &s[..0]
 }
@@ -129,6 +158,32 @@ pub fn to_lower(b: u8) -> u8
     b + 32
 }
 
+fn is_leading_mark(b: u8) -> bool
+    ensures { λ r. ⌜ r ≡ leadingMark b ⌝ }
+{
+    (b == b'"') | (b == b'\'') | (b == b'`') | (b == b'(') | (b == b'{') | (b == b'[')
+}
+
+fn is_trailing_mark(b: u8) -> bool
+    ensures { λ r. ⌜ r ≡ trailingMark b ⌝ }
+{
+    (b == b'"')
+        | (b == b'\'')
+        | (b == b'`')
+        | (b == b'.')
+        | (b == b',')
+        | (b == b':')
+        | (b == b';')
+        | (b == b'!')
+        | (b == b'?')
+        | (b == b'(')
+        | (b == b')')
+        | (b == b'{')
+        | (b == b'}')
+        | (b == b'[')
+        | (b == b']')
+}
+
 // Whether b is of the class k.
 pub fn in_class(k: u8, c: u8, b: u8) -> bool
     ensures { λ r. ⌜ r ≡ inClass k c b ⌝ }
@@ -145,6 +200,11 @@ pub fn in_class(k: u8, c: u8, b: u8) -> bool
         NON_DIGIT => !((b'0' <= b) & (b <= b'9')),
         NOT_E => !((b == b'e') | (b == b'E')),
         CONTINUATION => (0x80 <= b) & (b <= 0xBF),
+        WHITESPACE => (b == b' ') | (b == b'\t') | (b == b'\n') | (b == b'\r'),
+        NON_WHITESPACE => !((b == b' ') | (b == b'\t') | (b == b'\n') | (b == b'\r')),
+        LEADING_MARK => is_leading_mark(b),
+        UNMARKED => !is_trailing_mark(b),
+        ONLY => b == c,
         _ => false,
     }
 }
@@ -163,7 +223,8 @@ pub fn all_of(k: u8, c: u8, s: &[u8]) -> bool
     true
 }
 
-fn tally(yes: bool) -> usize
+// 1 for yes, 0 for no.
+pub fn tally(yes: bool) -> usize
     ensures { λ r. ⌜ (r ≡ cond yes 1 0) × (r ≤ 1) ⌝ }
 {
     if yes { 1 } else { 0 }

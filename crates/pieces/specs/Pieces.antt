@@ -1,6 +1,6 @@
 -- Document 01, "Set pieces": the starred ones in one table, each in the paper's own words. Definitions only.
 use mathlib.Core.Bool.{Bool, true, false, _&&_}
-use mathlib.Core.List.{List, [], _∷_}
+use mathlib.Core.List.{List, [], _∷_, flatMap}
 use Prim.Native.Nat.{ℕ}
 use Prim.Native.Char.{code}
 use Prim.Native.String.{String}
@@ -12,11 +12,14 @@ use Rattle.numerals.specs.Ordinal.{ordinal}
 use Rattle.readings.specs.Year.{year}
 use Rattle.readings.specs.Real.{real}
 use Rattle.readings.specs.Roman.{romanValue}
+use Rattle.tokens.specs.Tokens.{tokens, parts}
 
--- a reading of a text, and the words that it gives; a value of a text, and that value
+-- a reading of a text, and the words that it gives; a value of a text, and that value; a text of one token, and that token's
+-- whitespace, prepunctuation, name and punctuation
 pub data Piece : Type 0 where
   reads : (List ℕ → List Word) → String → String → Piece
   values : (List ℕ → ℕ) → String → ℕ → Piece
+  parted : String → String → String → String → String → Piece
 
 unfoldable pub pieces : List Piece
 pieces =
@@ -30,6 +33,9 @@ pieces =
     ∷ reads ordinal "" "zeroth"
     ∷ reads real "-1.50" "minus one point five zero"
     ∷ values romanValue "IIX" 8
+    ∷ parted "\"" "" "" "\"" ""
+    ∷ parted "\" " "" "\"" "" ""
+    ∷ parted "?!" "" "" "?" "!"
     ∷ []
 
 -- the same texts in the same order
@@ -43,6 +49,7 @@ sameTexts (s ∷ ss) (t ∷ ts) = same s t && sameTexts ss ts
 unfoldable pub holds : Piece → Bool
 holds (reads f s t) = sameTexts (spelled (f (bytes s))) (filled (split (code " ") (bytes t)))
 holds (values f s n) = eqb (f (bytes s)) n
+holds (parted s w p n q) = sameTexts (flatMap parts (tokens (bytes s))) (bytes w ∷ bytes p ∷ bytes n ∷ bytes q ∷ [])
 
 unfoldable pub allHold : List Piece → Bool
 allHold [] = true

@@ -56,18 +56,28 @@ fn pair(at: usize, size: usize) -> [u8; 8]
     ]
 }
 
+// Stores a pair from index `place` on, as far as it falls within.
+pub fn put_pair_at(table: &mut [u8], place: usize, at: usize, size: usize)
+    ensures { λ _. ⌜ now (table .exit) ≡ sets (now (table .entry)) place (pairOf at size) ⌝ }
+{
+    if table.len() <= place {
+        return;
+    }
+    // The pair falls within: the compiler makes one store of it.
+    if PAIR <= table.len() - place {
+        copy(table, place, &pair(at, size), PAIR);
+        return;
+    }
+    put(table, place, &pair(at, size));
+}
+
 // Stores a pair as number `words` of the table.
 fn put_pair(table: &mut [u8], words: usize, at: usize, size: usize)
     ensures { λ _. ⌜ now (table .exit) ≡ sets (now (table .entry)) (pairBytes * words) (pairOf at size) ⌝ }
 {
-    // The pair falls within: the compiler makes one store of it.
-    if words < table.len() / PAIR {
-        copy(table, PAIR * words, &pair(at, size), PAIR);
-        return;
-    }
     // No table is that long, and the product could not be had.
     if words < 0x1000_0000_0000_0000 {
-        put(table, PAIR * words, &pair(at, size));
+        put_pair_at(table, PAIR * words, at, size);
     }
 }
 

@@ -1,4 +1,5 @@
 // Every function that C calls, thin over the library. include/howhakiru.h is the same list for C.
+use lists::minus;
 use numbers::Numeral;
 use patterns::SplitTime;
 use patterns::SplitUnit;
@@ -34,13 +35,6 @@ pub struct HwkTime {
     pub meridiem_len: usize,
 }
 
-// a - b, or 0 where b is larger.
-fn less(a: usize, b: usize) -> usize
-    ensures { λ r. ⌜ r ≡ a - b ⌝ }
-{
-    if b <= a { a - b } else { 0 }
-}
-
 // The parts of a time in a text of n bytes.
 fn time_at_c(t: SplitTime, n: usize) -> HwkTime
     ensures { λ r. ⌜ r ≡ timeAtC n (asTime t) ⌝ }
@@ -69,9 +63,9 @@ fn time_at_c(t: SplitTime, n: usize) -> HwkTime
         hour_at: 0,
         hour_len: hour,
         minute_at: minute,
-        minute_len: less(meridiem, minute),
+        minute_len: minus(meridiem, minute),
         meridiem_at: meridiem,
-        meridiem_len: less(n, meridiem),
+        meridiem_len: minus(n, meridiem),
     }
 }
 

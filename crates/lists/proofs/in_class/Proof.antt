@@ -1,3 +1,4 @@
+use borrow.Author.Needs.{needs}
 use mathlib.Core.Bool.{false}
 use lib.ListN.{List·getD-eq-default}
 use Rattle.lists.specs.Classes.{classes}
@@ -9,6 +10,8 @@ pub in-class-spec : {M : Type 1} → statement M
 in-class-spec =
     tie.close
     (tie.spec
+    (λ c κs. search needs)
+    (λ c κs. search needs)
     (λ c. rw (c .match .keys1))
     (λ c. rw (c .match .keys2))
     (λ c. rw (c .match .keys3))
@@ -20,4 +23,9 @@ in-class-spec =
     (λ c. rw (c .match .keys9))
     (λ c. rw (c .match .keys10))
     (λ c. rw (c .match .keys11))
-    (λ c. rw (List·getD-eq-default (classes (c .before .args .c)) (λ b. false) {n = c .before .args .k} (none-of (c .before .args .k) 11 (c .match .rest)))))
+    (λ c. rw (c .match .keys12))
+    (λ c. rw (c .match .keys13))
+    (λ c. rw (c .before .match .keys14, c .is-leading-mark .ensures))
+    (λ c. rw (c .before .match .keys15, c .is-trailing-mark .ensures))
+    (λ c. rw (c .match .keys16))
+    (λ c. rw (List·getD-eq-default (classes (c .before .args .c)) (λ b. false) {n = c .before .args .k} (none-of (c .before .args .k) 16 (c .match .rest)))))

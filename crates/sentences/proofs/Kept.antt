@@ -1,0 +1,60 @@
+-- The state that a token leaves tells all that the tests ask of it, so the two forms mark the same tokens. Assumes nothing.
+use mathlib.Core.Path.{_≡_, refl, sym, ap, ap₂, _∙_}
+use mathlib.Core.Bool.{Bool, true, false, _&&_, _||_}
+use mathlib.Core.List.{List, [], _∷_}
+use Prim.Native.Nat.{ℕ}
+use native.Mathlib.Omega.{arith}
+use lib.Dec.{eqb}
+use lib.ListN.{length}
+use borrow.Author.Tests.{eqb-true, eqb-false}
+use Rattle.lists.specs.Bytes.{bytes, sameBy, lower}
+use Rattle.lists.proofs.Scan.{same-long}
+use Rattle.tokens.specs.Tokens.{Token}
+use Rattle.sentences.specs.Sentences.{breakAfter, before, isBreak, startsAfter, starts, isSet, flag, fresh, headOf, kept, told, breaks}
+use Rattle.sentences.specs.declared.State.{State}
+
+-- a flag says what it was made of
+pub set-flag : (b : Bool) → isSet (flag b) ≡ b
+set-flag true = refl
+set-flag false = refl
+
+-- five bytes are their own first five
+head-five : (s : List ℕ) → length s ≡ 5 → headOf s ≡ s
+head-five [] h = absurd (omega arith)
+head-five (a ∷ []) h = absurd (omega arith)
+head-five (a ∷ b ∷ []) h = absurd (omega arith)
+head-five (a ∷ b ∷ c ∷ []) h = absurd (omega arith)
+head-five (a ∷ b ∷ c ∷ d ∷ []) h = absurd (omega arith)
+head-five (a ∷ b ∷ c ∷ d ∷ f ∷ []) h = refl
+head-five (a ∷ b ∷ c ∷ d ∷ f ∷ g ∷ s) h = absurd (omega arith)
+
+-- the length and the first five bytes tell whether it is a word of five
+head-same : (s w : List ℕ) → length w ≡ 5 → (eqb (length s) 5 && sameBy lower (headOf s) w) ≡ sameBy lower s w
+head-same s w l = go (eqb (length s) 5) refl
+  where
+    go : (t : Bool) → eqb (length s) 5 ≡ t → (t && sameBy lower (headOf s) w) ≡ sameBy lower s w
+    go true e = ap (λ (h : List ℕ). sameBy lower h w) (head-five s (eqb-true (length s) 5 e))
+    go false e = sym (same-long lower s w (λ k. eqb-false (length s) 5 e (k ∙ l)))
+
+-- the state that a token leaves tells all that the tests ask of it
+pub told-kept : (t : Token) → told (kept (t .name) (t .punctuation)) ≡ before t
+told-kept t = rw (head-same (t .name) (bytes "yahoo") refl) (simp set-flag)
+
+-- so a step from it breaks where a sentence ends between the two tokens
+pub breaks-kept : (t u : Token) → breaks (kept (t .name) (t .punctuation)) (u .whitespace) (u .name) ≡ isBreak t u
+breaks-kept t u = rw told-kept
+
+-- which tokens start a sentence after those that the state was fed
+unfoldable pub marksFrom : State → List Token → List Bool
+marksFrom s [] = []
+marksFrom s (t ∷ ts) = (isSet (s .fresh) || breakAfter (told s) (t .whitespace) (t .name)) ∷ marksFrom (kept (t .name) (t .punctuation)) ts
+
+pub marks-after : (t : Token) (us : List Token) → marksFrom (kept (t .name) (t .punctuation)) us ≡ startsAfter t us
+unfolding marksFrom startsAfter
+marks-after t [] = refl
+marks-after t (u ∷ us) = ap₂ _∷_ (breaks-kept t u) (marks-after u us)
+
+pub marks-starts : (ts : List Token) → marksFrom fresh ts ≡ starts ts
+unfolding marksFrom starts
+marks-starts [] = refl
+marks-starts (t ∷ ts) = ap (λ (bs : List Bool). true ∷ bs) (marks-after t ts)

@@ -1,0 +1,58 @@
+-- The step form, fed the tokens of a text, breaks where the whole-text form marks. Assumes nothing.
+use mathlib.Core.Path.{_≡_, refl, ap, ap₂}
+use mathlib.Core.Bool.{Bool, false}
+use mathlib.Core.List.{List, [], _∷_, map}
+use Prim.Native.Nat.{ℕ, zero, suc}
+use lib.ListN.{length}
+use borrow.Author.Tests.{le-ltb}
+use Rattle.admit.specs.Refusals.{numberDue, textLimit, textRefusal, Call, call}
+use Rattle.admit.proofs.Calls.{text-tests}
+use Rattle.tokens.specs.Tokens.{Token, tokens}
+use Rattle.tokens.proofs.Texts.{Accepted, Each, EachOf, tokens-accepted}
+use Rattle.sentences.specs.Sentences.{startsAfter, starts, fresh, kept, breaks}
+use Rattle.sentences.specs.Calls.{stepDue, Stepped, stepCall}
+use Rattle.sentences.specs.Steps.{stepOf, fed, verdict, accepted, butFirst}
+use Rattle.sentences.specs.declared.State.{State}
+use Rattle.sentences.proofs.Kept.{breaks-kept}
+
+-- "its first step from a fresh state answers no break"
+pub fresh-step : (w n p : List ℕ) → stepCall fresh w n p .value .breaks ≡ false
+unfolding stepCall
+fresh-step w n p = go (numberDue (stepDue w n p))
+  where
+    go : (k : ℕ) → call {A = Stepped} (record { breaks = false; state = fresh }) k (record { breaks = breaks fresh w n; state = kept n p }) .value .breaks ≡ false
+    go zero = refl
+    go (suc k) = refl
+
+-- "a refused step hands back the state it was given"
+pub refused-step : (s : State) (w n p : List ℕ) → (stepCall s w n p .refusal ≡ 0 → ⊥) → stepCall s w n p .value ≡ record { breaks = false; state = s }
+unfolding stepCall
+refused-step s w n p = go (numberDue (stepDue w n p)) (record { breaks = breaks s w n; state = kept n p })
+  where
+    go : (k : ℕ) (given : Stepped) → (call (record { breaks = false; state = s }) k given .refusal ≡ 0 → ⊥) → call (record { breaks = false; state = s }) k given .value ≡ record { breaks = false; state = s }
+    go zero given h = absurd (h refl)
+    go (suc k) given h = refl
+
+accepted-step : (s : State) (t : Token) → Each (Accepted textLimit) t
+    → stepOf s t ≡ record { refusal = 0; value = record { breaks = breaks s (t .whitespace) (t .name); state = kept (t .name) (t .punctuation) } }
+unfolding stepCall
+accepted-step s t h =
+    let w = text-tests textLimit (t .whitespace) (h .whitespace) in
+    let n = text-tests textLimit (t .name) (h .name) in
+    let p = text-tests textLimit (t .punctuation) (h .punctuation) in
+    rw (le-ltb textLimit (length (t .whitespace)) (w .0), le-ltb textLimit (length (t .name)) (n .0), le-ltb textLimit (length (t .punctuation)) (p .0), w .1, n .1, p .1)
+
+fed-after : (t : Token) (us : List Token) → EachOf (Accepted textLimit) us → map verdict (fed (kept (t .name) (t .punctuation)) us) ≡ map accepted (startsAfter t us)
+unfolding fed startsAfter
+fed-after t [] h = refl
+fed-after t (u ∷ us) h = rw (accepted-step (kept (t .name) (t .punctuation)) u (h .0)) (ap₂ _∷_ (ap accepted (breaks-kept t u)) (fed-after u us (h .1)))
+
+fed-fresh : (ts : List Token) → EachOf (Accepted textLimit) ts → map verdict (fed fresh ts) ≡ map accepted (butFirst (starts ts))
+unfolding fed starts butFirst
+fed-fresh [] h = refl
+fed-fresh (t ∷ ts) h = rw (accepted-step fresh t (h .0)) (ap (λ (r : List (Call Bool)). accepted false ∷ r) (fed-after t ts (h .1)))
+
+-- fed the tokens of an accepted text, every step is accepted and breaks before exactly the tokens, other than the first, that
+-- the whole-text form marks
+pub steps-tie : (s : List ℕ) → textRefusal textLimit s ≡ 0 → map verdict (fed fresh (tokens s)) ≡ map accepted (butFirst (starts (tokens s)))
+steps-tie s h = fed-fresh (tokens s) (tokens-accepted textLimit s h)

@@ -1,0 +1,121 @@
+-- Document 01, "Token table and sentences": where sentences start, in a whole text and token by token. Definitions only.
+use mathlib.Core.Bool.{Bool, true, false, cond, not, _&&_, _||_}
+use mathlib.Core.List.{List, [], _∷_}
+use Prim.Native.Nat.{ℕ, _-_}
+use Prim.Native.Char.{code}
+use lib.Dec.{leb, ltb, eqb}
+use lib.ListN.{length, getD}
+use Rattle.lists.specs.Bytes.{bytes, count, has, sameBy, lower}
+use Rattle.lists.specs.Classes.{only}
+use Rattle.tokens.specs.Tokens.{Token}
+use Rattle.sentences.specs.declared.State.{State}
+
+-- A to Z, a to z
+abbrev pub capital : ℕ → Bool
+capital b = leb (code "A") b && leb b (code "Z")
+
+abbrev pub small : ℕ → Bool
+small b = leb (code "a") b && leb b (code "z")
+
+-- the first and the last byte, 0 where there is none
+abbrev pub first : List ℕ → ℕ
+first s = getD s 0 0
+
+abbrev pub last : List ℕ → ℕ
+last s = getD s (length s - 1) 0
+
+-- what the tests ask of the token before
+pub record Before : Type 0 where
+  pub yahoo : Bool
+  pub exclamation : Bool
+  pub question : Bool
+  pub colon : Bool
+  pub point : Bool
+  pub abbreviation : Bool
+
+-- "`is_sentence_break` decides between neighbours; its tests run in the Rust's order, blank line first, then "yahoo". Lengths
+-- are bytes." Of the next token they ask its whitespace and its name.
+unfoldable pub breakAfter : Before → List ℕ → List ℕ → Bool
+breakAfter t whitespace name =
+    cond (ltb 1 (count (only (code "\n")) whitespace)) true
+    (cond (t .yahoo && t .exclamation && small (first name)) false
+    (cond (t .colon || t .question || t .exclamation) true
+    (cond (not (t .point)) false
+    (cond (not (capital (first name))) false
+    (cond (ltb 1 (length whitespace)) true
+    (not (t .abbreviation)))))))
+
+-- what a name looks like an abbreviation by: its last byte, its length and its first byte
+abbrev pub abbreviation : ℕ → ℕ → ℕ → Bool
+abbreviation l n f = capital l || (ltb n 4 && capital f)
+
+abbrev pub before : Token → Before
+before t =
+    record {
+      yahoo = sameBy lower (t .name) (bytes "yahoo");
+      exclamation = has (code "!") (t .punctuation);
+      question = has (code "?") (t .punctuation);
+      colon = has (code ":") (t .punctuation);
+      point = has (code ".") (t .punctuation);
+      abbreviation = abbreviation (last (t .name)) (length (t .name)) (first (t .name));
+    }
+
+-- a sentence ends between two tokens
+abbrev pub isBreak : Token → Token → Bool
+isBreak t u = breakAfter (before t) (u .whitespace) (u .name)
+
+-- "The whole-text form answers for each token whether it starts a sentence; the first token does."
+unfoldable pub startsAfter : Token → List Token → List Bool
+startsAfter t [] = []
+startsAfter t (u ∷ us) = isBreak t u ∷ startsAfter u us
+
+unfoldable pub starts : List Token → List Bool
+starts [] = []
+starts (t ∷ ts) = true ∷ startsAfter t ts
+
+-- ---- the step form
+
+-- a flag: 0 no, else yes; yes is written as 1
+abbrev pub isSet : ℕ → Bool
+isSet b = not (eqb b 0)
+
+abbrev pub flag : Bool → ℕ
+flag b = cond b 1 0
+
+-- a state that no token was fed to
+abbrev pub fresh : State
+fresh = record { len = 0; head = 0 ∷ 0 ∷ 0 ∷ 0 ∷ 0 ∷ []; last = 0; point = 0; colon = 0; question = 0; exclamation = 0; fresh = 1 }
+
+-- the first five bytes, 0 past the end
+abbrev pub headOf : List ℕ → List ℕ
+headOf s = getD s 0 0 ∷ getD s 1 0 ∷ getD s 2 0 ∷ getD s 3 0 ∷ getD s 4 0 ∷ []
+
+-- "keeps of the last token the name's first five bytes, its length and last byte, and which marks of . : ? ! its punctuation has"
+abbrev pub kept : List ℕ → List ℕ → State
+kept name punctuation =
+    record {
+      len = length name;
+      head = headOf name;
+      last = last name;
+      point = flag (has (code ".") punctuation);
+      colon = flag (has (code ":") punctuation);
+      question = flag (has (code "?") punctuation);
+      exclamation = flag (has (code "!") punctuation);
+      fresh = 0;
+    }
+
+-- what a state tells of the token before
+abbrev pub told : State → Before
+told s =
+    record {
+      yahoo = eqb (s .len) 5 && sameBy lower (s .head) (bytes "yahoo");
+      exclamation = isSet (s .exclamation);
+      question = isSet (s .question);
+      colon = isSet (s .colon);
+      point = isSet (s .point);
+      abbreviation = abbreviation (s .last) (s .len) (getD (s .head) 0 0);
+    }
+
+-- whether a step breaks before its token: "its first step from a fresh state answers no break"
+abbrev pub breaks : State → List ℕ → List ℕ → Bool
+breaks s whitespace name = not (isSet (s .fresh)) && breakAfter (told s) whitespace name

@@ -1,0 +1,261 @@
+// Where sentences start: `sentences` of text.rs for a whole text, and `SentenceBuilder::push` token by token.
+use admit::Answer;
+use admit::Refusal;
+use admit::refusal_of;
+use lists::LOWERED;
+use lists::NOT;
+use lists::ONLY;
+use lists::byte_at;
+use lists::count_of;
+use lists::minus;
+use lists::part;
+use lists::same;
+use lists::span_of;
+use tokens::Tokens;
+use tokens::exceeds;
+use tokens::token_at;
+ghost use mathlib.Core.Path.{_≡_};
+ghost use mathlib.Core.Bool.{_||_};
+ghost use Prim.Native.Nat.{_≤_};
+ghost use lib.ListN.{length};
+ghost use lib.Seq.{sets};
+ghost use Rattle.lists.specs.Bytes.{has};
+ghost use Rattle.admit.specs.Refusals.{numberDue};
+ghost use Rattle.tokens.specs.Tokens.{tokens};
+ghost use Rattle.tokens.specs.Table.{filledCall, asFilled};
+ghost use Rattle.sentences.specs.Sentences.{capital, small, last, abbreviation, breakAfter, isSet, flag, fresh, headOf, kept, told, breaks};
+ghost use Rattle.sentences.specs.Calls.{startBytes, stepDue, stepCall, asStep, firstDue};
+
+// What is kept of the last token: its name's length, first five bytes (0 past its end) and last byte (0 where it is empty), and
+// whether its punctuation has each of . : ? and !. A flag is 0 for no and any other byte for yes.
+#[repr(C)]
+pub struct State {
+    pub len: usize,
+    pub head: [u8; 5],
+    pub last: u8,
+    pub point: u8,
+    pub colon: u8,
+    pub question: u8,
+    pub exclamation: u8,
+    // No token was fed yet.
+    pub fresh: u8,
+}
+
+// A step's answer: the refusal's number or 0, whether a sentence ends before the token, and the state after it.
+#[repr(C)]
+pub struct Step {
+    pub refusal: u8,
+    pub breaks: bool,
+    pub state: State,
+}
+
+fn is_capital(b: u8) -> bool
+    ensures { λ r. ⌜ r ≡ capital b ⌝ }
+{
+    (b'A' <= b) & (b <= b'Z')
+}
+
+fn is_small(b: u8) -> bool
+    ensures { λ r. ⌜ r ≡ small b ⌝ }
+{
+    (b'a' <= b) & (b <= b'z')
+}
+
+fn is_set(b: u8) -> bool
+    ensures { λ r. ⌜ r ≡ isSet b ⌝ }
+{
+    b != 0
+}
+
+fn flag(yes: bool) -> u8
+    ensures { λ r. ⌜ r ≡ flag yes ⌝ }
+{
+    if yes { 1 } else { 0 }
+}
+
+// Whether the byte c stands in s, as a flag.
+fn has(s: &[u8], c: u8) -> u8
+    ensures { λ r. ⌜ r ≡ flag (has c (now (s .entry))) ⌝ }
+{
+    flag(span_of(NOT, c, s) < s.len())
+}
+
+fn head_of(s: &[u8]) -> [u8; 5]
+    ensures { λ r. ⌜ r ≡ headOf (now (s .entry)) ⌝ }
+{
+    let a = byte_at(s, 0);
+    let b = byte_at(s, 1);
+    let c = byte_at(s, 2);
+    let d = byte_at(s, 3);
+    let e = byte_at(s, 4);
+    [a, b, c, d, e]
+}
+
+// Of two numbers of refusals the one that is tested first, where 0 is none.
+fn first_due(a: u8, b: u8) -> u8
+    ensures { λ r. ⌜ r ≡ firstDue a b ⌝ }
+{
+    if a == 0 {
+        return b;
+    }
+    if b == 0 {
+        return a;
+    }
+    if a <= b { a } else { b }
+}
+
+impl State {
+    pub fn fresh() -> Self
+        ensures { λ r. ⌜ r ≡ fresh ⌝ }
+    {
+        State {
+            len: 0,
+            head: [0u8; 5],
+            last: 0,
+            point: 0,
+            colon: 0,
+            question: 0,
+            exclamation: 0,
+            fresh: 1,
+        }
+    }
+
+    // The state after a token.
+    fn kept(name: &[u8], punctuation: &[u8]) -> Self
+        ensures { λ r. ⌜ r ≡ kept (now (name .entry)) (now (punctuation .entry)) ⌝ }
+    {
+        let head = head_of(name);
+        State {
+            len: name.len(),
+            head,
+            last: byte_at(name, minus(name.len(), 1)),
+            point: has(punctuation, b'.'),
+            colon: has(punctuation, b':'),
+            question: has(punctuation, b'?'),
+            exclamation: has(punctuation, b'!'),
+            fresh: 0,
+        }
+    }
+
+    fn is_yahoo(self) -> bool
+        ensures { λ r. ⌜ r ≡ told self .yahoo ⌝ }
+    {
+        (self.len == 5) & same(LOWERED, &self.head, b"yahoo")
+    }
+
+    fn is_abbreviation(self) -> bool
+        ensures { λ r. ⌜ r ≡ told self .abbreviation ⌝ }
+    {
+        let first = self.head[0];
+        is_capital(self.last) | ((self.len < 4) & is_capital(first))
+    }
+}
+
+// Whether a sentence ends between the token that the state tells of and the next.
+fn is_sentence_break(state: State, whitespace: &[u8], name: &[u8]) -> bool
+    ensures { λ r. ⌜ r ≡ breakAfter (told state) (now (whitespace .entry)) (now (name .entry)) ⌝ }
+{
+    // A blank line always breaks.
+    if 1 < count_of(ONLY, b'\n', whitespace) {
+        return true;
+    }
+    let first = byte_at(name, 0);
+    // The reference does not break after this one interjection.
+    if state.is_yahoo() & is_set(state.exclamation) & is_small(first) {
+        return false;
+    }
+    if is_set(state.colon) | is_set(state.question) | is_set(state.exclamation) {
+        return true;
+    }
+    if !is_set(state.point) {
+        return false;
+    }
+    if !is_capital(first) {
+        return false;
+    }
+    // Extra whitespace after a period is a strong signal on its own.
+    if 1 < whitespace.len() {
+        return true;
+    }
+    !state.is_abbreviation()
+}
+
+// The number of the refusal that is due for the three texts of a step.
+fn refusal_of_step(whitespace: &[u8], name: &[u8], punctuation: &[u8]) -> u8
+    ensures { λ r. ⌜ r ≡ numberDue (stepDue (now (whitespace .entry)) (now (name .entry)) (now (punctuation .entry))) ⌝ }
+{
+    let two = first_due(refusal_of(whitespace), refusal_of(name));
+    first_due(two, refusal_of(punctuation))
+}
+
+impl State {
+    // A step: the token is whitespace, name and punctuation.
+    pub fn push(self, whitespace: &[u8], name: &[u8], punctuation: &[u8]) -> Step
+        ensures { λ r. ⌜ asStep r ≡ stepCall self (now (whitespace .entry)) (now (name .entry)) (now (punctuation .entry)) ⌝ }
+    {
+        let refusal = refusal_of_step(whitespace, name, punctuation);
+        if refusal != 0 {
+            return Step {
+                refusal,
+                breaks: false,
+                state: self,
+            };
+        }
+        let breaks = !is_set(self.fresh) & is_sentence_break(self, whitespace, name);
+        Step {
+            refusal: 0,
+            breaks,
+            state: State::kept(name, punctuation),
+        }
+    }
+}
+
+// Whether a token starts a sentence after those that the state was fed, as a flag.
+fn start_flag(state: State, whitespace: &[u8], name: &[u8]) -> u8
+    ensures { λ r. ⌜ r ≡ flag (isSet (state .fresh) || breakAfter (told state) (now (whitespace .entry)) (now (name .entry))) ⌝ }
+{
+    flag(is_set(state.fresh) | is_sentence_break(state, whitespace, name))
+}
+
+// Writes a byte for each token, and answers how many there are.
+fn write_starts(s: &[u8], starts: &mut [u8]) -> usize
+    requires { ⌜ length (tokens (now s)) ≤ length (now starts) ⌝ }
+    ensures { λ r. ⌜ (r ≡ length (tokens (now (s .entry)))) × (now (starts .exit) ≡ sets (now (starts .entry)) 0 (startBytes (now (s .entry)))) ⌝ }
+{
+    let mut state = State::fresh();
+    let mut n = 0;
+    let mut at = 0;
+    while at < s.len() {
+        let t = token_at(s, at);
+        if t.prepunctuation == s.len() {
+            return n;
+        }
+        let name = part(s, t.name, t.punctuation);
+        starts[n] = start_flag(state, part(s, at, t.prepunctuation), name);
+        state = State::kept(name, part(s, t.punctuation, t.end));
+        n += 1;
+        at = t.end;
+    }
+    n
+}
+
+// For each token of s whether it starts a sentence.
+pub fn sentences(s: &[u8], starts: &mut [u8]) -> Tokens
+    ensures { λ r. ⌜ asFilled r (now (starts .exit)) ≡ filledCall (now (s .entry)) (startBytes (now (s .entry))) (now (starts .entry)) ⌝ }
+{
+    let refusal = refusal_of(s);
+    if refusal != 0 {
+        return Tokens { refusal, tokens: 0 };
+    }
+    if exceeds(s, starts.len()) {
+        let answer = Answer::Refused(Refusal::BufferTooShort);
+        return Tokens {
+            refusal: answer.number(),
+            tokens: 0,
+        };
+    }
+    Tokens {
+        refusal: 0,
+        tokens: write_starts(s, starts),
+    }
+}

@@ -1,0 +1,126 @@
+-- Where a run is cut, as the code finds it. Assumes nothing.
+use mathlib.Core.Path.{_≡_, refl, sym, ap, _∙_}
+use mathlib.Core.Bool.{Bool, true, false, cond, not, _&&_, and-false}
+use mathlib.Core.Logic.{⊎-elim}
+use mathlib.Core.List.{List, [], _∷_, _++_}
+use Prim.Native.Nat.{ℕ, zero, suc, _+_, _-_, _≤_, _<_}
+use native.Mathlib.Omega.{arith}
+use lib.Dec.{eqb, leb}
+use lib.ListN.{length, take, drop, length-append, length-take, length-drop, drop-of-length-le}
+use lib.Seq.{drop-drop, length-take-le}
+use borrow.Author.Tests.{le-leb, lt-leb, eq-eqb, ne-eqb}
+use Rattle.lists.specs.Bytes.{all, span, lead, after, afterLast}
+use Rattle.lists.specs.Classes.{whitespace, nonWhitespace, leadingMark, unmarked}
+use Rattle.lists.proofs.Scan.{span-le, all-span, span-full, last-le}
+use Rattle.lists.proofs.Sets.{le-or-lt}
+use Rattle.sink.specs.Words.{storeOf}
+use Rattle.tokens.specs.Tokens.{Token, marked, nameSize, cut, afterWhite, afterRun, firstToken, parts}
+use Rattle.tokens.specs.Table.{placesOf, CutAt}
+use Rattle.tokens.specs.declared.Places.{Places}
+use Rattle.tokens.proofs.Forward.{cut-joined, size-parts}
+
+-- a run wholly of leading marks
+pub cut-marks : (run : List ℕ) (m : ℕ) → m ≡ span leadingMark run → m ≡ length run → CutAt run true 0 m × CutAt run false m m
+unfolding cut
+cut-marks run m e h =
+    let a : all leadingMark run ≡ true = span-full leadingMark run (omega arith) in
+    let k : span leadingMark run ≡ length run = omega arith in
+    let l : length (lead leadingMark run) ≡ length run = length-take-le (span leadingMark run) run (omega arith) ∙ k in
+    let r : after leadingMark run ≡ [] = drop-of-length-le run {i = span leadingMark run} (omega arith) in (
+      record { name = rw a; punctuation = rw a (omega arith); within = omega arith },
+      record { name = omega arith; punctuation = rw r (omega arith); within = omega arith },
+    )
+
+-- another one
+pub cut-named : (run : List ℕ) (ends : Bool) (m k : ℕ) → m ≡ span leadingMark run → (m ≡ length run → ⊥) → k ≡ afterLast unmarked (drop (m + 1) run) → CutAt run ends m ((m + 1) + k)
+unfolding cut
+cut-named run ends m k e h q =
+    let s : span leadingMark run ≤ length run = span-le leadingMark run in
+    let a : all leadingMark run ≡ false = go (all leadingMark run) refl in
+    let rest : List ℕ = after leadingMark run in
+    let n : length rest ≡ length run - span leadingMark run = length-drop (span leadingMark run) run in
+    let d : drop 1 rest ≡ drop (m + 1) run = drop-drop 1 (span leadingMark run) run ∙ ap (λ (i : ℕ). drop (i + 1) run) (sym e) in
+    let f : afterLast unmarked (drop 1 rest) ≡ k = ap (afterLast unmarked) d ∙ sym q in
+    let b : k ≤ length run - (m + 1) = rw (length-drop, ← q) at (last-le unmarked (drop (m + 1) run)) in
+    let l : length (lead leadingMark run) ≡ span leadingMark run = length-take-le (span leadingMark run) run s in
+    let t : length (take (suc k) rest) ≡ suc k = length-take-le (suc k) rest (omega arith) in
+    record { name = rw (a, and-false) (omega arith); punctuation = rw (a, and-false, f) (omega arith); within = omega arith }
+  where
+    go : (t : Bool) → all leadingMark run ≡ t → all leadingMark run ≡ false
+    go true x = absurd (h (e ∙ all-span leadingMark run x))
+    go false x = x
+
+-- the parts of a run do not ask what its whitespace is
+pub same-name : (w run : List ℕ) (ends : Bool) → (cut w run ends .prepunctuation ≡ cut [] run ends .prepunctuation) × (cut w run ends .name ≡ cut [] run ends .name) × (cut w run ends .whitespace ≡ w)
+unfolding cut
+same-name w run ends = go (ends && all leadingMark run)
+  where
+    x : List ℕ → Bool → Token
+    x w t = cond t (record { whitespace = w; prepunctuation = []; name = run; punctuation = [] }) (marked w (lead leadingMark run) (after leadingMark run))
+
+    go : (t : Bool) → (x w t .prepunctuation ≡ x [] t .prepunctuation) × (x w t .name ≡ x [] t .name) × (x w t .whitespace ≡ w)
+    go true = (refl, refl, refl)
+    go false = (refl, refl, refl)
+
+-- the places of a token whose run is cut so
+pub cut-places : (at : ℕ) (w run : List ℕ) (ends : Bool) (n p : ℕ) → CutAt run ends n p
+    → record { whitespace = at; prepunctuation = at + length w; name = at + length w + n; punctuation = at + length w + p; end = at + length w + length run } ≡ placesOf at (cut w run ends)
+cut-places at w run ends n p c =
+    let t : Token = cut w run ends in
+    let q = same-name w run ends in
+    let ew : length (t .whitespace) ≡ length w = ap length (q .2) in
+    let en : length (t .prepunctuation) ≡ n = ap length (q .0) ∙ sym (c .name) in
+    let ep : n + length (t .name) ≡ p = ap (λ (k : ℕ). n + k) (ap length (q .1)) ∙ sym (c .punctuation) in
+    let sum : length (storeOf (parts t)) ≡ length w + length run = ap length (cut-joined w run ends) ∙ length-append w run in
+    let all : length (storeOf (parts t)) ≡ length (t .whitespace) + (length (t .prepunctuation) + (length (t .name) + length (t .punctuation))) = size-parts t in
+    let e1 : at + length w ≡ at + length (t .whitespace) = omega arith in
+    let e2 : at + length w + n ≡ at + length (t .whitespace) + length (t .prepunctuation) = omega arith in
+    let e3 : at + length w + p ≡ at + length (t .whitespace) + length (t .prepunctuation) + length (t .name) = omega arith in
+    let e4 : at + length w + length run ≡ at + length (t .whitespace) + length (t .prepunctuation) + length (t .name) + length (t .punctuation) = omega arith in
+    λ j. record { whitespace = at; prepunctuation = e1 j; name = e2 j; punctuation = e3 j; end = e4 j }
+
+-- the first token of what follows the first `at` bytes, as the code finds it: q bytes of whitespace, and r of the run
+module _ (s : List ℕ) (at q r : ℕ) (eq : q ≡ span whitespace (drop at s)) (er : r ≡ span nonWhitespace (drop (at + q) s)) where
+  run-white : drop (at + q) s ≡ afterWhite (drop at s)
+  run-white = ap (λ (k : ℕ). drop (at + k) s) eq ∙ sym (drop-drop (span whitespace (drop at s)) at s)
+
+  -- the run as the code takes it
+  abbrev run : List ℕ
+  run = take ((at + q + r) - (at + q)) (drop (at + q) s)
+
+  run-lead : run ≡ lead nonWhitespace (afterWhite (drop at s))
+  run-lead =
+      let k : (at + q + r) - (at + q) ≡ span nonWhitespace (drop (at + q) s) = omega arith in
+      ap (λ (i : ℕ). take i (drop (at + q) s)) k ∙ ap (λ (d : List ℕ). lead nonWhitespace d) run-white
+
+  run-ends : leb (length s) (at + q + r) ≡ eqb (length (afterRun (drop at s))) 0
+  run-ends =
+      let n : length (afterRun (drop at s)) ≡ length s - (at + q + r) =
+      ap (λ (d : List ℕ). length (after nonWhitespace d)) (sym run-white) ∙ length-drop (span nonWhitespace (drop (at + q) s)) (drop (at + q) s)
+      ∙ ap (λ (k : ℕ). k - span nonWhitespace (drop (at + q) s)) (length-drop (at + q) s) ∙ omega arith in
+      rw n
+      (⊎-elim (λ (h : length s ≤ at + q + r). le-leb _ _ h ∙ sym (eq-eqb (length s - (at + q + r)) 0 (omega arith)))
+      (λ (h : at + q + r < length s). lt-leb _ _ h ∙ sym (ne-eqb (length s - (at + q + r)) 0 (λ z. omega arith))) (le-or-lt (length s) (at + q + r)))
+
+  -- no sum of the places is too large
+  pub run-within : at + q + r ≤ at + (length s - at)
+  run-within =
+      let a : span whitespace (drop at s) ≤ length s - at = rw length-drop at (span-le whitespace (drop at s)) in
+      let b : span nonWhitespace (drop (at + q) s) ≤ length s - (at + q) = rw length-drop at (span-le nonWhitespace (drop (at + q) s)) in
+      omega arith
+
+  pub run-fits : (ends : Bool) (n p : ℕ) → CutAt run ends n p → (n ≤ r) × (p ≤ r)
+  run-fits ends n p c =
+      let l : length run ≤ r = simp length-take (omega arith) in
+      let a : p ≤ length run = c .within in
+      let b : p ≡ n + length (cut [] run ends .name) = c .punctuation in
+      (omega arith, omega arith)
+
+  pub first-places : (n p : ℕ) → CutAt run (leb (length s) (at + q + r)) n p
+      → record { whitespace = at; prepunctuation = at + q; name = at + q + n; punctuation = at + q + p; end = at + q + r } ≡ placesOf at (firstToken (drop at s))
+  first-places n p c =
+      let d : List ℕ = drop at s in
+      let c′ : CutAt (lead nonWhitespace (afterWhite d)) (eqb (length (afterRun d)) 0) n p = rw (run-lead, run-ends) at c in
+      let lw : length (lead whitespace d) ≡ q = length-take-le (span whitespace d) d (span-le whitespace d) ∙ sym eq in
+      let lr : length (lead nonWhitespace (afterWhite d)) ≡ r = length-take-le (span nonWhitespace (afterWhite d)) (afterWhite d) (span-le nonWhitespace (afterWhite d)) ∙ ap (span nonWhitespace) (sym run-white) ∙ sym er in
+      rw (lw, lr) at (cut-places at (lead whitespace d) (lead nonWhitespace (afterWhite d)) (eqb (length (afterRun d)) 0) n p c′)

@@ -1,0 +1,89 @@
+-- The tokens of a text from its front, and how a token's parts make up what it took. Assumes nothing.
+use mathlib.Core.Path.{_≡_, refl, sym, ap, ap₂, _∙_}
+use mathlib.Core.Bool.{Bool, true, false, cond, not, _&&_}
+use mathlib.Core.List.{List, [], _∷_, _++_, append-assoc, append-nil}
+use Prim.Native.Nat.{ℕ, zero, suc, _+_, _-_, _≤_, _<_}
+use native.Mathlib.Nat.{add-zero}
+use native.Mathlib.Omega.{arith}
+use lib.Dec.{eqb}
+use lib.ListN.{length, take, drop, getD, length-append, length-drop, take-append-drop}
+use lib.Seq.{getD-drop}
+use Rattle.lists.specs.Bytes.{all, span, lead, after}
+use Rattle.lists.specs.Classes.{whitespace, nonWhitespace, leadingMark}
+use Rattle.lists.proofs.Recursion.{Local, recur-eq, cond-cong}
+use Rattle.lists.proofs.Scan.{span-short, span-fails, span-some}
+use Rattle.sink.specs.Words.{storeOf}
+use Rattle.tokens.specs.Tokens.{Token, marked, nameSize, cut, afterWhite, afterRun, firstToken, tokensStep, tokens, parts}
+
+-- after the whitespace a run follows, where the text is not whitespace alone
+pub run-some : (s : List ℕ) → all whitespace s ≡ false → 0 < span nonWhitespace (afterWhite s)
+run-some s h =
+    let n : span whitespace s < length s = span-short whitespace s h in
+    let g : getD (afterWhite s) 0 0 ≡ getD s (span whitespace s) 0 = getD-drop (span whitespace s) s 0 0 ∙ ap (λ (k : ℕ). getD s k 0) (add-zero (span whitespace s)) in
+    let f : whitespace (getD (afterWhite s) 0 0) ≡ false = ap whitespace g ∙ span-fails whitespace s n in
+    span-some nonWhitespace (afterWhite s) (simp length-drop (omega arith)) (rw f)
+
+-- what follows the first token is then shorter
+pub afterRun-less : (s : List ℕ) → all whitespace s ≡ false → length (afterRun s) < length s
+afterRun-less s h =
+    let n : span whitespace s < length s = span-short whitespace s h in
+    let r = run-some s h in
+    simp length-drop (omega arith)
+
+tokens-local : Local tokensStep
+unfolding tokensStep
+tokens-local f g s h = cond-cong (all whitespace s) (λ e. refl) (λ n. ap (λ (ts : List Token). firstToken s ∷ ts) (h (afterRun s) (afterRun-less s n)))
+
+tokens-eq : (s : List ℕ) → tokens s ≡ tokensStep tokens s
+unfolding tokens
+tokens-eq s = recur-eq [] tokensStep tokens-local s
+
+-- nothing but whitespace is left
+pub tokens-none : (s : List ℕ) → all whitespace s ≡ true → tokens s ≡ []
+unfolding tokensStep
+tokens-none s h = tokens-eq s ∙ rw h
+
+-- the first token, and those of what follows it
+pub tokens-more : (s : List ℕ) → all whitespace s ≡ false → tokens s ≡ firstToken s ∷ tokens (afterRun s)
+unfolding tokensStep
+tokens-more s h = tokens-eq s ∙ rw h
+
+-- a run's parts are joined behind its whitespace
+pub cut-joined : (white run : List ℕ) (ends : Bool) → storeOf (parts (cut white run ends)) ≡ white ++ run
+unfolding cut storeOf
+cut-joined white run ends = go (ends && all leadingMark run)
+  where
+    rest : List ℕ
+    rest = after leadingMark run
+
+    go : (t : Bool) → storeOf (parts (cond t (record { whitespace = white; prepunctuation = []; name = run; punctuation = [] }) (marked white (lead leadingMark run) rest))) ≡ white ++ run
+    go true = ap (λ (r : List ℕ). white ++ r) (append-nil run)
+    go false =
+        ap (λ (r : List ℕ). white ++ (lead leadingMark run ++ (take (nameSize rest) rest ++ r))) (append-nil (drop (nameSize rest) rest))
+        ∙ ap (λ (r : List ℕ). white ++ (lead leadingMark run ++ r)) (take-append-drop (nameSize rest) rest)
+        ∙ ap (λ (r : List ℕ). white ++ r) (take-append-drop (span leadingMark run) run)
+
+-- the bytes of a token's parts
+pub size-parts : (t : Token) → length (storeOf (parts t)) ≡ length (t .whitespace) + (length (t .prepunctuation) + (length (t .name) + length (t .punctuation)))
+unfolding storeOf
+size-parts t = simp (length-append, append-nil) refl
+
+-- the text is its first token's parts and what follows them
+pub first-joined : (s : List ℕ) → storeOf (parts (firstToken s)) ++ afterRun s ≡ s
+first-joined s =
+    ap (λ (r : List ℕ). r ++ afterRun s) (cut-joined (lead whitespace s) (lead nonWhitespace (afterWhite s)) (eqb (length (afterRun s)) 0))
+    ∙ append-assoc (lead whitespace s) (lead nonWhitespace (afterWhite s)) (afterRun s)
+    ∙ ap (λ (r : List ℕ). lead whitespace s ++ r) (take-append-drop (span nonWhitespace (afterWhite s)) (afterWhite s))
+    ∙ take-append-drop (span whitespace s) s
+
+-- induction along the tokens
+pub tokens-induct : (P : List ℕ → Type 0) → ((s : List ℕ) → all whitespace s ≡ true → P s) → ((s : List ℕ) → all whitespace s ≡ false → P (afterRun s) → P s) → (s : List ℕ) → P s
+tokens-induct P none more s = at (suc (length s)) s (omega arith)
+  where
+    go : (n : ℕ) (s : List ℕ) → length s < suc n → ((r : List ℕ) → length r < n → P r) → (t : Bool) → all whitespace s ≡ t → P s
+    go n s l i true e = none s e
+    go n s l i false e = let k = afterRun-less s e in more s e (i (afterRun s) (omega arith))
+
+    at : (n : ℕ) (s : List ℕ) → length s < n → P s
+    at zero s l = absurd (omega arith)
+    at (suc n) s l = go n s l (at n) (all whitespace s) refl

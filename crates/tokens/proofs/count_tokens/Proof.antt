@@ -1,0 +1,32 @@
+use mathlib.Core.Path.{_≡_, sym, _∙_}
+use Prim.Native.Nat.{_+_, _-_, _≤_}
+use native.Mathlib.Nat.{zero-add}
+use native.Mathlib.Omega.{arith}
+use lib.ListN.{length, drop}
+use borrow.Author.Needs.{needs}
+use Rattle.tokens.specs.Tokens.{tokens}
+use Rattle.tokens.proofs.Count.{runs, runs-tokens, runs-on, runs-end}
+use Rattle.tokens.proofs.count_tokens.Statement.{statement}
+use Rattle.tokens.proofs.count_tokens.Tie as tie
+
+abbrev Inv-loop : tie.InvT-loop
+Inv-loop s n₀ white₀ i₀ n white i = (i ≤ length s) × (n ≤ i) × (n + runs white (drop i s) ≡ length (tokens s))
+
+abbrev μ-loop : tie.MeasureT-loop
+μ-loop s n₀ white₀ i₀ n white i = length s - i
+
+pub count-tokens-spec : {M : Type 1} → statement M
+count-tokens-spec =
+    tie.close
+    (tie.spec
+    Inv-loop
+    μ-loop
+    (λ c. (omega arith, omega arith, zero-add _ ∙ runs-tokens (c .before .args .s .now)))
+    (λ c. search needs)
+    (λ c κs. search needs)
+    (λ c κs. search needs)
+    (λ c. let t = c .tally .ensures .1 in omega arith)
+    (λ c. search needs)
+    (λ c. search needs)
+    (λ c. let t = c .tally .ensures .1 in (omega arith, omega arith, rw (c .tally .ensures .0, c .before .in-class .ensures) (sym (runs-on (c .before .before .before .before .loop .white) (c .before .before .before .before .before .before .args .s .now) (c .before .before .before .before .loop .i) (c .before .before .before .before .loop .n) (omega arith)) ∙ c .before .before .before .before .loop .inv .2)))
+    (λ c. sym (runs-end (c .before .loop .white) (c .before .before .before .args .s .now) (c .before .loop .i) (c .before .loop .n) (omega arith)) ∙ c .before .loop .inv .2))

@@ -1,0 +1,81 @@
+-- Document 01, "Token table and sentences": the token table, and what a call answers that gives so many bytes a token.
+-- Definitions only.
+use mathlib.Core.Path.{_≡_}
+use mathlib.Core.Bool.{Bool}
+use mathlib.Core.List.{List, [], _∷_, _++_}
+use Prim.Native.Nat.{ℕ, _+_, _-_, _≤_}
+use lib.Dec.{ltb}
+use lib.ListN.{length}
+use Rattle.lists.specs.Bytes.{over}
+use Rattle.admit.specs.Refusals.{numberDue, textLimit, textDue, Call, call}
+use Rattle.sink.specs.Sink.{pairOf}
+use Rattle.sink.specs.Words.{storeOf, tableOf}
+use Rattle.tokens.specs.Tokens.{Token, cut, tokens, parts}
+use Rattle.tokens.specs.declared.Tokens.{Tokens}
+use Rattle.tokens.specs.declared.Places.{Places}
+
+-- the bytes that a token takes of its text, from its whitespace to its punctuation
+abbrev pub size : Token → ℕ
+size t = length (storeOf (parts t))
+
+-- "A token is four pairs of offset and length, sorted by offset": the record of a token that starts at the offset `at`.
+-- "Each starts where the one before it ends, empty ones too."
+unfoldable pub recordOf : ℕ → Token → List ℕ
+recordOf at t = tableOf at (parts t)
+
+-- the bytes of a record
+abbrev pub recordBytes : ℕ
+recordBytes = 32
+
+-- the records of tokens of which the first starts at the offset `at`
+unfoldable pub records : ℕ → List Token → List ℕ
+records at [] = []
+records at (t ∷ ts) = recordOf at t ++ records (at + size t) ts
+
+-- the parts of the tokens, joined
+unfoldable pub joined : List Token → List ℕ
+joined [] = []
+joined (t ∷ ts) = storeOf (parts t) ++ joined ts
+
+-- the count of tokens, and the buffer's final bytes
+pub record Filled : Type 0 where
+  pub tokens : ℕ
+  pub buffer : List ℕ
+
+-- the call that is given the text s and writes `result` over `old`: "a refused call answers its number, with every count and
+-- value 0 .. and writes nothing"; "bytes past the result stay"
+unfoldable pub filledCall : List ℕ → List ℕ → List ℕ → Call Filled
+filledCall s result old =
+    call (record { tokens = 0; buffer = old })
+    (numberDue (textDue textLimit s (ltb (length old) (length result))))
+    (record { tokens = length (tokens s); buffer = over result old })
+
+-- an answer, with the buffer as the call leaves it
+abbrev pub asFilled : Tokens → List ℕ → Call Filled
+asFilled r buffer = record { refusal = r .refusal; value = record { tokens = r .tokens; buffer = buffer } }
+
+-- ---- no public promise is made of these
+
+-- where the parts of a token start that starts at the offset `at`, and where the last one ends
+abbrev pub placesOf : ℕ → Token → Places
+placesOf at t =
+    record {
+      whitespace = at;
+      prepunctuation = at + length (t .whitespace);
+      name = at + length (t .whitespace) + length (t .prepunctuation);
+      punctuation = at + length (t .whitespace) + length (t .prepunctuation) + length (t .name);
+      end = at + length (t .whitespace) + length (t .prepunctuation) + length (t .name) + length (t .punctuation);
+    }
+
+-- the record of a token whose parts are at these places
+abbrev pub recordAt : Places → List ℕ
+recordAt p =
+    pairOf (p .whitespace) (p .prepunctuation - p .whitespace)
+    ++ (pairOf (p .prepunctuation) (p .name - p .prepunctuation)
+    ++ (pairOf (p .name) (p .punctuation - p .name) ++ pairOf (p .punctuation) (p .end - p .punctuation)))
+
+-- a run's name starts after n of its bytes, and its punctuation after p
+pub record CutAt (run : List ℕ) (ends : Bool) (n p : ℕ) : Type 0 where
+  pub name : n ≡ length (cut [] run ends .prepunctuation)
+  pub punctuation : p ≡ n + length (cut [] run ends .name)
+  pub within : p ≤ length run

@@ -1,0 +1,56 @@
+-- Document 01, "Token table and sentences": the tokens of a text. Definitions only.
+use mathlib.Core.Bool.{Bool, cond, _&&_}
+use mathlib.Core.List.{List, [], _∷_, _++_}
+use Prim.Native.Nat.{ℕ, suc, _+_}
+use lib.Dec.{eqb}
+use lib.ListN.{length, take, drop}
+use Rattle.lists.specs.Bytes.{all, lead, after, afterLast}
+use Rattle.lists.specs.Classes.{whitespace, nonWhitespace, leadingMark, unmarked}
+use Rattle.lists.specs.Recur.{recur}
+
+-- a token: "whitespace, prepunctuation, name, punctuation"
+pub record Token : Type 0 where
+  pub whitespace : List ℕ
+  pub prepunctuation : List ℕ
+  pub name : List ℕ
+  pub punctuation : List ℕ
+
+-- how much of what follows the prepunctuation is the name: "trailing marks from `POSTPUNCTUATION` are peeled, but the first
+-- byte of what follows the prepunctuation always stays in the name"
+abbrev pub nameSize : List ℕ → ℕ
+nameSize s = suc (afterLast unmarked (drop 1 s))
+
+-- "Leading marks from `PREPUNCTUATION` are its prepunctuation"
+abbrev pub marked : List ℕ → List ℕ → List ℕ → Token
+marked white marks rest =
+    record { whitespace = white; prepunctuation = marks; name = take (nameSize rest) rest; punctuation = drop (nameSize rest) rest }
+
+-- a run of other bytes, after its whitespace: "A run wholly of leading marks has an empty name if whitespace follows and is
+-- itself the name if the text ends there."
+unfoldable pub cut : List ℕ → List ℕ → Bool → Token
+cut white run ends =
+    cond (ends && all leadingMark run)
+    (record { whitespace = white; prepunctuation = []; name = run; punctuation = [] })
+    (marked white (lead leadingMark run) (after leadingMark run))
+
+-- the text after its first whitespace, and after the run that follows
+abbrev pub afterWhite : List ℕ → List ℕ
+afterWhite s = after whitespace s
+
+abbrev pub afterRun : List ℕ → List ℕ
+afterRun s = after nonWhitespace (afterWhite s)
+
+-- the first token of a text; all whitespace and nothing else where there is none
+abbrev pub firstToken : List ℕ → Token
+firstToken s = cut (lead whitespace s) (lead nonWhitespace (afterWhite s)) (eqb (length (afterRun s)) 0)
+
+-- "Each maximal run of other bytes is one token."
+unfoldable pub tokensStep : (List ℕ → List Token) → List ℕ → List Token
+tokensStep again s = cond (all whitespace s) [] (firstToken s ∷ again (afterRun s))
+
+unfoldable pub tokens : List ℕ → List Token
+tokens = recur [] tokensStep
+
+-- a token's four parts in their order
+abbrev pub parts : Token → List (List ℕ)
+parts t = t .whitespace ∷ t .prepunctuation ∷ t .name ∷ t .punctuation ∷ []
