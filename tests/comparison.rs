@@ -25,6 +25,37 @@ struct Group {
     comparisons: u64,
 }
 
+/// What was compared so far.
+#[derive(Default)]
+pub struct Counts {
+    groups: Vec<Group>,
+    differences: usize,
+}
+
+impl Counts {
+    /// With what another thread compared.
+    pub fn and(mut self, mut other: Counts) -> Self {
+        self.groups.append(&mut other.groups);
+        self.differences += other.differences;
+        self
+    }
+
+    /// Prints each group and the sum, and ends the program with status 1 where anything differed.
+    pub fn finish(&self, seed: u64) {
+        let (mut texts, mut comparisons) = (0, 0);
+        for group in &self.groups {
+            println!("  {:<44} {:>11} texts {:>13} comparisons", group.name, group.texts, group.comparisons);
+            texts += group.texts;
+            comparisons += group.comparisons;
+        }
+        let differences = self.differences;
+        println!("compare: {texts} texts, {comparisons} comparisons, {differences} differences, seed {seed}");
+        if differences > 0 {
+            process::exit(1);
+        }
+    }
+}
+
 /// A text as a call gets it, and as the Rust takes it.
 #[derive(Clone, Copy)]
 pub struct Lent<'a> {
@@ -37,7 +68,7 @@ pub struct Lent<'a> {
 
 pub struct Comparison {
     seed: u64,
-    groups: Vec<Group>,
+    pub counts: Counts,
     current: usize,
     texts: Fenced,
     /// Where the other texts of a step stand.
@@ -46,31 +77,34 @@ pub struct Comparison {
     pub table: Buffer,
     /// Counts the calls that write, so that buffers of each size have their turn.
     pub turn: usize,
-    differences: usize,
 }
 
 impl Comparison {
     pub fn new(seed: u64) -> Self {
         Comparison {
             seed,
-            groups: Vec::new(),
+            counts: Counts::default(),
             current: 0,
             texts: Fenced::new(),
             beside: [Fenced::new(), Fenced::new(), Fenced::new()],
             store: Buffer::new(),
             table: Buffer::new(),
             turn: 0,
-            differences: 0,
         }
     }
 
     /// Counts what follows under `name`.
     pub fn begin(&mut self, name: &'static str) {
-        let known = self.groups.iter().position(|group| group.name == name);
-        self.current = known.unwrap_or(self.groups.len());
+        let groups = &mut self.counts.groups;
+        let known = groups.iter().position(|group| group.name == name);
+        self.current = known.unwrap_or(groups.len());
         if known.is_none() {
-            self.groups.push(Group { name, texts: 0, comparisons: 0 });
+            groups.push(Group { name, texts: 0, comparisons: 0 });
         }
+    }
+
+    fn group(&mut self) -> &mut Group {
+        &mut self.counts.groups[self.current]
     }
 
     /// Compares every call about shapes on the text, which stands `gap` bytes before the fence.
@@ -95,7 +129,7 @@ impl Comparison {
     /// A pointer for the empty text may be null, and so may one for an empty buffer.
     pub fn null_pointers(&mut self) {
         self.begin("null pointers");
-        self.groups[self.current].texts += 1;
+        self.group().texts += 1;
         let lent = Lent { text: b"", start: std::ptr::null(), gap: 0, admitted: answers::admit(b"") };
         (0..CALLS).for_each(|call| self.call(call, lent));
         self.word_without_store(lent);
@@ -103,24 +137,9 @@ impl Comparison {
         self.tokens_without_buffers(lent);
     }
 
-    /// Prints each group and the sum, and ends the program with status 1 where anything differed.
-    pub fn finish(&self) {
-        let (mut texts, mut comparisons) = (0, 0);
-        for group in &self.groups {
-            println!("  {:<44} {:>11} texts {:>13} comparisons", group.name, group.texts, group.comparisons);
-            texts += group.texts;
-            comparisons += group.comparisons;
-        }
-        let differences = self.differences;
-        println!("compare: {texts} texts, {comparisons} comparisons, {differences} differences, seed {}", self.seed);
-        if differences > 0 {
-            process::exit(1);
-        }
-    }
-
     /// Lends the text, and looks after it once the calls were made.
     pub fn with(&mut self, text: &[u8], gap: usize, calls: impl FnOnce(&mut Self, Lent)) {
-        self.groups[self.current].texts += 1;
+        self.group().texts += 1;
         let start = self.texts.lend(text, gap);
         let lent = Lent { text, start, gap, admitted: answers::admit(text) };
         calls(self, lent);
@@ -142,20 +161,21 @@ impl Comparison {
     }
 
     pub fn settle<Answer: Debug + PartialEq>(&mut self, lent: Lent, name: Arguments, ours: Answer, rust: Answer) {
-        self.groups[self.current].comparisons += 1;
+        self.group().comparisons += 1;
         if ours != rust {
             self.differ(lent, name, &ours, &rust);
         }
     }
 
     pub fn differ(&mut self, lent: Lent, name: Arguments, ours: &dyn Debug, rust: &dyn Debug) {
-        self.differences += 1;
-        println!("difference {}: {name}, in '{}'", self.differences, self.groups[self.current].name);
+        self.counts.differences += 1;
+        let (number, group) = (self.counts.differences, self.group().name);
+        println!("difference {number}: {name}, in '{group}'");
         println!("  text of {} bytes: {}", lent.text.len(), shown(lent.text));
         println!("  ours: {ours:?}\n  Rust: {rust:?}");
-        if self.differences == DIFFERENCES_SHOWN {
+        if self.counts.differences == DIFFERENCES_SHOWN {
             println!("compare: stopped after {DIFFERENCES_SHOWN} differences");
-            self.finish();
+            self.counts.finish(self.seed);
         }
     }
 }

@@ -1,6 +1,7 @@
 //! Compares every call of the static library with the Rust reference.
 //!
-//! harness SECONDS SEED: the fixed groups run whole, the random ones for what is left of the time, once at least.
+//! harness SECONDS SEED: the fixed groups run whole, the random ones for what is left of the time, once at least. Two threads
+//! share the calls.
 
 use std::process;
 use std::thread;
@@ -35,10 +36,10 @@ mod tokens;
 mod utf8;
 mod voice;
 
-use comparison::Comparison;
+use comparison::{Comparison, Counts};
 use random::Random;
 
-/// From this many seconds on there is time for every text of five pieces.
+/// From this many seconds on there is time for texts of one piece more.
 const LONG: u64 = 600;
 
 /// The Rust's year and real go one call deeper for each pair, sign or "e" of a text.
@@ -51,30 +52,44 @@ fn main() {
         process::exit(2);
     };
     println!("compare: seed {seed}, {seconds} seconds");
-    let run = thread::Builder::new().stack_size(STACK).spawn(move || compare(seconds, seed));
-    if run.expect("a thread").join().is_err() {
-        process::exit(1);
+    let halves = [NAMES, SHEETS].map(|half| {
+        let run = move || compare(half, seconds, seed);
+        thread::Builder::new().stack_size(STACK).spawn(run).expect("a thread")
+    });
+    let [names, sheets] = halves.map(|half| half.join().unwrap_or_else(|_| process::exit(1)));
+    names.and(sheets).finish(seed);
+}
+
+/// Half of the calls, on a thread of its own: its fixed groups, and a round of its random ones.
+#[derive(Clone, Copy)]
+struct Half {
+    name: &'static str,
+    /// The time is divided by this: the longer half is to have a core for itself in the end.
+    divisor: u64,
+    fixed: fn(&mut Comparison, bool),
+    round: fn(&mut Comparison, &mut Random),
+}
+
+const NAMES: Half = Half { name: "shapes and numbers", divisor: 1, fixed: names, round: names_round };
+const SHEETS: Half = Half { name: "tokens", divisor: 2, fixed: tokens, round: tokens_round };
+
+fn compare(half: Half, seconds: u64, seed: u64) -> Counts {
+    let start = Instant::now();
+    let mut comparison = Comparison::new(seed);
+    (half.fixed)(&mut comparison, seconds >= LONG);
+    println!("compare: fixed groups of {} took {} s", half.name, start.elapsed().as_secs());
+    let mut random = Random::new(seed);
+    loop {
+        (half.round)(&mut comparison, &mut random);
+        if start.elapsed() >= Duration::from_secs(seconds / half.divisor) {
+            return comparison.counts;
+        }
     }
 }
 
-fn compare(seconds: u64, seed: u64) {
-    let start = Instant::now();
-    let mut comparison = Comparison::new(seed);
-    let long = seconds >= LONG;
-    shapes(&mut comparison, if long { 5 } else { 4 });
-    println!("compare: fixed groups of shapes took {} s", start.elapsed().as_secs());
-    numbers(&mut comparison, long);
-    println!("compare: those of numbers too took {} s", start.elapsed().as_secs());
-    let mut random = Random::new(seed);
-    tokens(&mut comparison, long);
-    println!("compare: all fixed groups took {} s", start.elapsed().as_secs());
-    loop {
-        round(&mut comparison, &mut random);
-        if start.elapsed() >= Duration::from_secs(seconds) {
-            break;
-        }
-    }
-    comparison.finish();
+fn names(comparison: &mut Comparison, long: bool) {
+    shapes(comparison, if long { 5 } else { 4 });
+    numbers(comparison, long);
 }
 
 /// `most`: how many pieces of the alphabet of every piece a text has at most.
@@ -99,7 +114,7 @@ fn numbers(comparison: &mut Comparison, long: bool) {
     number_long::limits(comparison);
 }
 
-/// With time, one character more: of the texts over eleven characters all of 7, of which the random groups draw some.
+/// With time, one piece more: of the texts over eleven characters all of seven, which else have their turn in the rounds.
 fn tokens(comparison: &mut Comparison, long: bool) {
     token_texts::named(comparison);
     token_texts::one_byte_changed(comparison);
@@ -107,16 +122,18 @@ fn tokens(comparison: &mut Comparison, long: bool) {
     token_texts::exhaustive(comparison, long);
     token_texts::neighbours(comparison);
     token_long::growing(comparison);
+    token_long::changed_at_each_place(comparison);
     token_long::many_tokens(comparison);
     token_long::limits(comparison);
     step_texts::pairs(comparison);
     step_texts::refusals(comparison);
+    step_texts::long(comparison);
     step_texts::cut_characters(comparison);
     step_states::every_choice(comparison);
 }
 
 /// Each random group for some tenths of a second.
-fn round(comparison: &mut Comparison, random: &mut Random) {
+fn names_round(comparison: &mut Comparison, random: &mut Random) {
     short::random(comparison, random, 50_000);
     short::slips(comparison, random, 100_000);
     long::random(comparison, random, 100);
@@ -125,6 +142,10 @@ fn round(comparison: &mut Comparison, random: &mut Random) {
     number_texts::random_pieces(comparison, random, 20_000);
     number_texts::slips(comparison, random, 5_000);
     number_long::random(comparison, random, 100);
+}
+
+fn tokens_round(comparison: &mut Comparison, random: &mut Random) {
+    token_texts::seven(comparison, random);
     token_texts::random_eleven(comparison, random, 50_000);
     token_texts::random_pieces(comparison, random, 20_000);
     token_texts::slips(comparison, random, 3_000);

@@ -1,6 +1,5 @@
 //! The step form, on both sides, its three texts lent apart.
 
-use crate::answers;
 use crate::comparison::{Comparison, Lent};
 use crate::steps::{Fed, Steps};
 use crate::tokens::{State, Step};
@@ -19,23 +18,16 @@ impl Comparison {
         self.with(fed.name, gap, |comparison, lent| comparison.push(state, fed, lent, state.step(fed)));
     }
 
-    /// A step with the text in one of the three places.
+    /// Steps with the text in each of the three places.
     pub fn step_with(&mut self, lent: Lent) {
-        self.turn += 1;
-        let mut fed = Fed { whitespace: b" ", name: b"A", punctuation: b"." };
-        match self.turn % 3 {
-            0 => fed.whitespace = lent.text,
-            1 => fed.name = lent.text,
-            _ => fed.punctuation = lent.text,
-        }
         let state = State::after(b"end", b".");
-        let lent = if self.turn % 3 == 1 { lent } else { self.name_beside(fed.name, lent.gap) };
+        let fed = Fed { whitespace: b" ", name: lent.text, punctuation: b"." };
         self.push(state, fed, lent, state.step(fed));
-    }
-
-    fn name_beside<'a>(&mut self, name: &'a [u8], gap: usize) -> Lent<'a> {
-        let start = self.beside[2].lend(name, gap);
-        Lent { text: name, start, gap, admitted: answers::admit(name) }
+        let start = self.beside[2].lend(b"A", lent.gap);
+        let name = Lent { text: b"A", start, gap: lent.gap, admitted: Ok("A") };
+        let first = Fed { whitespace: lent.text, name: b"A", punctuation: b"." };
+        let last = Fed { whitespace: b" ", name: b"A", punctuation: lent.text };
+        [first, last].into_iter().for_each(|fed| self.push(state, fed, name, state.step(fed)));
     }
 
     /// `lent` is the name.

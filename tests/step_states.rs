@@ -19,6 +19,7 @@ pub const ODD: &[State] = &[
     State { len: 3 + (1 << 32), head: *b"Abc\0\0", last: b'c', point: 1, fresh: 0, ..State::FRESH },
     State { len: 7, head: [0; 5], last: b'A', point: 1, question: 7, fresh: 2, ..State::FRESH },
     State { len: 4, head: *b"yahoo", last: b'o', exclamation: 255, fresh: 0, ..State::FRESH },
+    State { len: 3, head: *b"end\0\0", last: b'd', point: 1, colon: 1, question: 1, exclamation: 1, fresh: 0 },
 ];
 
 #[rustfmt::skip]

@@ -81,6 +81,24 @@ pub fn refusals(comparison: &mut Comparison) {
     }
 }
 
+/// Long texts, of lengths where a count of one or two bytes would start anew.
+pub fn long(comparison: &mut Comparison) {
+    comparison.begin("steps with long texts");
+    for byte in *b"\n aA.!" {
+        for len in (250..=262).chain(510..=518).chain(TEXT_LIMIT - 3..=TEXT_LIMIT + 1) {
+            let text = vec![byte; len];
+            let (alone, ended) = (&text[..], &[&text[..len - 1], b"Z"].concat()[..]);
+            for (name, punctuation) in [(alone, &b"."[..]), (ended, b"."), (b"ab", alone), (b"ab", ended)] {
+                let mut steps = Steps::new();
+                comparison.next_step(&mut steps, Fed { whitespace: b"", name, punctuation }, 0);
+                comparison.next_step(&mut steps, Fed { whitespace: b" ", name: b"B", punctuation }, 0);
+                comparison.next_step(&mut steps, Fed { whitespace: alone, name, punctuation: b"." }, 0);
+                comparison.next_step(&mut steps, Fed { whitespace: alone, name: b"b", punctuation: b"" }, 0);
+            }
+        }
+    }
+}
+
 /// A character that is cut in two by the end of one text and the start of the next is damaged in both.
 pub fn cut_characters(comparison: &mut Comparison) {
     comparison.begin("steps with a character cut between texts");
@@ -103,7 +121,7 @@ pub fn damaged_or<'a>(random: &mut Random, fed: Fed<'a>) -> Fed<'a> {
     }
 }
 
-/// Sequences of steps, some refused, some on long texts: the Rust's push sees those that are not.
+/// Sequences of steps, some of them refused: the Rust's push sees the others.
 pub fn sequences(comparison: &mut Comparison, random: &mut Random, sequences: usize) {
     comparison.begin("sequences of steps");
     let too_long = vec![b'a'; TEXT_LIMIT + 1];
@@ -113,8 +131,11 @@ pub fn sequences(comparison: &mut Comparison, random: &mut Random, sequences: us
             let texts = [free_text(random, BLANKS), free_text(random, NAMES), free_text(random, MARKS)];
             let [whitespace, name, punctuation] = texts.each_ref().map(String::as_bytes);
             let mut fed = damaged_or(random, Fed { whitespace, name, punctuation });
-            if random.below(50) == 0 {
-                fed.name = &too_long;
+            match random.below(100) {
+                0 => fed.whitespace = &too_long,
+                1 => fed.name = &too_long,
+                2 => fed.punctuation = &too_long,
+                _ => (),
             }
             comparison.next_step(&mut steps, fed, number % 64);
         }

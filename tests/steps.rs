@@ -89,7 +89,6 @@ impl State {
 }
 
 /// Steps one after another: the Rust's builder, and the state that belongs to its last token.
-#[derive(Default)]
 pub struct Steps {
     builder: SentenceBuilder,
     pub state: State,
@@ -97,7 +96,7 @@ pub struct Steps {
 
 impl Steps {
     pub fn new() -> Self {
-        Steps { state: State::FRESH, ..Steps::default() }
+        Steps { builder: SentenceBuilder::default(), state: State::FRESH }
     }
 
     /// The next step as the Rust's push makes it. The rule for any state must say the same.

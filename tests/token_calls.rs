@@ -2,6 +2,7 @@
 
 use std::ptr::null_mut;
 
+use crate::answers::TEXT_LIMIT;
 use crate::comparison::{shown, Comparison, Lent};
 use crate::steps::Fed;
 use crate::tokens::{State, Step, Tokenized, Tokens, TOKEN_BYTES};
@@ -13,8 +14,9 @@ pub const TOKEN_CALLS: usize = 3;
 /// Every length within a record and a byte of the exact one.
 const NEAR: usize = 2 * (TOKEN_BYTES + 1) + 1;
 
-/// The buffers that are tried: those near the exact one, and five that are told from the text alone.
-const ROOMS: usize = NEAR + 5;
+/// The buffers that are tried: those near the exact one, and six far from it or told from the text's length alone. With an odd
+/// number of them, calls that take turns meet each.
+const ROOMS: usize = NEAR + 6;
 
 /// A call that fills one buffer, and its side of the Rust's answer.
 #[derive(Clone, Copy)]
@@ -29,13 +31,14 @@ struct Filling<'a> {
 impl Filling<'_> {
     /// The length of the buffer number `room`. A text has a token for every two bytes at most.
     fn len(&self, room: usize, text_len: usize) -> usize {
-        let most = self.record * text_len.div_ceil(2);
+        let most = self.record * text_len.min(TEXT_LIMIT).div_ceil(2);
         match room.checked_sub(NEAR) {
             None => (self.result.len() + room).saturating_sub(NEAR / 2),
             Some(0) => 0,
             Some(1) => most.saturating_sub(1),
             Some(2) => most,
             Some(3) => most + 1,
+            Some(4) => self.result.len() / 2,
             Some(_) => self.result.len() + 1_000,
         }
     }

@@ -12,10 +12,10 @@ const PATTERNS: &[Pattern] = &[
     ("", "(", "."), ("", ".", ""), ("a", ".", ""), ("a", "!", " b"), ("", " ", "a"), ("a", " ", ""), ("a.", " ", "B"),
     ("a", "\n", "b"), ("a\n", " ", "\nb"), ("a", "a", "Z. A"), ("Z", "a", ". A"), ("yahoo", "o", "! a"), ("yahoo", "!", " a"),
     ("yahoo!\n", " ", "a"), ("", "é", ""), ("", "é ", ""), ("", "€", ". A"), ("", "𐍈", "! a"), ("(", "é", ")"),
-    ("", "\u{a0}", ""), ("", "\u{2028}a ", ""), ("", ". ", ""), ("", "? ", ""), ("", "\" ", ""), ("", "a! ", ""),
-    ("", "A. ", ""), ("", "abcd. A\n\n", ""), ("", "Yahoo! it ", ""), ("", "\r\n", "a"), ("", "\t", "\"'`"),
-    ("", "Bar 12 at 9:30. Rack 5mm (21st)\n", ""), ("", "The cat sat. It slept! Did it? Yes: it did.\n\n", ""),
-    ("", "abcdefgh ", ""), ("", "\"'`({[a\"'`.,:;!?(){}[] ", ""),
+    ("ab.", ")", " C"), ("ab", ")", ". C"), ("ab!", ";", " c"), ("ab", ",", ": c"), ("", "\u{a0}", ""), ("", "\u{2028}a ", ""),
+    ("", ". ", ""), ("", "? ", ""), ("", "\" ", ""), ("", "a! ", ""), ("", "A. ", ""), ("", "abcd. A\n\n", ""),
+    ("", "Yahoo! it ", ""), ("", "\r\n", "a"), ("", "\t", "\"'`"), ("", "Bar 12 at 9:30. Rack 5mm (21st)\n", ""),
+    ("", "The cat sat. It slept! Did it? Yes: it did.\n\n", ""), ("", "abcdefgh ", ""), ("", "\"'`({[a\"'`.,:;!?(){}[] ", ""),
 ];
 
 /// Lengths on both sides of the limit, with each pattern, and with whole and cut characters at the end.
@@ -45,11 +45,27 @@ pub fn many_tokens(comparison: &mut Comparison) {
     }
 }
 
-/// Each pattern at each length of up to 80 bytes.
+/// Each pattern at each length of up to 80 bytes, and at lengths where a count of one byte would start anew.
 pub fn growing(comparison: &mut Comparison) {
     comparison.begin("sheets of growing length");
     for pattern in PATTERNS {
-        (0..=80).for_each(|len| comparison.every_token(&of_length(pattern, len, b""), 0));
+        let lengths = (0..=80).chain(250..=275).chain(510..=530);
+        lengths.for_each(|len| comparison.every_token(&of_length(pattern, len, b""), 0));
+    }
+}
+
+/// Sheets of some blocks of 64 bytes, with one byte changed, at every place.
+pub fn changed_at_each_place(comparison: &mut Comparison) {
+    comparison.begin("sheets with one byte changed, at each place");
+    for pattern in PATTERNS {
+        let whole = of_length(pattern, 140, b"");
+        for place in 0..whole.len() {
+            for byte in [b' ', b'\n', b'"', b'.', b'A', 0xff] {
+                let mut text = whole.clone();
+                text[place] = byte;
+                comparison.every_token(&text, 0);
+            }
+        }
     }
 }
 

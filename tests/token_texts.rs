@@ -66,7 +66,7 @@ pub fn named(comparison: &mut Comparison) {
     corners::LISTS.iter().flat_map(|list| list.iter()).for_each(|text| comparison.every_token(text.as_bytes(), 1));
 }
 
-/// Each corner with each of its bytes replaced by every byte, left out, and with every byte put before it.
+/// Each short corner with each of its bytes replaced by every byte, left out, and with every ASCII byte put before it.
 pub fn one_byte_changed(comparison: &mut Comparison) {
     comparison.begin("corners of tokens, one byte changed");
     for corner in token_corners().map(str::as_bytes).filter(|corner| corner.len() <= 12) {
@@ -128,11 +128,18 @@ const NAMES: &[&str] = &[
     "abcdE", "é", "Aé", "éA", "Abé", "yaho", "Yaho", "yahooo", "yahoos", "yahou", "éahoo",
 ];
 
+/// Every text of seven of the eleven characters that has some beginning of two.
+pub fn seven(comparison: &mut Comparison, random: &mut Random) {
+    comparison.begin("seven of the eleven characters");
+    let mut beginning = [*random.one_of(ELEVEN), *random.one_of(ELEVEN)].concat().into_bytes();
+    each_text(&mut beginning, 5, ELEVEN, &mut |text| comparison.every_token(text, 0));
+}
+
 /// Longer texts over the eleven characters.
 pub fn random_eleven(comparison: &mut Comparison, random: &mut Random, texts: usize) {
-    comparison.begin("7 and more of the eleven characters");
+    comparison.begin("8 to 12 of the eleven characters");
     for _ in 0..texts {
-        let text: String = (0..7 + random.below(6)).map(|_| *random.one_of(ELEVEN)).collect();
+        let text: String = (0..8 + random.below(5)).map(|_| *random.one_of(ELEVEN)).collect();
         comparison.every_token(text.as_bytes(), random.below(64));
     }
 }
