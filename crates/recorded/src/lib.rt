@@ -1,4 +1,5 @@
 // What the programs that replay recorded answers share. Nothing here demands anything of its caller.
+pub mod buffer;
 pub mod fields;
 pub mod file;
 pub mod room;

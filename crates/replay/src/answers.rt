@@ -4,6 +4,8 @@ use lists::byte_at;
 use lists::same;
 use patterns::UnitWord;
 use patterns::Verdict;
+use recorded::buffer::GUARD;
+use recorded::buffer::SHORT;
 use recorded::fields::BAD;
 use recorded::fields::field;
 use recorded::fields::has_fields;
@@ -28,13 +30,8 @@ const WORD: usize = 29;
 
 pub const MALFORMED: usize = 30;
 
-// The room of a store, and the byte that fills it before a call.
+// The room of a store.
 const ROOM: usize = 16;
-
-const GUARD: u8 = 0xA5;
-
-// The refusal where the store is too short.
-const SHORT: usize = 5;
 
 // The recorded numbers of a line.
 pub struct Recorded {

@@ -1,11 +1,13 @@
 // The readings of the crate numbers for one text, each held against the recorded one.
-use crate::words::GUARD;
 use crate::words::bytes_in;
 use crate::words::holds;
 use crate::words::pairs_in;
 use crate::words::words_in;
 use lists::byte_at;
 use lists::front;
+use recorded::buffer::GUARD;
+use recorded::buffer::SHORT;
+use recorded::buffer::least;
 use recorded::fields::BAD;
 use recorded::fields::field;
 use recorded::fields::has_fields;
@@ -14,7 +16,6 @@ use recorded::fields::number;
 use recorded::fields::repeat;
 use recorded::tally::Report;
 use sink::Spoken;
-ghost use Prim.Native.Nat.{_≤_};
 
 // The numbers of what is compared: six readings that give words, and one that gives a value.
 pub const YEAR: usize = 2;
@@ -39,9 +40,6 @@ pub const CALLS: usize = 6 * CASES;
 const STORE_ROOM: usize = 11 * 65;
 
 const TABLE_ROOM: usize = 8 * 64;
-
-// The refusal where a buffer is too short.
-const SHORT: usize = 5;
 
 fn store_room(case: usize, words: &[u8]) -> usize {
     match case {
@@ -88,12 +86,6 @@ fn read(k: usize, s: &[u8], store: &mut [u8], table: &mut [u8]) -> Spoken {
         4 => numbers::real(s, store, table),
         _ => numbers::letters(s, store, table),
     }
-}
-
-fn least(a: usize, b: usize) -> usize
-    ensures { λ r. ⌜ r ≤ b ⌝ }
-{
-    if a < b { a } else { b }
 }
 
 // The reading k in the front of store and table.

@@ -6,14 +6,13 @@ use lists::count_of;
 use lists::front;
 use lists::span_of;
 use lists::tail;
+use recorded::buffer::is_untouched;
+use recorded::buffer::number_at;
 use recorded::fields::BAD;
 use recorded::fields::byte_of;
 use recorded::fields::minus;
 use recorded::fields::past;
 use recorded::fields::plus;
-
-// What fills store and table before a call.
-pub const GUARD: u8 = 0xA5;
 
 fn times(c: u8, field: &[u8]) -> usize {
     minus(field.len(), count_of(NOT, c, field))
@@ -65,19 +64,6 @@ fn is_word(word: &[u8], bytes: &[u8]) -> bool {
         i = past(word.len(), i, more_at(word, i));
     }
     ok & (n == bytes.len())
-}
-
-// The number in four bytes, the lowest first.
-fn number_at(table: &[u8], at: usize) -> usize {
-    let a = byte_at(table, at) as usize;
-    let b = byte_at(table, plus(at, 1)) as usize;
-    let c = byte_at(table, plus(at, 2)) as usize;
-    let d = byte_at(table, plus(at, 3)) as usize;
-    a + 256 * (b + 256 * (c + 256 * d))
-}
-
-fn is_untouched(bytes: &[u8]) -> bool {
-    count_of(NOT, GUARD, bytes) == 0
 }
 
 // Whether the table leads to the words of the field, one after another, and nothing else in store and table is written.

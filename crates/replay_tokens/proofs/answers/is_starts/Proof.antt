@@ -1,0 +1,28 @@
+-- Nothing has to hold from turn to turn. The measure is the tokens that are left. Assumes nothing.
+use Prim.Native.Nat.{_-_}
+use borrow.Author.Needs.{needs}
+use Rattle.replay_tokens.proofs.answers.is_starts.Statement.{statement}
+use Rattle.replay_tokens.proofs.answers.is_starts.Tie as tie
+
+abbrev Inv-loop : tie.InvT-loop
+Inv-loop line n starts ok₀ k₀ ok k = Unit {0}
+
+abbrev μ-loop : tie.MeasureT-loop
+μ-loop line n starts ok₀ k₀ ok k = n - k
+
+pub is-starts-spec : {M : Type 1} → statement M
+is-starts-spec =
+    tie.close
+    (tie.spec
+    Inv-loop
+    μ-loop
+    (λ c. search needs)
+    (λ c κs. search needs)
+    (λ c. search needs)
+    (λ c κs. search needs)
+    (λ c. search needs)
+    (λ c. search needs)
+    (λ c. search needs)
+    (λ c κs. search needs)
+    (λ c κs. search needs)
+    (λ c. search needs))

@@ -1,0 +1,144 @@
+// The token table and the sentence starts of one text, held against the recorded ones.
+use crate::told::START;
+use crate::told::told;
+use crate::told::told_refusal;
+use crate::told::told_tokens;
+use lists::byte_at;
+use lists::tail;
+use recorded::buffer::GUARD;
+use recorded::buffer::SHORT;
+use recorded::buffer::is_untouched;
+use recorded::buffer::least;
+use recorded::buffer::number_at;
+use recorded::fields::BAD;
+use recorded::fields::minus;
+use recorded::fields::repeat;
+use recorded::tally::Report;
+use tokens::Tokens;
+
+// The numbers of the two calls.
+const TOKENIZE: usize = 0;
+
+// A call is made with room to spare, with just enough, and with a byte too few.
+const SPARE: usize = 0;
+
+const SHORTER: usize = 2;
+
+const CASES: usize = 3;
+
+const CALLS: usize = 2 * CASES;
+
+// The offsets and lengths of a token, and the bytes of its record.
+const PLACES: usize = 8;
+
+const RECORD: usize = 32;
+
+// The room of a buffer, more than the table of a line needs.
+const ROOM: usize = 32 * RECORD;
+
+// The bytes of the table of n tokens.
+fn table_bytes(n: usize) -> usize {
+    if n < BAD {
+        return RECORD * n;
+    }
+    BAD
+}
+
+// The bytes that a call gives for n tokens.
+fn bytes_for(call: usize, n: usize) -> usize {
+    if call == TOKENIZE {
+        return table_bytes(n);
+    }
+    n
+}
+
+fn room(case: usize, bytes: usize) -> usize {
+    match case {
+        SPARE => BAD,
+        SHORTER => minus(bytes, 1),
+        _ => bytes,
+    }
+}
+
+fn is_short(case: usize, n: usize) -> bool {
+    (case == SHORTER) & (n != 0)
+}
+
+// The refusal that is due.
+fn due(case: usize, refusal: usize, n: usize) -> usize {
+    if is_short(case, n) { SHORT } else { refusal }
+}
+
+// The tokens that a call gives: none where its buffer is too short.
+fn given(case: usize, n: usize) -> usize {
+    if is_short(case, n) { 0 } else { n }
+}
+
+// A call in the front of the buffer.
+fn call_within(call: usize, s: &[u8], room: usize, out: &mut [u8]) -> Tokens {
+    let len = least(room, out.len());
+    if call == TOKENIZE {
+        return tokens::tokenize(s, &mut out[..len]);
+    }
+    sentences::sentences(s, &mut out[..len])
+}
+
+// Whether the table has just the records of the first n tokens, and nothing is written past them.
+fn is_table(line: &[u8], n: usize, table: &[u8]) -> bool {
+    let end = table_bytes(n);
+    let mut ok = true;
+    let mut i = 0;
+    while i < end / 4 {
+        ok = ok & (number_at(table, 4 * i) == told(line, i / PLACES, i % PLACES));
+        i += 1;
+    }
+    ok & is_untouched(tail(table, end))
+}
+
+// The same of the starts.
+fn is_starts(line: &[u8], n: usize, starts: &[u8]) -> bool {
+    let mut ok = true;
+    let mut k = 0;
+    while k < n {
+        ok = ok & (byte_at(starts, k) as usize == told(line, k, START));
+        k += 1;
+    }
+    ok & is_untouched(tail(starts, n))
+}
+
+fn holds(call: usize, line: &[u8], n: usize, out: &[u8]) -> bool {
+    if call == TOKENIZE {
+        return is_table(line, n, out);
+    }
+    is_starts(line, n, out)
+}
+
+// Whether a call answers what is due, and leaves just that in the buffer.
+fn agrees(case: usize, call: usize, line: &[u8], s: &[u8], out: &mut [u8]) -> bool {
+    let n = told_tokens(line);
+    let len = out.len();
+    repeat(out, len, GUARD);
+    let a = call_within(call, s, room(case, bytes_for(call, n)), out);
+    let given = given(case, n);
+    (a.refusal as usize == due(case, told_refusal(line), n))
+        & (a.tokens == given)
+        & holds(call, line, given, out)
+}
+
+fn compare_within(line: &[u8], s: &[u8], out: &mut [u8]) -> Report {
+    let mut now = Report::none();
+    let mut i = 0;
+    while i < CALLS {
+        let call = i / CASES;
+        let agreed = agrees(i % CASES, call, line, s, out);
+        now = now.count(call, agreed);
+        i += 1;
+    }
+    now
+}
+
+// Both calls of the text s, held against its line.
+pub fn compare_calls(line: &[u8], s: &[u8]) -> Report {
+    let mut out = [0u8; ROOM];
+    compare_within(line, s, &mut out)
+}

@@ -1,0 +1,132 @@
+// The step form, held against the recorded starts and refusals of one text.
+use crate::told::NAME;
+use crate::told::PUNCTUATION;
+use crate::told::START;
+use crate::told::WHITESPACE;
+use crate::told::told;
+use crate::told::told_end;
+use crate::told::told_refusal;
+use crate::told::told_tokens;
+use lists::EXACT;
+use lists::part;
+use lists::same;
+use lists::tally;
+use recorded::tally::Report;
+use sentences::State;
+use sentences::Step;
+
+// The numbers of what is compared: the steps of a text, and the text as a part of a step.
+const STEPS: usize = 2;
+
+const PARTS: usize = 3;
+
+// The places of a text in a step.
+const PLACES: usize = 3;
+
+// Each place, in two states, with two texts in the other places.
+const CASES: usize = 4 * PLACES;
+
+// The refusal of a text that is no UTF-8.
+const DAMAGED: usize = 2;
+
+// The step of the token k.
+fn step_of(state: State, line: &[u8], k: usize, s: &[u8]) -> Step {
+    let whitespace = part(s, told(line, k, WHITESPACE), told_end(line, k, WHITESPACE));
+    let name = part(s, told(line, k, NAME), told_end(line, k, NAME));
+    let punctuation = part(
+        s,
+        told(line, k, PUNCTUATION),
+        told_end(line, k, PUNCTUATION),
+    );
+    state.push(whitespace, name, punctuation)
+}
+
+// Whether the step breaks before the token k as it should: before each that starts a sentence, but not before the first.
+fn breaks_as_told(step: Step, line: &[u8], k: usize) -> bool {
+    if k == 0 {
+        return !step.breaks;
+    }
+    tally(step.breaks) == told(line, k, START)
+}
+
+// The tokens of s, one step each.
+pub fn compare_steps(r: Report, line: &[u8], s: &[u8]) -> Report {
+    let n = told_tokens(line);
+    let mut now = r;
+    let mut state = State::fresh();
+    let mut k = 0;
+    while k < n {
+        let step = step_of(state, line, k, s);
+        now = now.count(STEPS, (step.refusal == 0) & breaks_as_told(step, line, k));
+        state = step.state;
+        k += 1;
+    }
+    now
+}
+
+// A fresh state, or one that differs from it in every field.
+fn state_before(fed: bool) -> State {
+    let state = State::fresh();
+    if fed {
+        let step = state.push(b" ", b"Yahoo", b".:?!");
+        return step.state;
+    }
+    state
+}
+
+fn is_same(a: State, b: State) -> bool {
+    let x = a.head;
+    let y = b.head;
+    same(EXACT, &x, &y)
+        & (a.len == b.len)
+        & (a.last == b.last)
+        & (a.point == b.point)
+        & (a.colon == b.colon)
+        & (a.question == b.question)
+        & (a.exclamation == b.exclamation)
+        & (a.fresh == b.fresh)
+}
+
+// A step with s in one place and `other` in the others.
+fn step_in(place: usize, state: State, s: &[u8], other: &[u8]) -> Step {
+    match place {
+        0 => state.push(s, other, other),
+        1 => state.push(other, s, other),
+        _ => state.push(other, other, s),
+    }
+}
+
+// Whether the step is accepted, or is refused, breaks nowhere and hands the state back as it was.
+fn answers(due: usize, before: State, step: Step) -> bool {
+    let state = step.state;
+    if due == 0 {
+        return (step.refusal == 0) & (state.fresh == 0);
+    }
+    (step.refusal as usize == due) & !step.breaks & is_same(state, before)
+}
+
+// Whether a step with s in one place is refused as s is: with no text in the other places, or with a damaged one.
+fn agrees(case: usize, refusal: usize, s: &[u8]) -> bool {
+    let place = case % PLACES;
+    let before = state_before(case / PLACES % 2 == 1);
+    if case < CASES / 2 {
+        return answers(refusal, before, step_in(place, before, s, b""));
+    }
+    let step = step_in(place, before, s, b"\xff");
+    if refusal == 0 {
+        return answers(DAMAGED, before, step);
+    }
+    answers(refusal, before, step)
+}
+
+// The text s as a part of a step.
+pub fn compare_parts(r: Report, line: &[u8], s: &[u8]) -> Report {
+    let refusal = told_refusal(line);
+    let mut now = r;
+    let mut case = 0;
+    while case < CASES {
+        now = now.count(PARTS, agrees(case, refusal, s));
+        case += 1;
+    }
+    now
+}
