@@ -1,4 +1,5 @@
 // The token table and the sentence starts of one text, held against the recorded ones.
+use crate::told::MOST;
 use crate::told::START;
 use crate::told::told;
 use crate::told::told_refusal;
@@ -16,13 +17,19 @@ use recorded::fields::repeat;
 use recorded::tally::Report;
 use tokens::Tokens;
 
-// The numbers of the two calls.
+// The numbers of what is compared: two calls, the steps of a text, and the text as a part of a step.
 const TOKENIZE: usize = 0;
+
+pub const STEPS: usize = 2;
+
+pub const PARTS: usize = 3;
+
+pub const MALFORMED: usize = 4;
 
 // A call is made with room to spare, with just enough, and with a byte too few.
 const SPARE: usize = 0;
 
-const SHORTER: usize = 2;
+const SHORT_BUFFER: usize = 2;
 
 const CASES: usize = 3;
 
@@ -33,8 +40,8 @@ const PLACES: usize = 8;
 
 const RECORD: usize = 32;
 
-// The room of a buffer, more than the table of a line needs.
-const ROOM: usize = 32 * RECORD;
+// The room of a buffer: a record more than a line tells of.
+const ROOM: usize = (MOST + 1) * RECORD;
 
 // The bytes of the table of n tokens.
 fn table_bytes(n: usize) -> usize {
@@ -55,13 +62,13 @@ fn bytes_for(call: usize, n: usize) -> usize {
 fn room(case: usize, bytes: usize) -> usize {
     match case {
         SPARE => BAD,
-        SHORTER => minus(bytes, 1),
+        SHORT_BUFFER => minus(bytes, 1),
         _ => bytes,
     }
 }
 
 fn is_short(case: usize, n: usize) -> bool {
-    (case == SHORTER) & (n != 0)
+    (case == SHORT_BUFFER) & (n != 0)
 }
 
 // The refusal that is due.

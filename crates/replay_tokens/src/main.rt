@@ -4,6 +4,7 @@ mod answers;
 mod steps;
 mod told;
 
+use answers::MALFORMED;
 use answers::compare_calls;
 use lists::NOT;
 use lists::front;
@@ -20,9 +21,6 @@ use recorded::told::text_of;
 use steps::compare_parts;
 use steps::compare_steps;
 use told::is_well_formed;
-
-// The number of a line that is no recorded one.
-const MALFORMED: usize = 4;
 
 fn add(t: Tally, r: Report) -> Tally {
     let names = b"tokenize sentences push push_of_text malformed";

@@ -1,4 +1,6 @@
 // The step form, held against the recorded starts and refusals of one text.
+use crate::answers::PARTS;
+use crate::answers::STEPS;
 use crate::told::NAME;
 use crate::told::PUNCTUATION;
 use crate::told::START;
@@ -14,11 +16,6 @@ use lists::tally;
 use recorded::tally::Report;
 use sentences::State;
 use sentences::Step;
-
-// The numbers of what is compared: the steps of a text, and the text as a part of a step.
-const STEPS: usize = 2;
-
-const PARTS: usize = 3;
 
 // The places of a text in a step.
 const PLACES: usize = 3;

@@ -17,8 +17,8 @@ pub const START: usize = 8;
 
 const NUMBERS: usize = 9;
 
-// As many tokens as leave room to spare in a buffer.
-const MOST: usize = 31;
+// The most tokens of a line.
+pub const MOST: usize = 31;
 
 pub fn told_refusal(line: &[u8]) -> usize {
     number(field(field(line, b'\t', 0), b' ', 3))
