@@ -10,6 +10,7 @@ use lib.Dec.{eqb}
 use lib.ListN.{length, take, drop, getD, length-drop, drop-of-length-le, List·getD-eq-default}
 use lib.Seq.{drop-cons, take-all, take-suc, length-take-le}
 use borrow.Author.Tests.{eqb-true, ne-eqb}
+use Rattle.lists.specs.Classes.{foundIn}
 use Rattle.lists.specs.Bytes.{all, span, count, keep, afterLast, sameBy}
 
 module _ (p : ℕ → Bool) (s : List ℕ) (i : ℕ) where
@@ -275,3 +276,38 @@ unfolding afterLast
 last-drop p s zero h = omega arith
 last-drop p [] (suc n) h = absurd (omega arith)
 last-drop p (b ∷ s) (suc n) h = let i = last-drop p s n h in rw (ne-eqb (afterLast p s) 0 (omega arith)) (omega arith)
+
+-- a class within another: a scan by the wider one goes on where the other stopped, and the other sees no more of what it passed
+module _ (p q : ℕ → Bool) (f : (b : ℕ) → p b ≡ true → q b ≡ true) where
+  pub span-within : (s : List ℕ) → span q s ≡ span p s + span q (drop (span p s) s)
+  unfolding span
+  span-within [] = refl
+  span-within (b ∷ s) = go (p b) (f b) (span-within s)
+    where
+      go : (t : Bool) → (t ≡ true → q b ≡ true) → span q s ≡ span p s + span q (drop (span p s) s)
+          → cond (q b) (suc (span q s)) 0 ≡ cond t (suc (span p s)) 0 + span q (drop (cond t (suc (span p s)) 0) (b ∷ s))
+      go true g i = rw (g refl) (omega arith)
+      go false g i = omega arith
+
+  pub span-lead : (s : List ℕ) → span p (take (span q s) s) ≡ span p s
+  unfolding span
+  span-lead [] = refl
+  span-lead (b ∷ s) = go (q b) (p b) refl (f b) (span-lead s)
+    where
+      go : (u t : Bool) → p b ≡ t → (t ≡ true → u ≡ true) → span p (take (span q s) s) ≡ span p s → span p (take (cond u (suc (span q s)) 0) (b ∷ s)) ≡ cond t (suc (span p s)) 0
+      go true true e g i = rw e (ap suc i)
+      go true false e g i = rw e
+      go false true e g i = absurd (true≢false (sym (g refl)))
+      go false false e g i = refl
+
+-- what holds of all bytes listed holds of one that is found among them
+found-in : (q : ℕ → Bool) (t : Bool) (cs : List ℕ) (b : ℕ) → (t ≡ true → q b ≡ true) → all q cs ≡ true → foundIn t cs b ≡ true → q b ≡ true
+unfolding all
+found-in q t [] b i h e = i e
+found-in q true (c ∷ cs) b i h e = i refl
+found-in q false (c ∷ cs) b i h e =
+    let k = and-eq-true-iff (q c) (all q cs) .0 h in
+    found-in q (eqb b c) cs b (λ z. rw (eqb-true b c z) (k .0)) (k .1) e
+
+pub one-in : (q : ℕ → Bool) (cs : List ℕ) → all q cs ≡ true → (b : ℕ) → foundIn false cs b ≡ true → q b ≡ true
+one-in q cs h b e = found-in q false cs b (λ z. cc) h e

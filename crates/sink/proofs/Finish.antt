@@ -61,7 +61,7 @@ emitAll-is (w ∷ ws) s h k =
     let ew : after ws (emit w s) .words ≡ after (w ∷ ws) s .words = omega arith in
     emitAll-is ws (emit w s) (omega arith) (omega arith) ∙ (λ j. record { store = es j; table = et j; at = ea j; words = ew j })
 
-tableOf-length : (at : ℕ) (ws : List (List ℕ)) → length (tableOf at ws) ≡ pairBytes * length ws
+pub tableOf-length : (at : ℕ) (ws : List (List ℕ)) → length (tableOf at ws) ≡ pairBytes * length ws
 unfolding tableOf pairOf leBytes
 tableOf-length at [] = refl
 tableOf-length at (w ∷ ws) = omega (arith, tableOf-length (at + length w) ws)

@@ -1,5 +1,5 @@
 -- Where a run is cut, as the code finds it. Assumes nothing.
-use mathlib.Core.Path.{_≡_, refl, sym, ap, _∙_}
+use mathlib.Core.Path.{_≡_, refl, sym, ap, ap₂, _∙_}
 use mathlib.Core.Bool.{Bool, true, false, cond, not, _&&_, and-false}
 use mathlib.Core.Logic.{⊎-elim}
 use mathlib.Core.List.{List, [], _∷_, _++_}
@@ -9,9 +9,9 @@ use lib.Dec.{eqb, leb}
 use lib.ListN.{length, take, drop, length-append, length-take, length-drop, drop-of-length-le}
 use lib.Seq.{drop-drop, length-take-le}
 use borrow.Author.Tests.{le-leb, lt-leb, eq-eqb, ne-eqb}
-use Rattle.lists.specs.Bytes.{all, span, lead, after, afterLast}
+use Rattle.lists.specs.Bytes.{bytes, all, span, lead, after, afterLast}
 use Rattle.lists.specs.Classes.{whitespace, nonWhitespace, leadingMark, unmarked}
-use Rattle.lists.proofs.Scan.{span-le, all-span, span-full, last-le}
+use Rattle.lists.proofs.Scan.{span-le, all-span, span-full, span-within, span-lead, last-le, one-in}
 use Rattle.lists.proofs.Sets.{le-or-lt}
 use Rattle.sink.specs.Words.{storeOf}
 use Rattle.tokens.specs.Tokens.{Token, marked, nameSize, cut, afterWhite, afterRun, firstToken, parts}
@@ -79,48 +79,67 @@ cut-places at w run ends n p c =
     let e4 : at + length w + length run ≡ at + length (t .whitespace) + length (t .prepunctuation) + length (t .name) + length (t .punctuation) = omega arith in
     λ j. record { whitespace = at; prepunctuation = e1 j; name = e2 j; punctuation = e3 j; end = e4 j }
 
--- the first token of what follows the first `at` bytes, as the code finds it: q bytes of whitespace, and r of the run
-module _ (s : List ℕ) (at q r : ℕ) (eq : q ≡ span whitespace (drop at s)) (er : r ≡ span nonWhitespace (drop (at + q) s)) where
+-- leading marks are no whitespace
+marks-black : (b : ℕ) → leadingMark b ≡ true → nonWhitespace b ≡ true
+unfolding all
+marks-black = one-in nonWhitespace (bytes "\"'`({[") refl
+
+-- the first token of what follows the first `at` bytes, as the code finds it: q bytes of whitespace, m leading marks, and r bytes
+-- more of the run
+module _ (s : List ℕ) (at q m r : ℕ) (eq : q ≡ span whitespace (drop at s)) (em : m ≡ span leadingMark (drop (at + q) s)) (er : r ≡ span nonWhitespace (drop (at + q + m) s)) where
   run-white : drop (at + q) s ≡ afterWhite (drop at s)
   run-white = ap (λ (k : ℕ). drop (at + k) s) eq ∙ sym (drop-drop (span whitespace (drop at s)) at s)
 
-  -- the run as the code takes it
+  run-size : m + r ≡ span nonWhitespace (drop (at + q) s)
+  run-size =
+      let d : drop (at + q + m) s ≡ drop (span leadingMark (drop (at + q) s)) (drop (at + q) s) = sym (drop-drop m (at + q) s) ∙ ap (λ (k : ℕ). drop k (drop (at + q) s)) em in
+      ap₂ (λ (i j : ℕ). i + j) em (er ∙ ap (span nonWhitespace) d) ∙ sym (span-within leadingMark nonWhitespace marks-black (drop (at + q) s))
+
+  -- where the run ends, and the run as the code takes it
+  abbrev end : ℕ
+  end = at + q + m + r
+
   abbrev run : List ℕ
-  run = take ((at + q + r) - (at + q)) (drop (at + q) s)
+  run = take (end - (at + q)) (drop (at + q) s)
+
+  run-take : run ≡ lead nonWhitespace (drop (at + q) s)
+  run-take = let k : end - (at + q) ≡ span nonWhitespace (drop (at + q) s) = omega (arith, run-size) in ap (λ (i : ℕ). take i (drop (at + q) s)) k
 
   run-lead : run ≡ lead nonWhitespace (afterWhite (drop at s))
-  run-lead =
-      let k : (at + q + r) - (at + q) ≡ span nonWhitespace (drop (at + q) s) = omega arith in
-      ap (λ (i : ℕ). take i (drop (at + q) s)) k ∙ ap (λ (d : List ℕ). lead nonWhitespace d) run-white
+  run-lead = run-take ∙ ap (λ (d : List ℕ). lead nonWhitespace d) run-white
 
-  run-ends : leb (length s) (at + q + r) ≡ eqb (length (afterRun (drop at s))) 0
+  pub run-marks : m ≡ span leadingMark run
+  run-marks = em ∙ sym (ap (span leadingMark) run-take ∙ span-lead leadingMark nonWhitespace marks-black (drop (at + q) s))
+
+  run-ends : leb (length s) end ≡ eqb (length (afterRun (drop at s))) 0
   run-ends =
-      let n : length (afterRun (drop at s)) ≡ length s - (at + q + r) =
+      let n : length (afterRun (drop at s)) ≡ length s - end =
       ap (λ (d : List ℕ). length (after nonWhitespace d)) (sym run-white) ∙ length-drop (span nonWhitespace (drop (at + q) s)) (drop (at + q) s)
-      ∙ ap (λ (k : ℕ). k - span nonWhitespace (drop (at + q) s)) (length-drop (at + q) s) ∙ omega arith in
+      ∙ ap (λ (k : ℕ). k - span nonWhitespace (drop (at + q) s)) (length-drop (at + q) s) ∙ omega (arith, run-size) in
       rw n
-      (⊎-elim (λ (h : length s ≤ at + q + r). le-leb _ _ h ∙ sym (eq-eqb (length s - (at + q + r)) 0 (omega arith)))
-      (λ (h : at + q + r < length s). lt-leb _ _ h ∙ sym (ne-eqb (length s - (at + q + r)) 0 (λ z. omega arith))) (le-or-lt (length s) (at + q + r)))
+      (⊎-elim (λ (h : length s ≤ end). le-leb _ _ h ∙ sym (eq-eqb (length s - end) 0 (omega arith)))
+      (λ (h : end < length s). lt-leb _ _ h ∙ sym (ne-eqb (length s - end) 0 (λ z. omega arith))) (le-or-lt (length s) end))
 
   -- no sum of the places is too large
-  pub run-within : at + q + r ≤ at + (length s - at)
+  pub run-within : end ≤ at + (length s - at)
   run-within =
       let a : span whitespace (drop at s) ≤ length s - at = rw length-drop at (span-le whitespace (drop at s)) in
       let b : span nonWhitespace (drop (at + q) s) ≤ length s - (at + q) = rw length-drop at (span-le nonWhitespace (drop (at + q) s)) in
-      omega arith
+      omega (arith, run-size)
 
-  pub run-fits : (ends : Bool) (n p : ℕ) → CutAt run ends n p → (n ≤ r) × (p ≤ r)
+  pub run-fits : (ends : Bool) (n p : ℕ) → CutAt run ends n p → (n ≤ m + r) × (p ≤ m + r)
   run-fits ends n p c =
-      let l : length run ≤ r = simp length-take (omega arith) in
+      let l : length run ≤ m + r = simp length-take (omega arith) in
       let a : p ≤ length run = c .within in
       let b : p ≡ n + length (cut [] run ends .name) = c .punctuation in
       (omega arith, omega arith)
 
-  pub first-places : (n p : ℕ) → CutAt run (leb (length s) (at + q + r)) n p
-      → record { whitespace = at; prepunctuation = at + q; name = at + q + n; punctuation = at + q + p; end = at + q + r } ≡ placesOf at (firstToken (drop at s))
+  pub first-places : (n p : ℕ) → CutAt run (leb (length s) end) n p
+      → record { whitespace = at; prepunctuation = at + q; name = at + q + n; punctuation = at + q + p; end = end } ≡ placesOf at (firstToken (drop at s))
   first-places n p c =
       let d : List ℕ = drop at s in
       let c′ : CutAt (lead nonWhitespace (afterWhite d)) (eqb (length (afterRun d)) 0) n p = rw (run-lead, run-ends) at c in
       let lw : length (lead whitespace d) ≡ q = length-take-le (span whitespace d) d (span-le whitespace d) ∙ sym eq in
-      let lr : length (lead nonWhitespace (afterWhite d)) ≡ r = length-take-le (span nonWhitespace (afterWhite d)) (afterWhite d) (span-le nonWhitespace (afterWhite d)) ∙ ap (span nonWhitespace) (sym run-white) ∙ sym er in
-      rw (lw, lr) at (cut-places at (lead whitespace d) (lead nonWhitespace (afterWhite d)) (eqb (length (afterRun d)) 0) n p c′)
+      let lr : length (lead nonWhitespace (afterWhite d)) ≡ m + r = length-take-le (span nonWhitespace (afterWhite d)) (afterWhite d) (span-le nonWhitespace (afterWhite d)) ∙ ap (span nonWhitespace) (sym run-white) ∙ sym run-size in
+      let e : end ≡ at + q + (m + r) = omega arith in
+      rw e (rw (lw, lr) at (cut-places at (lead whitespace d) (lead nonWhitespace (afterWhite d)) (eqb (length (afterRun d)) 0) n p c′))

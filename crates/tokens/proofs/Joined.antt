@@ -10,10 +10,11 @@ use lib.ListN.{length, take, drop, getD, length-append, length-drop, take-append
 use lib.Seq.{take-add, drop-drop, take-append-le, drop-append-le, getD-append-add}
 use Rattle.lists.specs.Bytes.{all, span, lead, afterLast}
 use Rattle.lists.specs.Classes.{whitespace, nonWhitespace}
-use Rattle.lists.specs.LittleEndian.{leValue, leBytes}
+use Rattle.lists.specs.LittleEndian.{leValue}
 use Rattle.lists.proofs.Scan.{last-none, last-span, last-drop}
 use Rattle.sink.specs.Sink.{pairOf}
 use Rattle.sink.specs.Words.{storeOf, tableOf}
+use Rattle.sink.proofs.Finish.{tableOf-length}
 use Rattle.sink.proofs.ReadBack.{wordAt, word-read}
 use Rattle.tokens.specs.Tokens.{Token, afterWhite, afterRun, firstToken, tokens, parts}
 use Rattle.tokens.specs.Table.{size, recordOf, records, joined}
@@ -89,11 +90,6 @@ parts-at (t ∷ ts) none (suc i) j h k =
     let r = parts-at ts none i j (omega arith) k in
     rw e (omega arith, getD-append-add (parts t) (allParts ts) (4 * i + j) [] ∙ r .1)
 
-table-length : (at : ℕ) (ws : List (List ℕ)) → length (tableOf at ws) ≡ 8 * length ws
-unfolding tableOf pairOf leBytes
-table-length at [] = refl
-table-length at (w ∷ ws) = let i = table-length (at + length w) ws in omega arith
-
 -- a table's words are read from its front alone, whatever follows it
 pub table-front : (at : ℕ) (ws : List (List ℕ)) (u s : List ℕ) (i : ℕ) → i < length ws → wordAt i (tableOf at ws ++ u) s ≡ wordAt i (tableOf at ws) s
 table-front at ws u s i h = ap₂ (λ (a n : ℕ). take n (drop a s)) (number (2 * i) (omega arith)) (number (2 * i + 1) (omega arith))
@@ -103,7 +99,7 @@ table-front at ws u s i h = ap₂ (λ (a n : ℕ). take n (drop a s)) (number (2
 
     number : (k : ℕ) → k < 2 * length ws → leValue (take 4 (drop (4 * k) (t ++ u))) ≡ leValue (take 4 (drop (4 * k) t))
     number k l =
-        let n = table-length at ws in
+        let n = tableOf-length at ws in
         ap leValue (ap (take 4) (drop-append-le (4 * k) t u (omega arith)) ∙ take-append-le 4 (drop (4 * k) t) u (simp length-drop (omega arith)))
 
 -- part j of token i is where its pair says in the text

@@ -9,7 +9,7 @@ use lib.ListN.{length, take, drop, getD, length-append, take-append-drop}
 use borrow.Author.Tests.{not-false, eqb-true}
 use Rattle.lists.specs.Bytes.{bytes, all, span, lead, after}
 use Rattle.lists.specs.Classes.{ascii, foundIn, whitespace, nonWhitespace, leadingMark, trailingMark, unmarked}
-use Rattle.lists.proofs.Scan.{span-all, span-front, all-front, all-within, last-rest}
+use Rattle.lists.proofs.Scan.{span-all, span-front, all-front, all-within, last-rest, one-in}
 use Rattle.admit.specs.Utf8.{utf8}
 use Rattle.admit.specs.Refusals.{textRefusal}
 use Rattle.admit.proofs.Utf8.{utf8-run, utf8-all}
@@ -30,27 +30,16 @@ abbrev pub EachOf : (List ℕ → Type 0) → List Token → Type 0
 EachOf P [] = Unit {0}
 EachOf P (t ∷ ts) = Each P t × EachOf P ts
 
--- one of some ASCII bytes is ASCII
-found-ascii : (t : Bool) (cs : List ℕ) (b : ℕ) → (t ≡ true → ascii b ≡ true) → all ascii cs ≡ true → foundIn t cs b ≡ true → ascii b ≡ true
-unfolding all
-found-ascii t [] b i h e = i e
-found-ascii true (c ∷ cs) b i h e = i refl
-found-ascii false (c ∷ cs) b i h e =
-    let k = and-eq-true-iff (ascii c) (all ascii cs) .0 h in
-    found-ascii (eqb b c) cs b (λ q. rw (eqb-true b c q) (k .0)) (k .1) e
-
-one-ascii : (cs : List ℕ) → all ascii cs ≡ true → (b : ℕ) → foundIn false cs b ≡ true → ascii b ≡ true
-one-ascii cs h b e = found-ascii false cs b (λ q. cc) h e
-
+-- whitespace is ASCII
 white-ascii : (b : ℕ) → whitespace b ≡ true → ascii b ≡ true
 unfolding all
-white-ascii = one-ascii (bytes " \t\n\r") refl
+white-ascii = one-in ascii (bytes " \t\n\r") refl
 
 -- the trailing marks of what follows the prepunctuation
 trailing-ascii : (s : List ℕ) → all ascii (drop (nameSize s) s) ≡ true
 unfolding all
 trailing-ascii [] = refl
-trailing-ascii (c ∷ s) = last-rest unmarked ascii (λ b e. one-ascii (bytes "\"'`.,:;!?(){}[]") refl b (not-false (trailingMark b) e)) s
+trailing-ascii (c ∷ s) = last-rest unmarked ascii (λ b e. one-in ascii (bytes "\"'`.,:;!?(){}[]") refl b (not-false (trailingMark b) e)) s
 
 -- both parts of a text that is cut before ASCII
 both : (x y : List ℕ) → ascii (getD y 0 0) ≡ true → utf8 (x ++ y) ≡ true → (utf8 x ≡ true) × (utf8 y ≡ true)
@@ -75,7 +64,7 @@ cut-utf8 white run ends w r = go (ends && all leadingMark run)
     go : (t : Bool) → Each IsUtf8 (cond t (record { whitespace = white; prepunctuation = []; name = run; punctuation = [] }) (marked white (lead leadingMark run) rest))
     go true = record { whitespace = w; prepunctuation = utf8-all [] refl; name = r; punctuation = utf8-all [] refl }
     go false =
-        let k = after-utf8 leadingMark (one-ascii (bytes "\"'`({[") refl) run r in
+        let k = after-utf8 leadingMark (one-in ascii (bytes "\"'`({[") refl) run r in
         let n = nameSize rest in
         let l = both (take n rest) (drop n rest) (all-front ascii refl (drop n rest) (trailing-ascii rest)) (rw take-append-drop (k .1)) in
         record { whitespace = w; prepunctuation = k .0; name = l .0; punctuation = l .1 }

@@ -19,6 +19,8 @@ ghost use Prim.Native.Nat.{_+_, _*_, _≤_};
 ghost use lib.Dec.{ltb};
 ghost use lib.ListN.{length, drop};
 ghost use lib.Seq.{sets};
+ghost use Rattle.lists.specs.Bytes.{span};
+ghost use Rattle.lists.specs.Classes.{leadingMark};
 ghost use Rattle.tokens.specs.Tokens.{tokens, firstToken};
 ghost use Rattle.tokens.specs.Table.{recordBytes, records, filledCall, asFilled, placesOf, recordAt, CutAt};
 
@@ -50,11 +52,11 @@ pub struct Tokens {
     pub tokens: usize,
 }
 
-// The run cut into its parts; `ends` says that the text ends with it.
-fn cut_run(run: &[u8], ends: bool) -> Cut
+// The run, which has so many leading marks, cut into its parts; `ends` says that the text ends with it.
+fn cut_run(run: &[u8], marks: usize, ends: bool) -> Cut
+    requires { ⌜ marks ≡ span leadingMark (now run) ⌝ }
     ensures { λ r. ⌜ CutAt (now (run .entry)) ends (r .name) (r .punctuation) ⌝ }
 {
-    let marks = span_of(LEADING_MARK, 0, run);
     if marks == run.len() {
         if ends {
             return Cut {
@@ -79,8 +81,10 @@ pub fn token_at(s: &[u8], at: usize) -> Places
     ensures { λ r. ⌜ r ≡ placesOf at (firstToken (drop at (now (s .entry)))) ⌝ }
 {
     let start = at + span_of(WHITESPACE, 0, tail(s, at));
-    let end = start + span_of(NON_WHITESPACE, 0, tail(s, start));
-    let run = cut_run(part(s, start, end), s.len() <= end);
+    let marks = span_of(LEADING_MARK, 0, tail(s, start));
+    let first = start + marks;
+    let end = first + span_of(NON_WHITESPACE, 0, tail(s, first));
+    let run = cut_run(part(s, start, end), marks, s.len() <= end);
     Places {
         whitespace: at,
         prepunctuation: start,
