@@ -25,7 +25,7 @@ ghost use Rattle.tokens.specs.Tokens.{tokens, firstToken};
 ghost use Rattle.tokens.specs.Table.{recordBytes, records, filledCall, asFilled, placesOf, recordAt, CutAt};
 
 // The bytes of a token's record in the table.
-pub const TOKEN: usize = 32;
+pub const RECORD_BYTES: usize = 32;
 
 // The bytes of a pair of offset and length.
 const PAIR: usize = 8;
@@ -164,7 +164,7 @@ fn write_records(s: &[u8], table: &mut [u8]) -> usize
         if t.prepunctuation == s.len() {
             return n;
         }
-        put_record(table, TOKEN * n, t);
+        put_record(table, RECORD_BYTES * n, t);
         n += 1;
         at = t.end;
     }
@@ -179,7 +179,7 @@ pub fn tokenize(s: &[u8], table: &mut [u8]) -> Tokens
     if refusal != 0 {
         return Tokens { refusal, tokens: 0 };
     }
-    if exceeds(s, table.len() / TOKEN) {
+    if exceeds(s, table.len() / RECORD_BYTES) {
         let answer = Answer::Refused(Refusal::BufferTooShort);
         return Tokens {
             refusal: answer.number(),
