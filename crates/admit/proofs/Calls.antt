@@ -1,5 +1,5 @@
 -- A refused call gives its number and nothing else, an accepted one what it gives. Assumes nothing.
-use mathlib.Core.Path.{_≡_, refl}
+use mathlib.Core.Path.{_≡_, refl, sym, _∙_}
 use mathlib.Core.Bool.{Bool, true, false, cond, not}
 use mathlib.Core.List.{List}
 use Prim.Native.Nat.{ℕ, zero, suc, _≤_}
@@ -23,7 +23,7 @@ pub call-accepted : {A : Type 0} (nothing given value : A) (n : ℕ) → 0 ≡ n
 call-accepted nothing given value n e v = rw (← e, v)
 
 -- the tests of a text and its buffers, as numbers
-abbrev tests : Bool → Bool → Bool → ℕ
+abbrev pub tests : Bool → Bool → Bool → ℕ
 tests long good short = cond long 1 (cond (not good) 2 (cond short 5 0))
 
 -- a text that is refused is refused whatever the buffer's length
@@ -43,6 +43,17 @@ due-accepted limit s short h = go (ltb limit (length s)) (utf8 s) h
     go true good h = absurd (omega arith)
     go false false h = absurd (omega arith)
     go false true h = refl
+
+-- a call with one text, whose refusal n is tested first, and with buffers of which one is too short or none is
+module _ {A : Type 0} (nothing given : A) (limit : ℕ) (s : List ℕ) (short : Bool) (n : ℕ) (due : n ≡ textRefusal limit s) where
+  pub refused-text : (n ≡ 0 → ⊥) → record { refusal = n; value = nothing } ≡ call nothing (numberDue (textDue limit s short)) given
+  refused-text z = call-refused nothing given n (numberDue (textDue limit s short)) z (due-refused limit s short n z due)
+
+  pub refused-short : n ≡ 0 → short ≡ true → record { refusal = number BufferTooShort; value = nothing } ≡ call nothing (numberDue (textDue limit s short)) given
+  refused-short z t = rw (due-accepted limit s short (sym due ∙ z), t)
+
+  pub accepted-text : n ≡ 0 → short ≡ false → {value : A} → value ≡ given → record { refusal = 0; value = value } ≡ call nothing (numberDue (textDue limit s short)) given
+  accepted-text z f {value} e = rw (due-accepted limit s short (sym due ∙ z), f, e)
 
 -- an accepted text is short enough and UTF-8, and no other is
 pub text-tests : (limit : ℕ) (s : List ℕ) → textRefusal limit s ≡ 0 → (length s ≤ limit) × (utf8 s ≡ true)

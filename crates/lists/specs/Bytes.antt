@@ -60,9 +60,16 @@ sameBy f (b ∷ s) (c ∷ t) = eqb (f b) c && sameBy f s t
 abbrev pub same : List ℕ → List ℕ → Bool
 same = sameBy (λ b. b)
 
+-- A to Z, a to z
+abbrev pub capital : ℕ → Bool
+capital b = leb (code "A") b && leb b (code "Z")
+
+abbrev pub small : ℕ → Bool
+small b = leb (code "a") b && leb b (code "z")
+
 -- A to Z lowered, any other byte as it is
 abbrev pub lower : ℕ → ℕ
-lower b = cond (leb (code "A") b && leb b (code "Z")) (b + 32) b
+lower b = cond (capital b) (b + 32) b
 
 -- the text starts with the byte c
 abbrev pub starts : ℕ → List ℕ → Bool

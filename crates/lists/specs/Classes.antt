@@ -5,7 +5,7 @@ use Prim.Native.Nat.{ℕ}
 use Prim.Native.Char.{code}
 use lib.Dec.{leb, ltb, eqb}
 use lib.ListN.{getD}
-use Rattle.lists.specs.Bytes.{bytes, lower}
+use Rattle.lists.specs.Bytes.{bytes, capital, small, lower}
 
 -- a byte that is a character by itself
 abbrev pub ascii : ℕ → Bool
@@ -17,7 +17,7 @@ digit b = leb (code "0") b && leb b (code "9")
 
 -- A to Z, a to z
 abbrev pub letter : ℕ → Bool
-letter b = (leb (code "A") b && leb b (code "Z")) || (leb (code "a") b && leb b (code "z"))
+letter b = capital b || small b
 
 abbrev pub digitOrComma : ℕ → Bool
 digitOrComma b = digit b || eqb b (code ",")
@@ -47,30 +47,38 @@ notE b = not (eqb b (code "e") || eqb b (code "E"))
 abbrev pub continuation : ℕ → Bool
 continuation b = leb 0x80 b && leb b 0xBF
 
--- the byte is one of those listed, or found already
+-- the byte is one of those listed, or found already: tested from the left, as the code does
 abbrev pub foundIn : Bool → List ℕ → ℕ → Bool
 foundIn found [] b = found
 foundIn found (c ∷ cs) b = foundIn (found || eqb b c) cs b
 
 -- the byte is one of those listed
 abbrev pub oneOf : List ℕ → ℕ → Bool
-oneOf [] b = false
-oneOf (c ∷ cs) b = foundIn (eqb b c) cs b
+oneOf cs b = foundIn false cs b
 
 -- document 01: "Whitespace is space, tab, LF, CR."
+abbrev pub whites : List ℕ
+whites = bytes " \t\n\r"
+
 abbrev pub whitespace : ℕ → Bool
-whitespace b = oneOf (bytes " \t\n\r") b
+whitespace = oneOf whites
 
 abbrev pub nonWhitespace : ℕ → Bool
 nonWhitespace b = not (whitespace b)
 
--- `PREPUNCTUATION` of text.rs: the leading marks
-abbrev pub leadingMark : ℕ → Bool
-leadingMark b = oneOf (bytes "\"'`({[") b
+-- `PREPUNCTUATION` of text.rs
+abbrev pub leadingMarks : List ℕ
+leadingMarks = bytes "\"'`({["
 
--- `POSTPUNCTUATION` of text.rs: the trailing marks
+abbrev pub leadingMark : ℕ → Bool
+leadingMark = oneOf leadingMarks
+
+-- `POSTPUNCTUATION` of text.rs
+abbrev pub trailingMarks : List ℕ
+trailingMarks = bytes "\"'`.,:;!?(){}[]"
+
 abbrev pub trailingMark : ℕ → Bool
-trailingMark b = oneOf (bytes "\"'`.,:;!?(){}[]") b
+trailingMark = oneOf trailingMarks
 
 abbrev pub unmarked : ℕ → Bool
 unmarked b = not (trailingMark b)

@@ -1,16 +1,14 @@
 -- The unit calls, case by case. Assumes nothing.
 use mathlib.Core.Path.{_≡_, refl, sym, _∙_}
-use mathlib.Core.Bool.{Bool, true, false, cond, not}
+use mathlib.Core.Bool.{Bool, true, false, cond}
 use mathlib.Core.List.{List, []}
 use Prim.Native.Nat.{ℕ, _-_, _≤_, _<_}
 use native.Mathlib.Omega.{arith}
 use lib.Dec.{ltb}
 use lib.ListN.{length, drop, length-drop}
 use borrow.Author.Tests.{le-ltb}
-use Rattle.admit.specs.Utf8.{utf8}
-use Rattle.admit.specs.Refusals.{number, numberDue, textLimit, textDue, textRefusal}
-use Rattle.admit.specs.declared.Refusal.the-variants.{BufferTooShort}
-use Rattle.admit.proofs.Calls.{call-refused, due-refused, due-accepted}
+use Rattle.admit.specs.Refusals.{textLimit, textRefusal}
+use Rattle.admit.proofs.Calls.{refused-text, due-accepted}
 use Rattle.units.specs.Units.{unitIndex, unitWord}
 use Rattle.units.proofs.Laws.{miss-none, miss-word, hit-some}
 use Rattle.shapes.specs.Shapes.{unitAt, hasUnit, unitPart}
@@ -53,7 +51,7 @@ module _ (s store : List ℕ) (n : ℕ) (due : n ≡ textRefusal textLimit s) wh
   short = ltb (length store) (length (unitWord s))
 
   pub word-refused : (n ≡ 0 → ⊥) → record { refusal = n; value = record { found = false; size = 0; store = store } } ≡ wordCall s store
-  word-refused z = call-refused _ _ n (numberDue (textDue textLimit s short)) z (due-refused textLimit s short n z due)
+  word-refused z = refused-text _ _ textLimit s short n due z
 
   -- an accepted text that is a unit
   pub word-found : n ≡ 0 → unitIndex s < 22 → storeCall (unitWord s) store ≡ wordCall s store

@@ -1,6 +1,6 @@
 -- How the loop writes the starts, and which refusal of a step's texts is due. Assumes nothing.
-use mathlib.Core.Path.{_≡_, refl, sym, ap, ap₂, _∙_}
-use mathlib.Core.Bool.{Bool, true, false, cond, not, _&&_, _||_}
+use mathlib.Core.Path.{_≡_, refl, sym, ap, _∙_}
+use mathlib.Core.Bool.{Bool, true, false, _&&_, _||_}
 use mathlib.Core.List.{List, [], _∷_}
 use Prim.Native.Nat.{ℕ, suc, _+_}
 use native.Mathlib.Numerals.{add-one}
@@ -9,10 +9,10 @@ use lib.ListN.{length, set}
 use lib.Seq.{sets}
 use Rattle.admit.specs.Utf8.{utf8}
 use Rattle.admit.specs.Refusals.{numberDue, textLimit, textRefusal}
-use Rattle.admit.proofs.Calls.{call-refused, call-accepted}
+use Rattle.admit.proofs.Calls.{call-refused, call-accepted, tests}
 use Rattle.tokens.specs.Tokens.{Token, tokens}
 use Rattle.sentences.specs.Sentences.{starts, startsAfter, breakAfter, told, kept, flag, isSet, fresh, breaks}
-use Rattle.sentences.specs.Calls.{flags, startBytes, stepDue, stepCall, asStep, firstDue}
+use Rattle.sentences.specs.Calls.{flags, startBytes, stepDue, stepCall, asStep, smallerDue}
 use Rattle.sentences.specs.declared.State.{State}
 use Rattle.sentences.proofs.Kept.{marksFrom, marks-starts}
 
@@ -51,12 +51,8 @@ starts-length s = go (tokens s)
 
 -- ---- the texts of a step
 
--- the tests of one text, as numbers
-abbrev tests : Bool → Bool → ℕ
-tests long good = cond long 1 (cond (not good) 2 0)
-
 -- of two texts the smaller number is due
-two : (l g l′ g′ : Bool) → firstDue (tests l g) (tests l′ g′) ≡ tests (l || l′) (g && g′)
+two : (l g l′ g′ : Bool) → smallerDue (tests l g false) (tests l′ g′ false) ≡ tests (l || l′) (g && g′) false
 two true true true true = refl
 two true true true false = refl
 two true true false true = refl
@@ -74,9 +70,9 @@ two false false true false = refl
 two false false false true = refl
 two false false false false = refl
 
-pub three-due : (w n p : List ℕ) → firstDue (firstDue (textRefusal textLimit w) (textRefusal textLimit n)) (textRefusal textLimit p) ≡ numberDue (stepDue w n p)
+pub three-due : (w n p : List ℕ) → smallerDue (smallerDue (textRefusal textLimit w) (textRefusal textLimit n)) (textRefusal textLimit p) ≡ numberDue (stepDue w n p)
 three-due w n p =
-    ap (λ (k : ℕ). firstDue k (textRefusal textLimit p)) (two (ltb textLimit (length w)) (utf8 w) (ltb textLimit (length n)) (utf8 n))
+    ap (λ (k : ℕ). smallerDue k (textRefusal textLimit p)) (two (ltb textLimit (length w)) (utf8 w) (ltb textLimit (length n)) (utf8 n))
     ∙ two (ltb textLimit (length w) || ltb textLimit (length n)) (utf8 w && utf8 n) (ltb textLimit (length p)) (utf8 p)
 
 -- k is the number that the code has for the three texts

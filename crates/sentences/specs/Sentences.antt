@@ -3,19 +3,12 @@ use mathlib.Core.Bool.{Bool, true, false, cond, not, _&&_, _||_}
 use mathlib.Core.List.{List, [], _∷_}
 use Prim.Native.Nat.{ℕ, _-_}
 use Prim.Native.Char.{code}
-use lib.Dec.{leb, ltb, eqb}
+use lib.Dec.{ltb, eqb}
 use lib.ListN.{length, getD}
-use Rattle.lists.specs.Bytes.{bytes, count, has, sameBy, lower}
+use Rattle.lists.specs.Bytes.{bytes, count, has, sameBy, capital, small, lower}
 use Rattle.lists.specs.Classes.{only}
 use Rattle.tokens.specs.Tokens.{Token}
 use Rattle.sentences.specs.declared.State.{State}
-
--- A to Z, a to z
-abbrev pub capital : ℕ → Bool
-capital b = leb (code "A") b && leb b (code "Z")
-
-abbrev pub small : ℕ → Bool
-small b = leb (code "a") b && leb b (code "z")
 
 -- the first and the last byte, 0 where there is none
 abbrev pub first : List ℕ → ℕ
@@ -45,9 +38,9 @@ breakAfter t whitespace name =
     (cond (ltb 1 (length whitespace)) true
     (not (t .abbreviation)))))))
 
--- what a name looks like an abbreviation by: its last byte, its length and its first byte
-abbrev pub abbreviation : ℕ → ℕ → ℕ → Bool
-abbreviation l n f = capital l || (ltb n 4 && capital f)
+-- `looks_like_abbreviation` of the Rust, of a name with this last byte, length and first byte
+abbrev pub looksLikeAbbreviation : ℕ → ℕ → ℕ → Bool
+looksLikeAbbreviation l n f = capital l || (ltb n 4 && capital f)
 
 abbrev pub before : Token → Before
 before t =
@@ -57,7 +50,7 @@ before t =
       question = has (code "?") (t .punctuation);
       colon = has (code ":") (t .punctuation);
       point = has (code ".") (t .punctuation);
-      abbreviation = abbreviation (last (t .name)) (length (t .name)) (first (t .name));
+      abbreviation = looksLikeAbbreviation (last (t .name)) (length (t .name)) (first (t .name));
     }
 
 -- a sentence ends between two tokens
@@ -113,7 +106,7 @@ told s =
       question = isSet (s .question);
       colon = isSet (s .colon);
       point = isSet (s .point);
-      abbreviation = abbreviation (s .last) (s .len) (getD (s .head) 0 0);
+      abbreviation = looksLikeAbbreviation (s .last) (s .len) (getD (s .head) 0 0);
     }
 
 -- whether a step breaks before its token: "its first step from a fresh state answers no break"

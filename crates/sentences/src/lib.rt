@@ -19,12 +19,12 @@ ghost use mathlib.Core.Bool.{_||_};
 ghost use Prim.Native.Nat.{_≤_};
 ghost use lib.ListN.{length};
 ghost use lib.Seq.{sets};
-ghost use Rattle.lists.specs.Bytes.{has};
+ghost use Rattle.lists.specs.Bytes.{has, capital, small};
 ghost use Rattle.admit.specs.Refusals.{numberDue};
 ghost use Rattle.tokens.specs.Tokens.{tokens};
 ghost use Rattle.tokens.specs.Table.{filledCall, asFilled};
-ghost use Rattle.sentences.specs.Sentences.{capital, small, last, abbreviation, breakAfter, isSet, flag, fresh, headOf, kept, told, breaks};
-ghost use Rattle.sentences.specs.Calls.{startBytes, stepDue, stepCall, asStep, firstDue};
+ghost use Rattle.sentences.specs.Sentences.{breakAfter, isSet, flag, fresh, headOf, kept, told, breaks};
+ghost use Rattle.sentences.specs.Calls.{startBytes, stepDue, stepCall, asStep, smallerDue};
 
 // What is kept of the last token: its name's length, first five bytes (0 past its end) and last byte (0 where it is empty), and
 // whether its punctuation has each of . : ? and !. A flag is 0 for no and any other byte for yes.
@@ -92,8 +92,8 @@ fn head_of(s: &[u8]) -> [u8; 5]
 }
 
 // Of two numbers of refusals the one that is tested first, where 0 is none.
-fn first_due(a: u8, b: u8) -> u8
-    ensures { λ r. ⌜ r ≡ firstDue a b ⌝ }
+fn smaller_due(a: u8, b: u8) -> u8
+    ensures { λ r. ⌜ r ≡ smallerDue a b ⌝ }
 {
     if a == 0 {
         return b;
@@ -117,6 +117,26 @@ impl State {
             question: 0,
             exclamation: 0,
             fresh: 1,
+        }
+    }
+
+    // A step: the token is whitespace, name and punctuation.
+    pub fn push(self, whitespace: &[u8], name: &[u8], punctuation: &[u8]) -> Step
+        ensures { λ r. ⌜ asStep r ≡ stepCall self (now (whitespace .entry)) (now (name .entry)) (now (punctuation .entry)) ⌝ }
+    {
+        let refusal = refusal_of_step(whitespace, name, punctuation);
+        if refusal != 0 {
+            return Step {
+                refusal,
+                breaks: false,
+                state: self,
+            };
+        }
+        let breaks = !is_set(self.fresh) & is_sentence_break(self, whitespace, name);
+        Step {
+            refusal: 0,
+            breaks,
+            state: State::kept(name, punctuation),
         }
     }
 
@@ -184,30 +204,8 @@ fn is_sentence_break(state: State, whitespace: &[u8], name: &[u8]) -> bool
 fn refusal_of_step(whitespace: &[u8], name: &[u8], punctuation: &[u8]) -> u8
     ensures { λ r. ⌜ r ≡ numberDue (stepDue (now (whitespace .entry)) (now (name .entry)) (now (punctuation .entry))) ⌝ }
 {
-    let two = first_due(refusal_of(whitespace), refusal_of(name));
-    first_due(two, refusal_of(punctuation))
-}
-
-impl State {
-    // A step: the token is whitespace, name and punctuation.
-    pub fn push(self, whitespace: &[u8], name: &[u8], punctuation: &[u8]) -> Step
-        ensures { λ r. ⌜ asStep r ≡ stepCall self (now (whitespace .entry)) (now (name .entry)) (now (punctuation .entry)) ⌝ }
-    {
-        let refusal = refusal_of_step(whitespace, name, punctuation);
-        if refusal != 0 {
-            return Step {
-                refusal,
-                breaks: false,
-                state: self,
-            };
-        }
-        let breaks = !is_set(self.fresh) & is_sentence_break(self, whitespace, name);
-        Step {
-            refusal: 0,
-            breaks,
-            state: State::kept(name, punctuation),
-        }
-    }
+    let two = smaller_due(refusal_of(whitespace), refusal_of(name));
+    smaller_due(two, refusal_of(punctuation))
 }
 
 // Whether a token starts a sentence after those that the state was fed, as a flag.

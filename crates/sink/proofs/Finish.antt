@@ -13,8 +13,8 @@ use borrow.Author.Tests.{ltb-false, le-ltb, lt-ltb}
 use Rattle.lists.specs.Bytes.{over}
 use Rattle.lists.specs.LittleEndian.{leBytes}
 use Rattle.lists.proofs.Sets.{sets-append, sets-front, le-or-lt}
-use Rattle.admit.specs.Refusals.{textLimit, textRefusal, numberDue, textDue}
-use Rattle.admit.proofs.Calls.{call-refused, due-refused, due-accepted}
+use Rattle.admit.specs.Refusals.{textLimit, textRefusal}
+use Rattle.admit.proofs.Calls.{refused-text, refused-short, accepted-text}
 use Rattle.sink.specs.Sink.{top, pairOf, pairBytes, Sink, sink, emit, emitAll}
 use Rattle.sink.specs.Words.{storeOf, tableOf, shortFor, short, wordsCall, asWords, startPen, spokenBy, refusedBy}
 use Rattle.sink.specs.declared.Pen.{Pen}
@@ -104,12 +104,12 @@ module _ (s : List ℕ) (ws : List (List ℕ)) (st tb : List ℕ) (n : ℕ) (due
   -- a text that is refused
   pub text-refused : {r : Spoken} → (n ≡ 0 → ⊥) → r ≡ refusedBy n → asWords r st tb ≡ wordsCall s ws st tb
   unfolding wordsCall
-  text-refused z e = rw e (call-refused _ _ n (numberDue (textDue textLimit s isShort)) z (due-refused textLimit s isShort n z due))
+  text-refused z e = rw e (refused-text _ _ textLimit s isShort n due z)
 
   -- a buffer is too short
   pub short-refused : n ≡ 0 → isShort ≡ true → {r : Spoken} → r ≡ refusedBy 5 → asWords r st tb ≡ wordsCall s ws st tb
   unfolding wordsCall
-  short-refused z t q = rw (q, due-accepted textLimit s isShort (sym due ∙ z), t)
+  short-refused z t q = rw q (refused-short _ _ textLimit s isShort n due z t)
 
   -- both are long enough, and the words are written to them
   pub all-written : n ≡ 0 → isShort ≡ false → length st < top → length tb < top
@@ -124,4 +124,4 @@ module _ (s : List ℕ) (ws : List (List ℕ)) (st tb : List ℕ) (n : ℕ) (due
       let et : tb′ ≡ over (tableOf 0 ws) tb = ap (λ (k : Sink). k .table) all ∙ sets-front tb (tableOf 0 ws) (omega (arith, tableOf-length 0 ws)) in
       let ea : p .at ≡ length (storeOf ws) = ap (λ (k : Sink). k .at) all ∙ zero-add (length (storeOf ws)) in
       let ew : p .words ≡ length ws = ap (λ (k : Sink). k .words) all ∙ zero-add (length ws) in
-      rw (q, due-accepted textLimit s isShort (sym due ∙ z), f) (λ j. record { refusal = 0; value = record { words = ew j; bytes = ea j; store = es j; table = et j } })
+      rw q (accepted-text _ _ textLimit s isShort n due z f (λ j. record { words = ew j; bytes = ea j; store = es j; table = et j }))

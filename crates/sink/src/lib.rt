@@ -11,7 +11,7 @@ ghost use Rattle.sink.specs.Words.{shortFor, startPen, spokenBy, refused
 const TOP: usize = 0xffff_ffff_ffff_ffff;
 
 // The bytes of a pair.
-const PAIR: usize = 8;
+pub const PAIR: usize = 8;
 
 // The place of the next byte in the store, and of the next pair in the table.
 pub struct Pen {

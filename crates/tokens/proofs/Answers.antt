@@ -1,9 +1,9 @@
 -- What a call answers that fills a buffer by tokens. Assumes nothing.
-use mathlib.Core.Path.{_≡_, refl, sym, ap, _∙_}
+use mathlib.Core.Path.{_≡_, sym, _∙_}
 use mathlib.Core.Bool.{Bool, true, false}
 use mathlib.Core.Logic.{⊎-elim}
 use mathlib.Core.List.{List}
-use Prim.Native.Nat.{ℕ, _+_, _*_, _/_, _≤_, _<_}
+use Prim.Native.Nat.{ℕ, _*_, _/_, _≤_, _<_}
 use native.Mathlib.Omega.{arith}
 use lib.Dec.{ltb}
 use lib.ListN.{length}
@@ -11,12 +11,11 @@ use lib.Seq.{sets}
 use borrow.Author.Tests.{lt-ltb, le-ltb, ltb-false}
 use Rattle.lists.proofs.Sets.{sets-front, le-or-lt}
 use Rattle.lists.specs.Bytes.{over}
-use Rattle.admit.specs.Refusals.{numberDue, textLimit, textDue, textRefusal}
-use Rattle.admit.proofs.Calls.{call-refused, due-refused, due-accepted}
+use Rattle.admit.specs.Refusals.{textLimit, textRefusal}
+use Rattle.admit.proofs.Calls.{refused-text, refused-short, accepted-text}
 use Rattle.tokens.specs.Tokens.{tokens}
 use Rattle.tokens.specs.Table.{recordBytes, records, filledCall, asFilled}
 use Rattle.tokens.proofs.Records.{records-length}
-use Rattle.tokens.specs.declared.Tokens.{Tokens}
 
 -- whether so many records fit
 records-fit : (len n : ℕ) → ltb len (recordBytes * n) ≡ ltb (len / recordBytes) n
@@ -34,15 +33,15 @@ module _ (s result old : List ℕ) (n : ℕ) (due : n ≡ textRefusal textLimit 
 
   pub fill-refused : (n ≡ 0 → ⊥) → asFilled (record { refusal = n; tokens = 0 }) old ≡ filledCall s result old
   unfolding filledCall
-  fill-refused z = call-refused _ _ n (numberDue (textDue textLimit s isShort)) z (due-refused textLimit s isShort n z due)
+  fill-refused z = refused-text _ _ textLimit s isShort n due z
 
   pub fill-short : n ≡ 0 → isShort ≡ true → asFilled (record { refusal = 5; tokens = 0 }) old ≡ filledCall s result old
   unfolding filledCall
-  fill-short z t = rw (due-accepted textLimit s isShort (sym due ∙ z), t)
+  fill-short z t = refused-short _ _ textLimit s isShort n due z t
 
   pub fill-done : n ≡ 0 → isShort ≡ false → {k : ℕ} {new : List ℕ} → k ≡ length (tokens s) → new ≡ sets old 0 result
       → asFilled (record { refusal = 0; tokens = k }) new ≡ filledCall s result old
   unfolding filledCall
   fill-done z f {k} {new} e d =
       let w : new ≡ over result old = d ∙ sets-front old result (ltb-false _ _ f) in
-      rw (due-accepted textLimit s isShort (sym due ∙ z), f) (λ j. record { refusal = 0; value = record { tokens = e j; buffer = w j } })
+      accepted-text _ _ textLimit s isShort n due z f (λ j. record { tokens = e j; buffer = w j })

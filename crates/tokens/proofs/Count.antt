@@ -1,9 +1,9 @@
 -- Tokens counted byte by byte: a token starts at each byte that is no whitespace and has whitespace or nothing before it.
 -- Assumes nothing.
-use mathlib.Core.Path.{_≡_, refl, sym, ap, _∙_}
+use mathlib.Core.Path.{_≡_, refl, ap, _∙_}
 use mathlib.Core.Bool.{Bool, true, false, cond, not, _&&_}
 use mathlib.Core.List.{List, [], _∷_}
-use Prim.Native.Nat.{ℕ, zero, suc, _+_, _*_, _≤_, _<_}
+use Prim.Native.Nat.{ℕ, suc, _+_, _*_, _≤_, _<_}
 use native.Mathlib.Numerals.{add-one}
 use native.Mathlib.Omega.{arith}
 use lib.ListN.{length, drop, getD, drop-of-length-le}
@@ -11,7 +11,7 @@ use lib.Seq.{drop-cons, drop-length}
 use Rattle.lists.specs.Bytes.{all, span, after}
 use Rattle.lists.specs.Classes.{whitespace, nonWhitespace}
 use Rattle.lists.proofs.Scan.{all-span, span-short, span-fails}
-use Rattle.tokens.specs.Tokens.{Token, afterWhite, afterRun, tokens}
+use Rattle.tokens.specs.Tokens.{afterWhite, afterRun, tokens}
 use Rattle.tokens.proofs.Forward.{tokens-none, tokens-more, tokens-induct}
 
 -- the starts of runs; `white` says that whitespace or nothing stands before the text

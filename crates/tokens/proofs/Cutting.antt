@@ -1,23 +1,22 @@
 -- Where a run is cut, as the code finds it. Assumes nothing.
 use mathlib.Core.Path.{_≡_, refl, sym, ap, ap₂, _∙_}
-use mathlib.Core.Bool.{Bool, true, false, cond, not, _&&_, and-false}
+use mathlib.Core.Bool.{Bool, true, false, and-false}
 use mathlib.Core.Logic.{⊎-elim}
-use mathlib.Core.List.{List, [], _∷_, _++_}
-use Prim.Native.Nat.{ℕ, zero, suc, _+_, _-_, _≤_, _<_}
+use mathlib.Core.List.{List, []}
+use Prim.Native.Nat.{ℕ, suc, _+_, _-_, _≤_, _<_}
 use native.Mathlib.Omega.{arith}
 use lib.Dec.{eqb, leb}
 use lib.ListN.{length, take, drop, length-append, length-take, length-drop, drop-of-length-le}
 use lib.Seq.{drop-drop, length-take-le}
 use borrow.Author.Tests.{le-leb, lt-leb, eq-eqb, ne-eqb}
-use Rattle.lists.specs.Bytes.{bytes, all, span, lead, after, afterLast}
-use Rattle.lists.specs.Classes.{whitespace, nonWhitespace, leadingMark, unmarked}
+use Rattle.lists.specs.Bytes.{all, span, lead, after, afterLast}
+use Rattle.lists.specs.Classes.{leadingMarks, whitespace, nonWhitespace, leadingMark, unmarked}
 use Rattle.lists.proofs.Scan.{span-le, all-span, span-full, span-within, span-lead, last-le, one-in}
 use Rattle.lists.proofs.Sets.{le-or-lt}
 use Rattle.sink.specs.Words.{storeOf}
-use Rattle.tokens.specs.Tokens.{Token, marked, nameSize, cut, afterWhite, afterRun, firstToken, parts}
+use Rattle.tokens.specs.Tokens.{Token, cut, afterWhite, afterRun, firstToken, parts}
 use Rattle.tokens.specs.Table.{placesOf, CutAt}
-use Rattle.tokens.specs.declared.Places.{Places}
-use Rattle.tokens.proofs.Forward.{cut-joined, size-parts}
+use Rattle.tokens.proofs.Forward.{cut-joined, size-parts, cut-white}
 
 -- a run wholly of leading marks
 pub cut-marks : (run : List ℕ) (m : ℕ) → m ≡ span leadingMark run → m ≡ length run → CutAt run true 0 m × CutAt run false m m
@@ -50,27 +49,15 @@ cut-named run ends m k e h q =
     go true x = absurd (h (e ∙ all-span leadingMark run x))
     go false x = x
 
--- the parts of a run do not ask what its whitespace is
-pub same-name : (w run : List ℕ) (ends : Bool) → (cut w run ends .prepunctuation ≡ cut [] run ends .prepunctuation) × (cut w run ends .name ≡ cut [] run ends .name) × (cut w run ends .whitespace ≡ w)
-unfolding cut
-same-name w run ends = go (ends && all leadingMark run)
-  where
-    x : List ℕ → Bool → Token
-    x w t = cond t (record { whitespace = w; prepunctuation = []; name = run; punctuation = [] }) (marked w (lead leadingMark run) (after leadingMark run))
-
-    go : (t : Bool) → (x w t .prepunctuation ≡ x [] t .prepunctuation) × (x w t .name ≡ x [] t .name) × (x w t .whitespace ≡ w)
-    go true = (refl, refl, refl)
-    go false = (refl, refl, refl)
-
 -- the places of a token whose run is cut so
 pub cut-places : (at : ℕ) (w run : List ℕ) (ends : Bool) (n p : ℕ) → CutAt run ends n p
     → record { whitespace = at; prepunctuation = at + length w; name = at + length w + n; punctuation = at + length w + p; end = at + length w + length run } ≡ placesOf at (cut w run ends)
 cut-places at w run ends n p c =
     let t : Token = cut w run ends in
-    let q = same-name w run ends in
-    let ew : length (t .whitespace) ≡ length w = ap length (q .2) in
-    let en : length (t .prepunctuation) ≡ n = ap length (q .0) ∙ sym (c .name) in
-    let ep : n + length (t .name) ≡ p = ap (λ (k : ℕ). n + k) (ap length (q .1)) ∙ sym (c .punctuation) in
+    let q = cut-white w run ends in
+    let ew : length (t .whitespace) ≡ length w = ap (λ (u : Token). length (u .whitespace)) q in
+    let en : length (t .prepunctuation) ≡ n = ap (λ (u : Token). length (u .prepunctuation)) q ∙ sym (c .name) in
+    let ep : n + length (t .name) ≡ p = ap (λ (u : Token). n + length (u .name)) q ∙ sym (c .punctuation) in
     let sum : length (storeOf (parts t)) ≡ length w + length run = ap length (cut-joined w run ends) ∙ length-append w run in
     let all : length (storeOf (parts t)) ≡ length (t .whitespace) + (length (t .prepunctuation) + (length (t .name) + length (t .punctuation))) = size-parts t in
     let e1 : at + length w ≡ at + length (t .whitespace) = omega arith in
@@ -82,7 +69,7 @@ cut-places at w run ends n p c =
 -- leading marks are no whitespace
 marks-black : (b : ℕ) → leadingMark b ≡ true → nonWhitespace b ≡ true
 unfolding all
-marks-black = one-in nonWhitespace (bytes "\"'`({[") refl
+marks-black = one-in nonWhitespace leadingMarks refl
 
 -- the first token of what follows the first `at` bytes, as the code finds it: q bytes of whitespace, m leading marks, and r bytes
 -- more of the run

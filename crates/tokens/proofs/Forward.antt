@@ -1,19 +1,20 @@
 -- The tokens of a text from its front, and how a token's parts make up what it took. Assumes nothing.
 use mathlib.Core.Path.{_≡_, refl, sym, ap, ap₂, _∙_}
-use mathlib.Core.Bool.{Bool, true, false, cond, not, _&&_}
-use mathlib.Core.List.{List, [], _∷_, _++_, append-assoc, append-nil}
+use mathlib.Core.Bool.{Bool, true, false, cond, _&&_}
+use mathlib.Core.List.{List, [], _∷_, _++_, append-nil}
 use Prim.Native.Nat.{ℕ, zero, suc, _+_, _-_, _≤_, _<_}
 use native.Mathlib.Nat.{add-zero}
 use native.Mathlib.Omega.{arith}
 use lib.Dec.{eqb}
 use lib.ListN.{length, take, drop, getD, length-append, length-drop, take-append-drop}
-use lib.Seq.{getD-drop}
+use lib.Seq.{getD-drop, drop-drop, take-add, length-take-le}
 use Rattle.lists.specs.Bytes.{all, span, lead, after}
 use Rattle.lists.specs.Classes.{whitespace, nonWhitespace, leadingMark}
 use Rattle.lists.proofs.Recursion.{Local, recur-eq, cond-cong}
-use Rattle.lists.proofs.Scan.{span-short, span-fails, span-some}
+use Rattle.lists.proofs.Scan.{span-le, span-short, span-fails, span-some}
 use Rattle.sink.specs.Words.{storeOf}
 use Rattle.tokens.specs.Tokens.{Token, marked, nameSize, cut, afterWhite, afterRun, firstToken, tokensStep, tokens, parts}
+use Rattle.tokens.specs.Table.{size}
 
 -- after the whitespace a run follows, where the text is not whitespace alone
 pub run-some : (s : List ℕ) → all whitespace s ≡ false → 0 < span nonWhitespace (afterWhite s)
@@ -56,7 +57,7 @@ cut-joined white run ends = go (ends && all leadingMark run)
     rest : List ℕ
     rest = after leadingMark run
 
-    go : (t : Bool) → storeOf (parts (cond t (record { whitespace = white; prepunctuation = []; name = run; punctuation = [] }) (marked white (lead leadingMark run) rest))) ≡ white ++ run
+    go : (t : Bool) → storeOf (parts (cond t (record { whitespace = white; prepunctuation = []; name = run; punctuation = [] }) (marked white run))) ≡ white ++ run
     go true = ap (λ (r : List ℕ). white ++ r) (append-nil run)
     go false =
         ap (λ (r : List ℕ). white ++ (lead leadingMark run ++ (take (nameSize rest) rest ++ r))) (append-nil (drop (nameSize rest) rest))
@@ -68,13 +69,40 @@ pub size-parts : (t : Token) → length (storeOf (parts t)) ≡ length (t .white
 unfolding storeOf
 size-parts t = simp (length-append, append-nil) refl
 
+-- the bytes that the first token takes
+abbrev pub firstSize : List ℕ → ℕ
+firstSize s = span whitespace s + span nonWhitespace (afterWhite s)
+
+pub afterRun-drop : (s : List ℕ) → afterRun s ≡ drop (firstSize s) s
+afterRun-drop s = drop-drop (span nonWhitespace (afterWhite s)) (span whitespace s) s
+
+pub first-take : (s : List ℕ) → storeOf (parts (firstToken s)) ≡ take (firstSize s) s
+first-take s =
+    cut-joined (lead whitespace s) (lead nonWhitespace (afterWhite s)) (eqb (length (afterRun s)) 0)
+    ∙ sym (take-add (span whitespace s) (span nonWhitespace (afterWhite s)) s)
+
+pub first-size : (s : List ℕ) → size (firstToken s) ≡ firstSize s
+first-size s =
+    let a = span-le whitespace s in
+    let b : span nonWhitespace (afterWhite s) ≤ length s - span whitespace s = rw length-drop at (span-le nonWhitespace (afterWhite s)) in
+    ap length (first-take s) ∙ length-take-le (firstSize s) s (omega arith)
+
 -- the text is its first token's parts and what follows them
 pub first-joined : (s : List ℕ) → storeOf (parts (firstToken s)) ++ afterRun s ≡ s
-first-joined s =
-    ap (λ (r : List ℕ). r ++ afterRun s) (cut-joined (lead whitespace s) (lead nonWhitespace (afterWhite s)) (eqb (length (afterRun s)) 0))
-    ∙ append-assoc (lead whitespace s) (lead nonWhitespace (afterWhite s)) (afterRun s)
-    ∙ ap (λ (r : List ℕ). lead whitespace s ++ r) (take-append-drop (span nonWhitespace (afterWhite s)) (afterWhite s))
-    ∙ take-append-drop (span whitespace s) s
+first-joined s = ap₂ (λ (x y : List ℕ). x ++ y) (first-take s) (afterRun-drop s) ∙ take-append-drop (firstSize s) s
+
+-- the whitespace before a run has no say in its cut
+pub cut-white : (w run : List ℕ) (ends : Bool)
+    → cut w run ends ≡ record { whitespace = w; prepunctuation = cut [] run ends .prepunctuation; name = cut [] run ends .name; punctuation = cut [] run ends .punctuation }
+unfolding cut
+cut-white w run ends = go (ends && all leadingMark run)
+  where
+    x : List ℕ → Bool → Token
+    x w t = cond t (record { whitespace = w; prepunctuation = []; name = run; punctuation = [] }) (marked w run)
+
+    go : (t : Bool) → x w t ≡ record { whitespace = w; prepunctuation = x [] t .prepunctuation; name = x [] t .name; punctuation = x [] t .punctuation }
+    go true = refl
+    go false = refl
 
 -- induction along the tokens
 pub tokens-induct : (P : List ℕ → Type 0) → ((s : List ℕ) → all whitespace s ≡ true → P s) → ((s : List ℕ) → all whitespace s ≡ false → P (afterRun s) → P s) → (s : List ℕ) → P s

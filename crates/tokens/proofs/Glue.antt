@@ -1,6 +1,6 @@
 -- The tokens of a text behind another, where whitespace stands between them. Assumes nothing.
 use mathlib.Core.Path.{_≡_, refl, sym, ap, ap₂, _∙_}
-use mathlib.Core.Bool.{Bool, true, false, cond, _&&_}
+use mathlib.Core.Bool.{Bool, true, false}
 use mathlib.Core.List.{List, [], _∷_, _++_}
 use Prim.Native.Nat.{ℕ, suc, _+_, _<_}
 use native.Mathlib.Nat.{add-zero}
@@ -12,26 +12,20 @@ use borrow.Author.Tests.{eqb-true, eqb-false, ne-eqb, not-true, not-false}
 use Rattle.lists.specs.Bytes.{all, span, lead, after, afterLast}
 use Rattle.lists.specs.Classes.{whitespace, nonWhitespace, leadingMark}
 use Rattle.lists.proofs.Scan.{all-append, span-le, span-all, span-fails, span-some, span-append, span-before, last-none, last-span, last-drop}
-use Rattle.tokens.specs.Tokens.{Token, marked, cut, afterWhite, afterRun, firstToken, tokens}
+use Rattle.tokens.specs.Tokens.{Token, cut, afterWhite, afterRun, firstToken, tokens}
 use Rattle.tokens.specs.Ends.{trailing, widen, lastRun, openEnd}
-use Rattle.tokens.proofs.Forward.{run-some, tokens-none, tokens-more, tokens-induct}
-use Rattle.tokens.proofs.Joined.{firstSize, afterRun-drop, last-white, last-first}
+use Rattle.tokens.proofs.Forward.{firstSize, afterRun-drop, cut-white, run-some, tokens-none, tokens-more, tokens-induct}
+use Rattle.tokens.proofs.Joined.{last-white, last-first}
 
 -- a token's cut looks at the text's end only where its run is wholly leading marks
 pub cut-alike : (white run : List ℕ) → all leadingMark run ≡ false → cut white run true ≡ cut white run false
 unfolding cut
 cut-alike white run h = rw h
 
--- the whitespace before a run has no say in its cut
+-- more whitespace before a run
 cut-widen : (w white run : List ℕ) (ends : Bool) (ts : List Token) → cut (w ++ white) run ends ∷ ts ≡ widen w (cut white run ends ∷ ts)
-unfolding cut widen
-cut-widen w white run ends ts = go (ends && all leadingMark run)
-  where
-    go : (t : Bool)
-        → cond t (record { whitespace = w ++ white; prepunctuation = []; name = run; punctuation = [] }) (marked (w ++ white) (lead leadingMark run) (after leadingMark run)) ∷ ts
-        ≡ widen w (cond t (record { whitespace = white; prepunctuation = []; name = run; punctuation = [] }) (marked white (lead leadingMark run) (after leadingMark run)) ∷ ts)
-    go true = refl
-    go false = refl
+unfolding widen
+cut-widen w white run ends ts = ap (λ (t : Token). t ∷ ts) (cut-white (w ++ white) run ends) ∙ sym (ap (λ (t : Token). widen w (t ∷ ts)) (cut-white white run ends))
 
 -- whitespace before a text goes to its first token
 pub tokens-white : (w s : List ℕ) → all whitespace w ≡ true → tokens (w ++ s) ≡ widen w (tokens s)
@@ -95,8 +89,8 @@ tokens-glue a c y w =
     a
 
 -- a run is followed by whitespace or by nothing
-run-ends : (s : List ℕ) → 0 < length (afterRun s) → 0 < afterLast whitespace (afterRun s)
-run-ends s h =
+run-closed : (s : List ℕ) → 0 < length (afterRun s) → 0 < afterLast whitespace (afterRun s)
+run-closed s h =
     let x : List ℕ = afterWhite s in
     let k : ℕ = span nonWhitespace x in
     let n : k < length x = omega (arith, length-drop k x) in
@@ -115,7 +109,7 @@ last-run s h =
 later-run : (s : List ℕ) → 0 < length (afterRun s) → lastRun s ≡ lastRun (afterRun s)
 later-run s h =
     let d : afterRun s ≡ drop (firstSize s) s = afterRun-drop s in
-    let q : 0 < afterLast whitespace (drop (firstSize s) s) = rw d at (run-ends s h) in
+    let q : 0 < afterLast whitespace (drop (firstSize s) s) = rw d at (run-closed s h) in
     tail-alike whitespace s (last-drop whitespace s (firstSize s) q ∙ ap (λ (t : List ℕ). firstSize s + afterLast whitespace t) (sym d))
 
 -- the first text's tokens are its own where it has no open end

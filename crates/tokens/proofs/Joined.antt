@@ -5,10 +5,9 @@ use mathlib.Core.List.{List, [], _∷_, _++_, flatMap, append-assoc, append-nil}
 use Prim.Native.Nat.{ℕ, zero, suc, _+_, _*_, _^_, _<_}
 use native.Mathlib.Nat.{add-zero, add-assoc}
 use native.Mathlib.Omega.{arith}
-use lib.Dec.{eqb}
 use lib.ListN.{length, take, drop, getD, length-append, length-drop, take-append-drop, List·getD-append}
-use lib.Seq.{take-add, drop-drop, take-append-le, drop-append-le, getD-append-add}
-use Rattle.lists.specs.Bytes.{all, span, lead, afterLast}
+use lib.Seq.{take-add, take-append-le, drop-append-le, getD-append-add}
+use Rattle.lists.specs.Bytes.{all, span, afterLast}
 use Rattle.lists.specs.Classes.{whitespace, nonWhitespace}
 use Rattle.lists.specs.LittleEndian.{leValue}
 use Rattle.lists.proofs.Scan.{last-none, last-span, last-drop}
@@ -16,21 +15,9 @@ use Rattle.sink.specs.Sink.{pairOf}
 use Rattle.sink.specs.Words.{storeOf, tableOf}
 use Rattle.sink.proofs.Finish.{tableOf-length}
 use Rattle.sink.proofs.ReadBack.{wordAt, word-read}
-use Rattle.tokens.specs.Tokens.{Token, afterWhite, afterRun, firstToken, tokens, parts}
+use Rattle.tokens.specs.Tokens.{Token, afterWhite, afterRun, tokens, parts}
 use Rattle.tokens.specs.Table.{size, recordOf, records, joined}
-use Rattle.tokens.proofs.Forward.{run-some, tokens-none, tokens-more, cut-joined, tokens-induct}
-
--- the bytes that the first token takes
-abbrev pub firstSize : List ℕ → ℕ
-firstSize s = span whitespace s + span nonWhitespace (afterWhite s)
-
-pub afterRun-drop : (s : List ℕ) → afterRun s ≡ drop (firstSize s) s
-afterRun-drop s = drop-drop (span nonWhitespace (afterWhite s)) (span whitespace s) s
-
-pub first-take : (s : List ℕ) → storeOf (parts (firstToken s)) ≡ take (firstSize s) s
-first-take s =
-    cut-joined (lead whitespace s) (lead nonWhitespace (afterWhite s)) (eqb (length (afterRun s)) 0)
-    ∙ sym (take-add (span whitespace s) (span nonWhitespace (afterWhite s)) s)
+use Rattle.tokens.proofs.Forward.{firstSize, afterRun-drop, first-take, run-some, tokens-none, tokens-more, tokens-induct}
 
 -- where a text's trailing whitespace starts
 pub last-white : (s : List ℕ) → all whitespace s ≡ true → afterLast nonWhitespace s ≡ 0
@@ -43,7 +30,7 @@ last-first s h =
     let d = last-drop nonWhitespace s (span whitespace s) (omega arith) in
     omega arith
 
--- "Joined, the pairs give the text less its trailing whitespace."
+-- "Joined, the pairs give the text less its trailing whitespace": the parts do, and `part-read` says that the pairs give the parts
 pub tokens-joined : (s : List ℕ) → joined (tokens s) ≡ take (afterLast nonWhitespace s) s
 unfolding joined
 tokens-joined =
@@ -52,8 +39,8 @@ tokens-joined =
     (λ s h i. rw (tokens-more s h, last-first s h, take-add (firstSize s), ← afterRun-drop s, i) (ap (λ (x : List ℕ). x ++ take (afterLast nonWhitespace (afterRun s)) (afterRun s)) (first-take s)))
 
 -- the parts of all tokens in their order
-abbrev pub allParts : List Token → List (List ℕ)
-allParts ts = flatMap parts ts
+abbrev pub partsOf : List Token → List (List ℕ)
+partsOf ts = flatMap parts ts
 
 store-append : (xs ys : List (List ℕ)) → storeOf (xs ++ ys) ≡ storeOf xs ++ storeOf ys
 unfolding storeOf
@@ -67,28 +54,28 @@ table-append at (x ∷ xs) ys =
     rw (table-append (at + length x) xs ys, length-append x (storeOf xs), ← add-assoc at (length x) (length (storeOf xs)))
     (sym (append-assoc (pairOf at (length x)) (tableOf (at + length x) xs) (tableOf (at + length x + length (storeOf xs)) ys)))
 
-joined-store : (ts : List Token) → joined ts ≡ storeOf (allParts ts)
+joined-store : (ts : List Token) → joined ts ≡ storeOf (partsOf ts)
 unfolding joined flatMap storeOf
 joined-store [] = refl
-joined-store (t ∷ ts) = rw (joined-store ts) (sym (store-append (parts t) (allParts ts)))
+joined-store (t ∷ ts) = rw (joined-store ts) (sym (store-append (parts t) (partsOf ts)))
 
 -- the records are one table of all parts
-pub records-table : (at : ℕ) (ts : List Token) → records at ts ≡ tableOf at (allParts ts)
+pub records-table : (at : ℕ) (ts : List Token) → records at ts ≡ tableOf at (partsOf ts)
 unfolding records recordOf flatMap tableOf
 records-table at [] = refl
-records-table at (t ∷ ts) = rw (records-table (at + size t) ts) (sym (table-append at (parts t) (allParts ts)))
+records-table at (t ∷ ts) = rw (records-table (at + size t) ts) (sym (table-append at (parts t) (partsOf ts)))
 
 -- part j of token i among all parts
-parts-at : (ts : List Token) (none : Token) (i j : ℕ) → i < length ts → j < 4 → (4 * i + j < length (allParts ts)) × (getD (allParts ts) (4 * i + j) [] ≡ getD (parts (getD ts i none)) j [])
+parts-at : (ts : List Token) (none : Token) (i j : ℕ) → i < length ts → j < 4 → (4 * i + j < length (partsOf ts)) × (getD (partsOf ts) (4 * i + j) [] ≡ getD (parts (getD ts i none)) j [])
 unfolding flatMap
 parts-at [] none i j h k = absurd (omega arith)
 parts-at (t ∷ ts) none zero j h k =
     let e : 4 * 0 + j ≡ j = omega arith in
-    rw e (omega arith, List·getD-append (parts t) (allParts ts) [] j k)
+    rw e (omega arith, List·getD-append (parts t) (partsOf ts) [] j k)
 parts-at (t ∷ ts) none (suc i) j h k =
     let e : 4 * suc i + j ≡ 4 + (4 * i + j) = omega arith in
     let r = parts-at ts none i j (omega arith) k in
-    rw e (omega arith, getD-append-add (parts t) (allParts ts) (4 * i + j) [] ∙ r .1)
+    rw e (omega arith, getD-append-add (parts t) (partsOf ts) (4 * i + j) [] ∙ r .1)
 
 -- a table's words are read from its front alone, whatever follows it
 pub table-front : (at : ℕ) (ws : List (List ℕ)) (u s : List ℕ) (i : ℕ) → i < length ws → wordAt i (tableOf at ws ++ u) s ≡ wordAt i (tableOf at ws) s
@@ -106,7 +93,7 @@ table-front at ws u s i h = ap₂ (λ (a n : ℕ). take n (drop a s)) (number (2
 pub part-read : (s : List ℕ) (none : Token) (i j : ℕ) → i < length (tokens s) → j < 4 → length s < 256 ^ 4 → wordAt (4 * i + j) (records 0 (tokens s)) s ≡ getD (parts (getD (tokens s) i none)) j []
 unfolding storeOf
 part-read s none i j h k l =
-    let ws : List (List ℕ) = allParts (tokens s) in
+    let ws : List (List ℕ) = partsOf (tokens s) in
     let z : List ℕ = drop (afterLast nonWhitespace s) s in
     let q = parts-at (tokens s) none i j h k in
     let e : storeOf (ws ++ z ∷ []) ≡ s = store-append ws (z ∷ []) ∙ ap₂ _++_ (sym (joined-store (tokens s)) ∙ tokens-joined s) (append-nil z) ∙ take-append-drop (afterLast nonWhitespace s) s in

@@ -1,7 +1,7 @@
 -- The records of a table, one after the other. Assumes nothing.
 use mathlib.Core.Path.{_≡_, refl, sym, ap, ap₂, _∙_}
 use mathlib.Core.List.{List, [], _∷_, _++_, append-nil}
-use Prim.Native.Nat.{ℕ, _+_, _-_, _*_, _≤_, _<_}
+use Prim.Native.Nat.{ℕ, _+_, _-_, _*_}
 use native.Mathlib.Omega.{arith}
 use lib.ListN.{length, length-append}
 use lib.Seq.{sets}
@@ -9,7 +9,7 @@ use Rattle.lists.specs.LittleEndian.{leBytes}
 use Rattle.lists.proofs.Sets.{sets-append}
 use Rattle.sink.specs.Sink.{pairOf}
 use Rattle.sink.specs.Words.{tableOf}
-use Rattle.tokens.specs.Tokens.{Token, parts}
+use Rattle.tokens.specs.Tokens.{Token}
 use Rattle.tokens.specs.Table.{recordOf, recordBytes, records, placesOf, recordAt, size}
 use Rattle.tokens.specs.declared.Places.{Places}
 use Rattle.tokens.proofs.Forward.{size-parts}

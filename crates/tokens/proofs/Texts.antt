@@ -6,9 +6,9 @@ use Prim.Native.Nat.{ℕ, _+_}
 use native.Mathlib.Omega.{arith}
 use lib.Dec.{eqb}
 use lib.ListN.{length, take, drop, getD, length-append, take-append-drop}
-use borrow.Author.Tests.{not-false, eqb-true}
-use Rattle.lists.specs.Bytes.{bytes, all, span, lead, after}
-use Rattle.lists.specs.Classes.{ascii, foundIn, whitespace, nonWhitespace, leadingMark, trailingMark, unmarked}
+use borrow.Author.Tests.{not-false}
+use Rattle.lists.specs.Bytes.{all, span, lead, after}
+use Rattle.lists.specs.Classes.{ascii, whites, leadingMarks, trailingMarks, whitespace, nonWhitespace, leadingMark, trailingMark, unmarked}
 use Rattle.lists.proofs.Scan.{span-all, span-front, all-front, all-within, last-rest, one-in}
 use Rattle.admit.specs.Utf8.{utf8}
 use Rattle.admit.specs.Refusals.{textRefusal}
@@ -33,13 +33,13 @@ EachOf P (t ∷ ts) = Each P t × EachOf P ts
 -- whitespace is ASCII
 white-ascii : (b : ℕ) → whitespace b ≡ true → ascii b ≡ true
 unfolding all
-white-ascii = one-in ascii (bytes " \t\n\r") refl
+white-ascii = one-in ascii whites refl
 
 -- the trailing marks of what follows the prepunctuation
 trailing-ascii : (s : List ℕ) → all ascii (drop (nameSize s) s) ≡ true
 unfolding all
 trailing-ascii [] = refl
-trailing-ascii (c ∷ s) = last-rest unmarked ascii (λ b e. one-in ascii (bytes "\"'`.,:;!?(){}[]") refl b (not-false (trailingMark b) e)) s
+trailing-ascii (c ∷ s) = last-rest unmarked ascii (λ b e. one-in ascii trailingMarks refl b (not-false (trailingMark b) e)) s
 
 -- both parts of a text that is cut before ASCII
 both : (x y : List ℕ) → ascii (getD y 0 0) ≡ true → utf8 (x ++ y) ≡ true → (utf8 x ≡ true) × (utf8 y ≡ true)
@@ -61,10 +61,10 @@ cut-utf8 white run ends w r = go (ends && all leadingMark run)
     rest : List ℕ
     rest = after leadingMark run
 
-    go : (t : Bool) → Each IsUtf8 (cond t (record { whitespace = white; prepunctuation = []; name = run; punctuation = [] }) (marked white (lead leadingMark run) rest))
+    go : (t : Bool) → Each IsUtf8 (cond t (record { whitespace = white; prepunctuation = []; name = run; punctuation = [] }) (marked white run))
     go true = record { whitespace = w; prepunctuation = utf8-all [] refl; name = r; punctuation = utf8-all [] refl }
     go false =
-        let k = after-utf8 leadingMark (one-in ascii (bytes "\"'`({[") refl) run r in
+        let k = after-utf8 leadingMark (one-in ascii leadingMarks refl) run r in
         let n = nameSize rest in
         let l = both (take n rest) (drop n rest) (all-front ascii refl (drop n rest) (trailing-ascii rest)) (rw take-append-drop (k .1)) in
         record { whitespace = w; prepunctuation = k .0; name = l .0; punctuation = l .1 }

@@ -14,22 +14,16 @@ use Rattle.sink.specs.Words.{storeOf}
 use Rattle.tokens.specs.Tokens.{Token, afterWhite, afterRun, firstToken, tokens, parts}
 use Rattle.tokens.specs.Table.{size, placesOf}
 use Rattle.tokens.specs.declared.Places.{Places}
-use Rattle.tokens.proofs.Forward.{afterRun-less, tokens-none, tokens-more, first-joined, size-parts}
-use Rattle.tokens.proofs.Cutting.{same-name}
+use Rattle.tokens.proofs.Forward.{afterRun-less, tokens-none, tokens-more, afterRun-drop, first-size, first-joined, size-parts, cut-white}
 
 -- what follows the first token
 first-after : (s : List ℕ) → drop (size (firstToken s)) s ≡ afterRun s
-first-after s =
-    let x : List ℕ = storeOf (parts (firstToken s)) in
-    ap (λ (d : List ℕ). drop (length x) d) (sym (first-joined s)) ∙ drop-append-seam x (afterRun s)
-
-first-size : (s : List ℕ) → size (firstToken s) + length (afterRun s) ≡ length s
-first-size s = sym (length-append (storeOf (parts (firstToken s))) (afterRun s)) ∙ ap length (first-joined s)
+first-after s = ap (λ (k : ℕ). drop k s) (first-size s) ∙ sym (afterRun-drop s)
 
 -- its whitespace
 first-white : (s : List ℕ) → length (firstToken s .whitespace) ≡ span whitespace s
 first-white s =
-    ap length (same-name (lead whitespace s) (lead nonWhitespace (afterWhite s)) (eqb (length (afterRun s)) 0) .2)
+    ap (λ (t : Token). length (t .whitespace)) (cut-white (lead whitespace s) (lead nonWhitespace (afterWhite s)) (eqb (length (afterRun s)) 0))
     ∙ length-take-le (span whitespace s) s (span-le whitespace s)
 
 -- the text in its first token's parts
@@ -76,7 +70,7 @@ module _ (s : List ℕ) (at : ℕ) (p : Places) (h : at ≤ length s) (e : p ≡
   pub moves-on : (p .prepunctuation ≡ length s → ⊥) → (at < p .end) × (p .end ≤ length s)
   moves-on f =
       let a = afterRun-less (drop at s) (is-more f) in
-      let b = first-size (drop at s) in
+      let b : size (firstToken (drop at s)) + length (afterRun (drop at s)) ≡ length (drop at s) = sym (length-append (storeOf (parts (firstToken (drop at s)))) (afterRun (drop at s))) ∙ ap length (first-joined (drop at s)) in
       let n = length-drop at s in
       (omega (arith, end-at), omega (arith, end-at))
 

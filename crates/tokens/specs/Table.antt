@@ -42,7 +42,7 @@ pub record Filled : Type 0 where
   pub tokens : ℕ
   pub buffer : List ℕ
 
--- the call that is given the text s and writes `result` over `old`: "a refused call answers its number, with every count and
+-- the call that is given the text s and writes `result` over `old`: "A refused call answers its number, with every count and
 -- value 0 .. and writes nothing"; "bytes past the result stay"
 unfoldable pub filledCall : List ℕ → List ℕ → List ℕ → Call Filled
 filledCall s result old =

@@ -1,7 +1,7 @@
 -- Document 01, "Token table and sentences": the tokens of a text. Definitions only.
 use mathlib.Core.Bool.{Bool, cond, _&&_}
-use mathlib.Core.List.{List, [], _∷_, _++_}
-use Prim.Native.Nat.{ℕ, suc, _+_}
+use mathlib.Core.List.{List, [], _∷_}
+use Prim.Native.Nat.{ℕ, suc}
 use lib.Dec.{eqb}
 use lib.ListN.{length, take, drop}
 use Rattle.lists.specs.Bytes.{all, lead, after, afterLast}
@@ -20,10 +20,12 @@ pub record Token : Type 0 where
 abbrev pub nameSize : List ℕ → ℕ
 nameSize s = suc (afterLast unmarked (drop 1 s))
 
--- "Leading marks from `PREPUNCTUATION` are its prepunctuation"
-abbrev pub marked : List ℕ → List ℕ → List ℕ → Token
-marked white marks rest =
-    record { whitespace = white; prepunctuation = marks; name = take (nameSize rest) rest; punctuation = drop (nameSize rest) rest }
+-- "Leading marks from `PREPUNCTUATION` are its prepunctuation". In a run wholly of them nothing follows, so name and punctuation
+-- are empty
+abbrev pub marked : List ℕ → List ℕ → Token
+marked white run =
+    let rest : List ℕ = after leadingMark run in
+    record { whitespace = white; prepunctuation = lead leadingMark run; name = take (nameSize rest) rest; punctuation = drop (nameSize rest) rest }
 
 -- a run of other bytes, after its whitespace: "A run wholly of leading marks has an empty name if whitespace follows and is
 -- itself the name if the text ends there."
@@ -31,16 +33,16 @@ unfoldable pub cut : List ℕ → List ℕ → Bool → Token
 cut white run ends =
     cond (ends && all leadingMark run)
     (record { whitespace = white; prepunctuation = []; name = run; punctuation = [] })
-    (marked white (lead leadingMark run) (after leadingMark run))
+    (marked white run)
 
--- the text after its first whitespace, and after the run that follows
+-- the text after the whitespace at its front, and after the run that follows
 abbrev pub afterWhite : List ℕ → List ℕ
 afterWhite s = after whitespace s
 
 abbrev pub afterRun : List ℕ → List ℕ
 afterRun s = after nonWhitespace (afterWhite s)
 
--- the first token of a text; all whitespace and nothing else where there is none
+-- the first token of a text; where it has none, all of it as whitespace and three empty parts
 abbrev pub firstToken : List ℕ → Token
 firstToken s = cut (lead whitespace s) (lead nonWhitespace (afterWhite s)) (eqb (length (afterRun s)) 0)
 

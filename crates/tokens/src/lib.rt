@@ -13,6 +13,7 @@ use lists::part;
 use lists::span_of;
 use lists::tail;
 use lists::tally;
+use sink::PAIR;
 use sink::put_pair_at;
 ghost use mathlib.Core.Path.{_≡_};
 ghost use Prim.Native.Nat.{_+_, _*_, _≤_};
@@ -25,10 +26,7 @@ ghost use Rattle.tokens.specs.Tokens.{tokens, firstToken};
 ghost use Rattle.tokens.specs.Table.{recordBytes, records, filledCall, asFilled, placesOf, recordAt, CutAt};
 
 // The bytes of a token's record in the table.
-pub const RECORD_BYTES: usize = 32;
-
-// The bytes of a pair of offset and length.
-const PAIR: usize = 8;
+const RECORD_BYTES: usize = 32;
 
 // Where each part of a token starts, and where the last one ends.
 pub struct Places {
@@ -94,9 +92,8 @@ pub fn token_at(s: &[u8], at: usize) -> Places
     }
 }
 
-// How many tokens s has: a byte that is no whitespace starts one where none is before it or whitespace is. With no early
-// exit, so that the compiler can take many bytes at once.
-pub fn count_tokens(s: &[u8]) -> usize
+// How many tokens s has: a byte that is no whitespace starts one where it is the first byte or follows whitespace.
+fn count_tokens(s: &[u8]) -> usize
     ensures { λ r. ⌜ r ≡ length (tokens (now (s .entry))) ⌝ }
 {
     let mut n = 0;

@@ -13,4 +13,4 @@ refusal-of-step-spec =
     (λ c κs. search needs)
     (λ c κs. search needs)
     (λ c κs. search needs)
-    (λ c. c .first-due2 .ensures ∙ rw (c .before .before .first-due .ensures, c .before .before .before .before .refusal-of .ensures, c .before .before .before .refusal-of2 .ensures, c .before .refusal-of3 .ensures) (three-due (c .before .before .before .before .before .before .before .before .args .whitespace .now) (c .before .before .before .before .before .before .before .before .args .name .now) (c .before .before .before .before .before .before .before .before .args .punctuation .now))))
+    (λ c. c .smaller-due2 .ensures ∙ rw (c .before .before .smaller-due .ensures, c .before .before .before .before .refusal-of .ensures, c .before .before .before .refusal-of2 .ensures, c .before .refusal-of3 .ensures) (three-due (c .before .before .before .before .before .before .before .before .args .whitespace .now) (c .before .before .before .before .before .before .before .before .args .name .now) (c .before .before .before .before .before .before .before .before .args .punctuation .now))))
