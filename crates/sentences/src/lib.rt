@@ -175,12 +175,12 @@ impl State {
 fn is_sentence_break(state: State, whitespace: &[u8], name: &[u8]) -> bool
     ensures { λ r. ⌜ r ≡ breakAfter (told state) (now (whitespace .entry)) (now (name .entry)) ⌝ }
 {
-    // A blank line always breaks.
+    // A blank line decides by itself.
     if 1 < count_of(ONLY, b'\n', whitespace) {
         return true;
     }
     let first = byte_at(name, 0);
-    // The reference does not break after this one interjection.
+    // The one name after which an exclamation mark may go on.
     if state.is_yahoo() & is_set(state.exclamation) & is_small(first) {
         return false;
     }
@@ -193,7 +193,7 @@ fn is_sentence_break(state: State, whitespace: &[u8], name: &[u8]) -> bool
     if !is_capital(first) {
         return false;
     }
-    // Extra whitespace after a period is a strong signal on its own.
+    // So does more than one byte of whitespace after a point.
     if 1 < whitespace.len() {
         return true;
     }
