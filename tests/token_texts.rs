@@ -33,18 +33,18 @@ const THEMES: &[Theme] = &[
     Theme { name: "abbreviations", most: 5, pieces: &["A", "b", "Dr", "abc", "Abcd", "abcD", ".", " ", "\n", "(", "é"] },
 ];
 
-/// The places of a character X: alone, first, inside and last, after and before marks, before the end and before whitespace.
+/// The places of a character %: alone, first, inside and last, after and before marks, before the end and before whitespace.
 #[rustfmt::skip]
 const PLACES: &[&str] = &[
-    "X", "X ", " X", " X ", "\nX", "X\n", "XX", "XX ", "XXX", "Xa", "aX", "aXa", "aX ", "aX b", "aX B", "Xa B", "aXX", "aXX B",
-    "(X", "(X ", "(X)", "(Xa", "(aX", "(XX", "X.", "X. ", "X. A", "X! a", "X: 1", ".X", ".X ", "..X", "a.X", "a.X ", "a.X A",
-    "a.X. A", "aX. A", "aX! a", "aX.) A", "a. X", "a.  X", "a. Xa", "a! X", "ab. (X", "ab.XB", "ab. X B", "ab.X\nB",
-    "ab.\nX\nB", "a\nX\nb", "a\n\nX", "yahoo! X", "yahooX a", "yahoo!X a", "Xahoo! a", "yahoX! a", "yahooX! a", "Xyahoo! a",
-    "Xbc. A", "abX. A", "Xbcd. A", "abcX. A", "X\"", "X\" ", "\"X", "\"X ", "X(", "X( ", "X (", "X ( ",
+    "%", "% ", " %", " % ", "\n%", "%\n", "%%", "%% ", "%%%", "%a", "a%", "a%a", "a% ", "a% b", "a% B", "%a B", "a%%", "a%% B",
+    "(%", "(% ", "(%)", "(%a", "(a%", "(%%", "%.", "%. ", "%. A", "%! a", "%: 1", ".%", ".% ", "..%", "a.%", "a.% ", "a.% A",
+    "a.%. A", "a%. A", "a%! a", "a%.) A", "a. %", "a.  %", "a. %a", "a! %", "ab. (%", "ab.%B", "ab. % B", "ab.%\nB",
+    "ab.\n%\nB", "a\n%\nb", "a\n\n%", "yahoo! %", "yahoo% a", "yahoo!% a", "%ahoo! a", "yaho%! a", "yahoo%! a", "%yahoo! a",
+    "%bc. A", "ab%. A", "%bcd. A", "abc%. A", "%\"", "%\" ", "\"%", "\"% ", "%(", "%( ", "% (", "% ( ",
 ];
 
 /// Places of two characters in a row.
-const PAIRS: &[&str] = &["X", "aX b", "(X", "a.X B", "ab! X"];
+const PAIRS: &[&str] = &["%", "a% b", "(%", "a.% B", "ab! %"];
 
 // Characters of several bytes: whitespace and marks elsewhere, and such as share bits with those that matter here.
 #[rustfmt::skip]
@@ -90,11 +90,11 @@ pub fn placed(comparison: &mut Comparison) {
     let ascii = (0..128_u8).map(char::from);
     let singles: Vec<String> = ascii.clone().chain(CHARACTERS.iter().copied()).map(String::from).collect();
     for place in PLACES {
-        singles.iter().for_each(|one| comparison.every_token_room(place.replace('X', one).as_bytes(), 0));
+        singles.iter().for_each(|one| comparison.every_token_room(place.replace('%', one).as_bytes(), 0));
     }
     comparison.begin("each pair of ASCII in some places");
     for pair in ascii.clone().flat_map(|first| ascii.clone().map(move |second| format!("{first}{second}"))) {
-        PAIRS.iter().for_each(|place| comparison.every_token(place.replace('X', &pair).as_bytes(), 0));
+        PAIRS.iter().for_each(|place| comparison.every_token(place.replace('%', &pair).as_bytes(), 0));
     }
 }
 
