@@ -1,5 +1,5 @@
-// Bytes of a text: reads and parts that are total, scans, comparisons and the clipped copy. Nothing here demands
-// anything of its caller, and each contract is one equation.
+// Bytes of a text: reads and parts that are total, scans, comparisons and the clipped copy. Nothing here but `copy` demands
+// anything of its caller, and contracts are equations.
 ghost use mathlib.Core.Path.{_≡_};
 ghost use mathlib.Core.Bool.{cond};
 ghost use Prim.Native.Nat.{_-_, _≤_, min};
