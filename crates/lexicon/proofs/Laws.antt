@@ -21,7 +21,7 @@ unfolding units ones teens tens scales ordinalOnes ordinalTeens ordinalTens ordi
 lexicon = tt
 
 -- past the last word there is none
-pub no-word : (k : ℕ) → 89 ≤ k → wordOf k ≡ []
+pub no-word : (k : ℕ) → 91 ≤ k → wordOf k ≡ []
 unfolding wordOf words units ones teens tens scales ordinalOnes ordinalTeens ordinalTens ordinalScales others cardinals ordinals
 no-word k h = List·getD-eq-default words [] {n = k} h
 
@@ -34,7 +34,7 @@ holds k = same (halves k) (pack (wordOf k))
 -- the two halves of a row
 pub row-halves : (k : ℕ) → halves k ≡ pack (wordOf k)
 unfolding holds lexicon
-row-halves k = ⊎-elim (λ (h : 89 ≤ k). rw (no-word k h)) (λ (h : k < 89). same→≡ _ _ (below holds 89 tt k h)) (le-or-lt 89 k)
+row-halves k = ⊎-elim (λ (h : 91 ≤ k). rw (no-word k h)) (λ (h : k < 91). same→≡ _ _ (below holds 91 tt k h)) (le-or-lt 91 k)
 
 cardinal : ℕ → Bool
 cardinal k = same (wordOf (onesAt + k)) (bytes (getD cardinals k ""))
@@ -61,7 +61,7 @@ sized k = eqb (lastByte k) (length (wordOf k))
 -- a row's last byte is the word's length
 pub high-size : (k : ℕ) → lastByte k ≡ length (wordOf k)
 unfolding sized lexicon
-high-size k = ⊎-elim (λ (h : 89 ≤ k). rw (no-word k h)) (λ (h : k < 89). eqb→eq (lastByte k) (length (wordOf k)) (below sized 89 tt k h)) (le-or-lt 89 k)
+high-size k = ⊎-elim (λ (h : 91 ≤ k). rw (no-word k h)) (λ (h : k < 91). eqb→eq (lastByte k) (length (wordOf k)) (below sized 91 tt k h)) (le-or-lt 91 k)
 
 small : ℕ → Bool
 small k = leb (length (wordOf k)) 11
@@ -69,7 +69,7 @@ small k = leb (length (wordOf k)) 11
 -- no word has more than 11 bytes
 pub word-short : (k : ℕ) → length (wordOf k) ≤ 11
 unfolding small lexicon
-word-short k = ⊎-elim (λ (h : 89 ≤ k). rw (no-word k h) (omega arith)) (λ (h : k < 89). leb→le (length (wordOf k)) 11 (below small 89 tt k h)) (le-or-lt 89 k)
+word-short k = ⊎-elim (λ (h : 91 ≤ k). rw (no-word k h) (omega arith)) (λ (h : k < 91). leb→le (length (wordOf k)) 11 (below small 91 tt k h)) (le-or-lt 91 k)
 
 -- a word's row gives it back
 pub word-row : (k : ℕ) → unpack (pack (wordOf k)) ≡ wordOf k

@@ -45,9 +45,9 @@ ordinalTens =
 unfoldable pub ordinalScales : List String
 ordinalScales = "hundredth" ∷ "thousandth" ∷ "millionth" ∷ "billionth" ∷ []
 
--- the other words of numbers.rs
+-- the other words of numbers.rs, and the two words of row 10
 unfoldable pub others : List String
-others = "oh" ∷ "point" ∷ "minus" ∷ "plus" ∷ "e" ∷ []
+others = "oh" ∷ "point" ∷ "minus" ∷ "plus" ∷ "e" ∷ "per" ∷ "cent" ∷ []
 
 -- the words that have ordinal forms, and those forms
 unfoldable pub cardinals : List String

@@ -27,6 +27,10 @@ pub const PLUS: usize = 87;
 
 pub const E: usize = 88;
 
+pub const PER: usize = 89;
+
+pub const CENT: usize = 90;
+
 // The first 8 bytes of a word's row, as a number.
 fn low(k: usize) -> u64
     ensures { λ r. ⌜ r ≡ lowOf k ⌝ }
@@ -121,6 +125,8 @@ fn low(k: usize) -> u64
         86 => 0x0000_0073_756e_696d, // minus
         87 => 0x0000_0000_7375_6c70, // plus
         88 => 0x0000_0000_0000_0065, // e
+        89 => 0x0000_0000_0072_6570, // per
+        90 => 0x0000_0000_746e_6563, // cent
         _ => 0,
     }
 }
@@ -219,6 +225,8 @@ fn high(k: usize) -> u64
         86 => 0x0500_0000_0000_0000, // minus
         87 => 0x0400_0000_0000_0000, // plus
         88 => 0x0100_0000_0000_0000, // e
+        89 => 0x0300_0000_0000_0000, // per
+        90 => 0x0400_0000_0000_0000, // cent
         _ => 0,
     }
 }

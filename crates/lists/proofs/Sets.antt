@@ -1,7 +1,7 @@
 -- Clipped runs of stores: `sets` of `lib.Seq` stores what falls within the list. Assumes nothing.
 use mathlib.Core.Path.{_≡_, refl, sym, ap, _∙_}
 use mathlib.Core.Logic.{_⊎_, inl, inr, ⊎-elim}
-use mathlib.Core.List.{List, [], _∷_, _++_}
+use mathlib.Core.List.{List, [], _∷_, _++_, map}
 use Prim.Native.Nat.{ℕ, zero, suc, _+_, _-_, _≤_, _<_, min}
 use native.Mathlib.Nat.{add-zero, zero-add}
 use borrow.Author.Tests.{leb-true, leb-false}
@@ -52,3 +52,13 @@ sets-min l i vs k e =
 -- a run from the front that fits
 pub sets-front : (l vs : List ℕ) → length vs ≤ length l → sets l 0 vs ≡ over vs l
 sets-front l vs h = sets-eq vs l 0 (omega arith) ∙ rw zero-add
+
+-- a byte of a text with f applied to each
+pub map-at : (f : ℕ → ℕ) (s : List ℕ) (i : ℕ) → i < length s → getD (map f s) i 0 ≡ f (getD s i 0)
+map-at f [] i h = absurd (omega arith)
+map-at f (b ∷ s) zero h = refl
+map-at f (b ∷ s) (suc i) h = map-at f s i (omega arith)
+
+pub map-length : (f : ℕ → ℕ) (s : List ℕ) → length (map f s) ≡ length s
+map-length f [] = refl
+map-length f (b ∷ s) = ap suc (map-length f s)

@@ -2,6 +2,7 @@
 // anything of its caller, and contracts are equations.
 ghost use mathlib.Core.Path.{_≡_};
 ghost use mathlib.Core.Bool.{cond};
+ghost use mathlib.Core.List.{map};
 ghost use Prim.Native.Nat.{_-_, _≤_, min};
 ghost use lib.ListN.{length, take, drop, getD};
 ghost use lib.Seq.{sets};
@@ -345,4 +346,16 @@ pub fn put(out: &mut [u8], at: usize, src: &[u8])
 {
     let n = clip(out.len(), at, src.len());
     copy(out, at, src, n);
+}
+
+// Stores src, A to Z lowered, from index `at` on, as far as it falls within out.
+pub fn put_lowered(out: &mut [u8], at: usize, src: &[u8])
+    ensures { λ _. ⌜ now (out .exit) ≡ sets (now (out .entry)) at (map lower (now (src .entry))) ⌝ }
+{
+    let n = clip(out.len(), at, src.len());
+    let mut i = 0;
+    while i < n {
+        out[at + i] = to_lower(src[i]);
+        i += 1;
+    }
 }

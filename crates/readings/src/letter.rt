@@ -22,7 +22,7 @@ fn first_char(s: &[u8]) -> &[u8]
 }
 
 // Says the word of a character.
-fn say_letter(c: &[u8], store: &mut [u8], table: &mut [u8], pen: Pen) -> Pen
+pub fn say_letter(c: &[u8], store: &mut [u8], table: &mut [u8], pen: Pen) -> Pen
     ensures { λ r. ⌜ sink (now (store .exit)) (now (table .exit)) r ≡ emit (letterWord (now (c .entry))) (sink (now (store .entry)) (now (table .entry)) pen) ⌝ }
 {
     if c.len() != 1 {

@@ -141,7 +141,7 @@ impl State {
     }
 
     // The state after a token.
-    fn kept(name: &[u8], punctuation: &[u8]) -> Self
+    pub fn kept(name: &[u8], punctuation: &[u8]) -> Self
         ensures { λ r. ⌜ r ≡ kept (now (name .entry)) (now (punctuation .entry)) ⌝ }
     {
         let head = head_of(name);
@@ -208,11 +208,18 @@ fn refusal_of_step(whitespace: &[u8], name: &[u8], punctuation: &[u8]) -> u8
     smaller_due(two, refusal_of(punctuation))
 }
 
-// Whether a token starts a sentence after those that the state was fed, as a flag.
+// Whether a token starts a sentence after those that the state was fed.
+pub fn starts_sentence(state: State, whitespace: &[u8], name: &[u8]) -> bool
+    ensures { λ r. ⌜ r ≡ (isSet (state .fresh) || breakAfter (told state) (now (whitespace .entry)) (now (name .entry))) ⌝ }
+{
+    is_set(state.fresh) | is_sentence_break(state, whitespace, name)
+}
+
+// The same as a flag.
 fn start_flag(state: State, whitespace: &[u8], name: &[u8]) -> u8
     ensures { λ r. ⌜ r ≡ flag (isSet (state .fresh) || breakAfter (told state) (now (whitespace .entry)) (now (name .entry))) ⌝ }
 {
-    flag(is_set(state.fresh) | is_sentence_break(state, whitespace, name))
+    flag(starts_sentence(state, whitespace, name))
 }
 
 // Writes a byte for each token, and answers how many there are.

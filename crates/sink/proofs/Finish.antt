@@ -12,10 +12,10 @@ use lib.Seq.{sets}
 use borrow.Author.Tests.{ltb-false, le-ltb, lt-ltb}
 use Rattle.lists.specs.Bytes.{over}
 use Rattle.lists.specs.LittleEndian.{leBytes}
-use Rattle.lists.proofs.Sets.{sets-append, sets-front, le-or-lt}
+use Rattle.lists.proofs.Sets.{sets-out, sets-append, sets-front, le-or-lt}
 use Rattle.admit.specs.Refusals.{textLimit, textRefusal}
 use Rattle.admit.proofs.Calls.{refused-text, refused-short, accepted-text}
-use Rattle.sink.specs.Sink.{top, pairOf, pairBytes, Sink, sink, emit, emitAll}
+use Rattle.sink.specs.Sink.{top, pairOf, pairBytes, Sink, sink, gap, afterGap, emit, emitAll}
 use Rattle.sink.specs.Words.{storeOf, tableOf, shortFor, short, wordsCall, asWords, startPen, spokenBy, refusedBy}
 use Rattle.sink.specs.declared.Pen.{Pen}
 use Rattle.sink.specs.declared.Spoken.{Spoken}
@@ -26,40 +26,73 @@ unfolding emitAll
 emitAll-append [] vs s = refl
 emitAll-append (w ∷ ws) vs s = emitAll-append ws vs (emit w s)
 
--- the places move alike on all buffers
-emitAll-at : (ws : List (List ℕ)) (s : Sink) → s .at ≤ top → emitAll ws s .at ≡ min (s .at + length (storeOf ws)) top
-unfolding emitAll emit storeOf
-emitAll-at [] s h = omega arith
-emitAll-at (w ∷ ws) s h = emitAll-at ws (emit w s) (omega arith) ∙ simp length-append (omega arith)
+-- what words leave in the store, and their pairs in the table, where the first starts at `at`, after its gap
+unfoldable pub storeBy : Bool → List (List ℕ) → List ℕ
+storeBy g [] = []
+storeBy g (w ∷ ws) = gap g ++ (w ++ storeBy g ws)
 
-emitAll-words : (ws : List (List ℕ)) (s : Sink) → s .words ≤ top → emitAll ws s .words ≡ min (s .words + length ws) top
+unfoldable pub tableBy : Bool → ℕ → List (List ℕ) → List ℕ
+tableBy g at [] = []
+tableBy g at (w ∷ ws) = pairOf (at + length (gap g)) (length w) ++ tableBy g (at + length (gap g) + length w) ws
+
+-- without gaps they are what a call gives
+store-plain : (ws : List (List ℕ)) → storeBy false ws ≡ storeOf ws
+unfolding storeBy storeOf
+store-plain [] = refl
+store-plain (w ∷ ws) = ap (λ (s : List ℕ). w ++ s) (store-plain ws)
+
+table-plain : (at : ℕ) (ws : List (List ℕ)) → tableBy false at ws ≡ tableOf at ws
+unfolding tableBy tableOf
+table-plain at [] = refl
+table-plain at (w ∷ ws) = rw (add-zero at) (ap (λ (t : List ℕ). pairOf at (length w) ++ t) (table-plain (at + length w) ws))
+
+-- the place after a gap
+gap-place : (g : Bool) (at : ℕ) → at ≤ top → afterGap g at ≡ min (at + length (gap g)) top
+gap-place true at h = refl
+gap-place false at h = omega arith
+
+-- the places move alike on all buffers
+pub emitAll-at : (ws : List (List ℕ)) (s : Sink) → s .at ≤ top → emitAll ws s .at ≡ min (s .at + length (storeBy (s .spaced) ws)) top
+unfolding emitAll emit storeBy
+emitAll-at [] s h = omega arith
+emitAll-at (w ∷ ws) s h =
+    let g = gap-place (s .spaced) (s .at) h in
+    let n = length-append (gap (s .spaced)) (w ++ storeBy (s .spaced) ws) in
+    let m = length-append w (storeBy (s .spaced) ws) in
+    emitAll-at ws (emit w s) (omega arith) ∙ omega arith
+
+pub emitAll-words : (ws : List (List ℕ)) (s : Sink) → s .words ≤ top → emitAll ws s .words ≡ min (s .words + length ws) top
 unfolding emitAll emit
 emitAll-words [] s h = omega arith
 emitAll-words (w ∷ ws) s h = emitAll-words ws (emit w s) (omega arith) ∙ omega arith
 
 -- where all fits below the largest number, the words' bytes stand in the store and their pairs in the table
-abbrev after : List (List ℕ) → Sink → Sink
+abbrev pub after : List (List ℕ) → Sink → Sink
 after ws s =
     record {
-      store = sets (s .store) (s .at) (storeOf ws);
-      table = sets (s .table) (pairBytes * s .words) (tableOf (s .at) ws);
-      at = s .at + length (storeOf ws);
+      store = sets (s .store) (s .at) (storeBy (s .spaced) ws);
+      table = sets (s .table) (pairBytes * s .words) (tableBy (s .spaced) (s .at) ws);
+      at = s .at + length (storeBy (s .spaced) ws);
       words = s .words + length ws;
+      spaced = s .spaced;
     }
 
-emitAll-is : (ws : List (List ℕ)) (s : Sink) → s .at + length (storeOf ws) ≤ top → s .words + length ws ≤ top → emitAll ws s ≡ after ws s
-unfolding emitAll emit storeOf tableOf pairOf leBytes
-emitAll-is [] s h k = λ j. record { store = s .store; table = s .table; at = sym (add-zero (s .at)) j; words = sym (add-zero (s .words)) j }
+pub emitAll-is : (ws : List (List ℕ)) (s : Sink) → s .at + length (storeBy (s .spaced) ws) ≤ top → s .words + length ws ≤ top → emitAll ws s ≡ after ws s
+unfolding emitAll emit storeBy tableBy pairOf leBytes
+emitAll-is [] s h k = λ j. record { store = s .store; table = s .table; at = sym (add-zero (s .at)) j; words = sym (add-zero (s .words)) j; spaced = s .spaced }
 emitAll-is (w ∷ ws) s h k =
-    let b = storeOf ws in
-    let n : length (w ++ b) ≡ length w + length b = length-append w b in
-    let a : min (s .at + length w) top ≡ s .at + length w = omega arith in
+    let g = gap (s .spaced) in
+    let b = storeBy (s .spaced) ws in
+    let n : length (g ++ (w ++ b)) ≡ length g + length (w ++ b) = length-append g (w ++ b) in
+    let m : length (w ++ b) ≡ length w + length b = length-append w b in
+    let p : afterGap (s .spaced) (s .at) ≡ s .at + length g = let q = gap-place (s .spaced) (s .at) (omega arith) in omega arith in
+    let a : min (afterGap (s .spaced) (s .at) + length w) top ≡ s .at + length g + length w = omega arith in
     let e : pairBytes * min (s .words + 1) top ≡ pairBytes * s .words + pairBytes = omega arith in
-    let es : after ws (emit w s) .store ≡ after (w ∷ ws) s .store = rw a (sym (sets-append (s .store) (s .at) w b)) in
-    let et : after ws (emit w s) .table ≡ after (w ∷ ws) s .table = rw (a, e) (sym (sets-append (s .table) (pairBytes * s .words) (pairOf (s .at) (length w)) (tableOf (s .at + length w) ws))) in
+    let es : after ws (emit w s) .store ≡ after (w ∷ ws) s .store = rw (a, p) (sym (sets-append (s .store) (s .at) g (w ++ b) ∙ sets-append (sets (s .store) (s .at) g) (s .at + length g) w b)) in
+    let et : after ws (emit w s) .table ≡ after (w ∷ ws) s .table = rw (a, p, e) (sym (sets-append (s .table) (pairBytes * s .words) (pairOf (s .at + length g) (length w)) (tableBy (s .spaced) (s .at + length g + length w) ws))) in
     let ea : after ws (emit w s) .at ≡ after (w ∷ ws) s .at = omega arith in
     let ew : after ws (emit w s) .words ≡ after (w ∷ ws) s .words = omega arith in
-    emitAll-is ws (emit w s) (omega arith) (omega arith) ∙ (λ j. record { store = es j; table = et j; at = ea j; words = ew j })
+    emitAll-is ws (emit w s) (omega arith) (omega arith) ∙ (λ j. record { store = es j; table = et j; at = ea j; words = ew j; spaced = s .spaced })
 
 pub tableOf-length : (at : ℕ) (ws : List (List ℕ)) → length (tableOf at ws) ≡ pairBytes * length ws
 unfolding tableOf pairOf leBytes
@@ -88,7 +121,8 @@ measured ws a b ha hb x y x₀ y₀ {m} {p₀} e₀ e =
     let s₀ = sink x₀ y₀ p₀ in
     let i : p₀ .at ≡ 0 = ap (λ (p : Pen). p .at) e₀ in
     let j : p₀ .words ≡ 0 = ap (λ (p : Pen). p .words) e₀ in
-    let n : m .at ≡ min (p₀ .at + length (storeOf ws)) top = ap (λ (q : Sink). q .at) e ∙ emitAll-at ws s₀ (omega arith) in
+    let f : storeBy (p₀ .spaced) ws ≡ storeOf ws = ap (λ (p : Pen). storeBy (p .spaced) ws) e₀ ∙ store-plain ws in
+    let n : m .at ≡ min (p₀ .at + length (storeOf ws)) top = rw f at (ap (λ (q : Sink). q .at) e ∙ emitAll-at ws s₀ (omega arith)) in
     let w : m .words ≡ min (p₀ .words + length ws) top = ap (λ (q : Sink). q .words) e ∙ emitAll-words ws s₀ (omega arith) in
     rw (ltb-same (m .at) (length (storeOf ws)) a (λ h. omega arith) (λ h. omega arith), ltb-same (pairBytes * m .words) (pairBytes * length ws) b (λ h. omega arith) (λ h. omega arith))
 
@@ -119,9 +153,16 @@ module _ (s : List ℕ) (ws : List (List ℕ)) (st tb : List ℕ) (n : ℕ) (due
   all-written z f hs ht {st′} {tb′} {p} {p₁} e₁ d q =
       let fs : length (storeOf ws) ≤ length st = ltb-false _ _ (or-left (ltb (length st) (length (storeOf ws))) (ltb (length tb) (pairBytes * length ws)) f) in
       let ft : pairBytes * length ws ≤ length tb = ltb-false _ _ (or-right (ltb (length st) (length (storeOf ws))) (ltb (length tb) (pairBytes * length ws)) f) in
+      let g = store-plain ws in
+      let eg : length (storeBy false ws) ≡ length (storeOf ws) = ap (λ (t : List ℕ). length t) g in
       let all : sink st′ tb′ p ≡ after ws (sink st tb startPen) = d ∙ ap (λ (k : Pen). emitAll ws (sink st tb k)) e₁ ∙ emitAll-is ws (sink st tb startPen) (omega arith) (omega arith) in
-      let es : st′ ≡ over (storeOf ws) st = ap (λ (k : Sink). k .store) all ∙ sets-front st (storeOf ws) fs in
-      let et : tb′ ≡ over (tableOf 0 ws) tb = ap (λ (k : Sink). k .table) all ∙ sets-front tb (tableOf 0 ws) (omega (arith, tableOf-length 0 ws)) in
-      let ea : p .at ≡ length (storeOf ws) = ap (λ (k : Sink). k .at) all ∙ zero-add (length (storeOf ws)) in
+      let es : st′ ≡ over (storeOf ws) st = ap (λ (k : Sink). k .store) all ∙ ap (sets st 0) g ∙ sets-front st (storeOf ws) fs in
+      let et : tb′ ≡ over (tableOf 0 ws) tb = ap (λ (k : Sink). k .table) all ∙ ap (sets tb 0) (table-plain 0 ws) ∙ sets-front tb (tableOf 0 ws) (omega (arith, tableOf-length 0 ws)) in
+      let ea : p .at ≡ length (storeOf ws) = ap (λ (k : Sink). k .at) all ∙ zero-add (length (storeBy false ws)) ∙ eg in
       let ew : p .words ≡ length ws = ap (λ (k : Sink). k .words) all ∙ zero-add (length ws) in
       rw q (accepted-text _ _ textLimit s isShort n due z f (λ j. record { words = ew j; bytes = ea j; store = es j; table = et j }))
+
+-- a word past the end of the store writes nothing to it, nor does its gap
+pub out-of-store : (l : List ℕ) (g : Bool) (at : ℕ) (w : List ℕ) → length l ≤ at → at ≤ top → sets (sets l at (gap g)) (afterGap g at) w ≡ l
+out-of-store l true at w h k = rw (sets-out l at (gap true) h) (sets-out l (min (at + 1) top) w (omega arith))
+out-of-store l false at w h k = sets-out l at w h

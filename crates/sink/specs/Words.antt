@@ -1,5 +1,5 @@
 -- Document 01, "Number words": what a call that gives words answers, and leaves in the lent buffers. Definitions only.
-use mathlib.Core.Bool.{Bool, _||_}
+use mathlib.Core.Bool.{Bool, true, false, _||_}
 use mathlib.Core.List.{List, [], _∷_, _++_}
 use Prim.Native.Nat.{ℕ, _+_, _*_}
 use lib.Dec.{ltb}
@@ -58,7 +58,11 @@ asWords r store table = record { refusal = r .refusal; value = record { words = 
 
 -- a pen at the start of both buffers
 abbrev pub startPen : Pen
-startPen = record { at = 0; words = 0 }
+startPen = record { at = 0; words = 0; spaced = false }
+
+-- the same, with a space before each word
+abbrev pub spacedPen : Pen
+spacedPen = record { at = 0; words = 0; spaced = true }
 
 -- what an accepted call answers where its pen stands at p
 abbrev pub spokenBy : Pen → Spoken

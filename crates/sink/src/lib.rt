@@ -1,12 +1,16 @@
 // The writing layer. A word goes to the store and its pair of offset and length to the table, each as far as it falls within its
-// buffer, and the pen moves on in any case: on empty buffers the same walk only measures.
+// buffer, and the pen moves on in any case: on empty buffers the same walk only measures. A spaced pen writes a line of the call
+// sheet: a space goes before each word.
 use lists::copy;
 use lists::put;
+use lists::put_lowered;
 ghost use mathlib.Core.Path.{_≡_};
-ghost use Prim.Native.Nat.{_+_, _*_, min};
+ghost use mathlib.Core.List.{List, map};
+ghost use Prim.Native.Nat.{ℕ, _+_, _*_, min};
 ghost use lib.Seq.{sets};
-ghost use Rattle.sink.specs.Sink.{top, pairOf, pairBytes, sink, moved, emit};
-ghost use Rattle.sink.specs.Words.{shortFor, startPen, spokenBy, refusedBy};
+ghost use Rattle.lists.specs.Bytes.{lower};
+ghost use Rattle.sink.specs.Sink.{top, pairOf, pairBytes, sink, gap, afterGap, putByte, moved, emit};
+ghost use Rattle.sink.specs.Words.{shortFor, startPen, spacedPen, spokenBy, refusedBy};
 
 const TOP: usize = 0xffff_ffff_ffff_ffff;
 
@@ -17,6 +21,7 @@ pub const PAIR: usize = 8;
 pub struct Pen {
     pub at: usize,
     pub words: usize,
+    pub spaced: bool,
 }
 
 // A call's answer: the refusal's number or 0, the count of words and the count of their bytes.
@@ -81,14 +86,32 @@ fn put_pair(table: &mut [u8], words: usize, at: usize, size: usize)
     }
 }
 
+// Stores what goes before a word.
+fn put_gap(store: &mut [u8], pen: Pen)
+    ensures { λ _. ⌜ now (store .exit) ≡ sets (now (store .entry)) (pen .at) (gap (pen .spaced)) ⌝ }
+{
+    if pen.spaced {
+        put(store, pen.at, b" ");
+    }
+}
+
+// The place of the next word.
+fn after_gap(pen: Pen) -> usize
+    ensures { λ r. ⌜ r ≡ afterGap (pen .spaced) (pen .at) ⌝ }
+{
+    if pen.spaced { plus(pen.at, 1) } else { pen.at }
+}
+
 // Stores the pair of a word of so many bytes, and moves the pen past it.
 pub fn advance(table: &mut [u8], pen: Pen, size: usize) -> Pen
-    ensures { λ r. ⌜ (r ≡ moved size pen) × (now (table .exit) ≡ sets (now (table .entry)) (pairBytes * pen .words) (pairOf (pen .at) size)) ⌝ }
+    ensures { λ r. ⌜ (r ≡ moved size pen) × (now (table .exit) ≡ sets (now (table .entry)) (pairBytes * pen .words) (pairOf (afterGap (pen .spaced) (pen .at)) size)) ⌝ }
 {
-    put_pair(table, pen.words, pen.at, size);
+    let at = after_gap(pen);
+    put_pair(table, pen.words, at, size);
     Pen {
-        at: plus(pen.at, size),
+        at: plus(at, size),
         words: plus(pen.words, 1),
+        spaced: pen.spaced,
     }
 }
 
@@ -96,15 +119,53 @@ pub fn advance(table: &mut [u8], pen: Pen, size: usize) -> Pen
 pub fn word(store: &mut [u8], table: &mut [u8], pen: Pen, w: &[u8]) -> Pen
     ensures { λ r. ⌜ sink (now (store .exit)) (now (table .exit)) r ≡ emit (now (w .entry)) (sink (now (store .entry)) (now (table .entry)) pen) ⌝ }
 {
-    put(store, pen.at, w);
+    put_gap(store, pen);
+    put(store, after_gap(pen), w);
     advance(table, pen, w.len())
 }
 
+// Stores one word, A to Z lowered, and its pair.
+pub fn word_lowered(store: &mut [u8], table: &mut [u8], pen: Pen, w: &[u8]) -> Pen
+    ensures { λ r. ⌜ sink (now (store .exit)) (now (table .exit)) r ≡ emit (map lower (now (w .entry))) (sink (now (store .entry)) (now (table .entry)) pen) ⌝ }
+{
+    put_gap(store, pen);
+    put_lowered(store, after_gap(pen), w);
+    advance(table, pen, w.len())
+}
+
+// Stores one byte, no word.
+pub fn byte(store: &mut [u8], pen: Pen, b: u8) -> Pen
+    ensures { λ r. ⌜ ((t : List ℕ) → sink (now (store .exit)) t r ≡ putByte b (sink (now (store .entry)) t pen)) ⌝ }
+{
+    let one = [b];
+    put(store, pen.at, &one);
+    Pen {
+        at: plus(pen.at, 1),
+        words: pen.words,
+        spaced: pen.spaced,
+    }
+}
+
 impl Pen {
+    // At the start of a line.
+    pub fn spaced() -> Self
+        ensures { λ r. ⌜ r ≡ spacedPen ⌝ }
+    {
+        Pen {
+            at: 0,
+            words: 0,
+            spaced: true,
+        }
+    }
+
     pub fn start() -> Self
         ensures { λ r. ⌜ r ≡ startPen ⌝ }
     {
-        Pen { at: 0, words: 0 }
+        Pen {
+            at: 0,
+            words: 0,
+            spaced: false,
+        }
     }
 
     // Whether a buffer of these lengths is smaller than what was measured.

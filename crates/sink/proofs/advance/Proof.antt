@@ -4,4 +4,11 @@ use Rattle.sink.proofs.advance.Tie as tie
 
 pub advance-spec : {M : Type 1} → statement M
 advance-spec =
-    tie.close (tie.spec (λ c κs. search needs) (λ c κs. search needs) (λ c κs. search needs) (λ c. search needs) (λ c. (rw (c .before .plus .ensures, c .plus2 .ensures), c .before .before .before .before .put-pair .ensures)))
+    tie.close
+    (tie.spec
+    (λ c κs. search needs)
+    (λ c κs. search needs)
+    (λ c κs. search needs)
+    (λ c κs. search needs)
+    (λ c. search needs)
+    (λ c. (rw (c .before .plus .ensures, c .plus2 .ensures, c .before .before .before .before .before .before .after-gap .ensures), rw (c .before .before .before .before .before .before .after-gap .ensures) at (c .before .before .before .before .put-pair .ensures))))

@@ -1,0 +1,1 @@
+-- The test and the definition by kinds are one. Assumes nothing.

@@ -1,0 +1,74 @@
+-- Whether a name is clear, as a test on its bytes. Definitions only; `clear-test` in proofs/ says that it is the definition by kinds.
+use mathlib.Core.Bool.{Bool, cond, not, _&&_, _||_}
+use mathlib.Core.List.{List}
+use Prim.Native.Nat.{ℕ, _-_}
+use Prim.Native.Char.{code}
+use lib.Dec.{leb, eqb}
+use lib.ListN.{length, take, drop}
+use Rattle.lists.specs.Bytes.{bytes, all, span, same, capital, small, starts, ends, stripPrefix, lead, after}
+use Rattle.lists.specs.Classes.{digit, except}
+use Rattle.units.specs.Units.{unitWords, before, unitIndex, isUnit, unitWord}
+use Rattle.shapes.specs.Shapes.{isDigits, stripSign, isTime, isDottedAbbrev, unitAt}
+use Rattle.clear.specs.Clear.{plain, suffix, tableWords, listed}
+
+-- past the digits of a figure: an exponent, or nothing
+unfoldable pub isExponentClear : List ℕ → Bool
+isExponentClear s = cond (starts (code "e") s) (plain (stripSign (drop 1 s))) (eqb (length s) 0)
+
+-- past its whole digits: a point with digits or none, and an exponent
+unfoldable pub isFractionClear : List ℕ → Bool
+isFractionClear s =
+    let f : ℕ = span digit (drop 1 s) in
+    cond (starts (code ".") s) (not (eqb f 0) && isExponentClear (drop f (drop 1 s))) (isExponentClear s)
+
+-- past its minus
+unfoldable pub isFigureClear : List ℕ → Bool
+isFigureClear s = plain (lead digit s) && isFractionClear (after digit s)
+
+-- the first two kinds
+abbrev pub isNumberClear : List ℕ → Bool
+isNumberClear s = isDigits s || isFigureClear (stripPrefix (code "-") s)
+
+abbrev pub isPercentClear : List ℕ → Bool
+isPercentClear s = ends (code "%") s && isNumberClear (take (length s - 1) s)
+
+-- a time whose hour is plain; `isTime` has the rest
+abbrev pub isPlainTime : List ℕ → Bool
+isPlainTime s = isTime s && plain (lead (except (code ":")) s)
+
+abbrev pub isTimeClear : List ℕ → Bool
+isTimeClear s = isPlainTime s && not (same (drop 1 (after (except (code ":")) s)) (bytes "00"))
+
+-- all but the last two bytes, and those
+abbrev pub number : List ℕ → List ℕ
+number s = take (length s - 2) s
+
+abbrev pub lastTwo : List ℕ → List ℕ
+lastTwo s = drop (length s - 2) s
+
+abbrev pub isMeridiemClear : List ℕ → Bool
+isMeridiemClear s = (same (lastTwo s) (bytes "am") || same (lastTwo s) (bytes "pm")) && isPlainTime (number s)
+
+abbrev pub isOrdinalClear : List ℕ → Bool
+isOrdinalClear s = plain (number s) && same (lastTwo s) (suffix (number s))
+
+-- u is the first abbreviation of its word
+abbrev pub isFirstUnit : List ℕ → Bool
+isFirstUnit u = isUnit u && eqb (before (unitWord u) unitWords) (unitIndex u)
+
+abbrev pub isUnitClear : List ℕ → Bool
+isUnitClear s = plain (take (unitAt s) s) && isFirstUnit (drop (unitAt s) s)
+
+abbrev pub capitalOrPoint : ℕ → Bool
+capitalOrPoint b = capital b || eqb b (code ".")
+
+abbrev pub isInitialsClear : List ℕ → Bool
+isInitialsClear s = isDottedAbbrev s && not (ends (code ".") s) && all capitalOrPoint s
+
+abbrev pub isWordClear : List ℕ → Bool
+isWordClear s = leb 2 (length s) && all small s && not (listed s tableWords)
+
+unfoldable pub isClear : List ℕ → Bool
+isClear s =
+    isNumberClear s || isPercentClear s || isTimeClear s || isMeridiemClear s || isOrdinalClear s || isUnitClear s || isInitialsClear s
+    || isWordClear s

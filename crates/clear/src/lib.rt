@@ -1,0 +1,1 @@
+// Clear names: which entries are sure to be told apart by ear.

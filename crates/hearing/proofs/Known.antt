@@ -1,0 +1,1 @@
+-- Words that are spelled and known again. Assumes nothing.

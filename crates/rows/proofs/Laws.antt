@@ -1,0 +1,38 @@
+-- How the rows read a name. Assumes nothing.
+use mathlib.Core.Path.{_≡_, refl, ap}
+use mathlib.Core.Bool.{Bool, true, false, cond, not, _&&_, false≢true}
+use mathlib.Core.List.{List, [], _∷_, _++_}
+use Prim.Native.Nat.{ℕ, _-_, _<_, _≤_}
+use Prim.Native.Char.{code}
+use native.Mathlib.Omega.{arith}
+use lib.Dec.{eqb}
+use lib.ListN.{length, take, getD}
+use lib.Seq.{length-take-le}
+use Rattle.lists.specs.Bytes.{ends}
+use Rattle.lists.specs.Recur.{recur}
+use Rattle.lists.proofs.Recursion.{Local, recur-eq}
+use Rattle.numerals.specs.Words.{Word}
+use Rattle.rows.specs.Rows.{Reading, by, perCent, readStep, read}
+use Rattle.rows.specs.declared.Row.the-variants.{NoRow, Percent}
+
+-- a text that ends in a byte has one
+pub ends-some : (c : ℕ) (s : List ℕ) → ends c s ≡ true → 1 ≤ length s
+ends-some c [] e = absurd (let z : _≡_ {A = Bool} false true = e in false≢true z)
+ends-some c (b ∷ s) e = omega arith
+
+-- all but the last byte
+pub shorter : (s : List ℕ) → 1 ≤ length s → length (take (length s - 1) s) < length s
+shorter s h = let e = length-take-le (length s - 1) s (omega arith) in omega arith
+
+read-local : Local readStep
+unfolding readStep
+read-local f g s h = go (ends (code "%") s) refl
+  where
+    go : (b : Bool) → ends (code "%") s ≡ b → readStep f s ≡ readStep g s
+    go true e = rw (h (take (length s - 1) s) (shorter s (ends-some (code "%") s e)))
+    go false e = rw e
+
+-- a reading is its own step
+pub read-eq : (s : List ℕ) → read s ≡ readStep read s
+unfolding read
+read-eq s = recur-eq (by NoRow []) readStep read-local s

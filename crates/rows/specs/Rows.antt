@@ -1,0 +1,109 @@
+-- Document 01, "Call sheet": the twelve rows. Definitions only.
+use mathlib.Core.Bool.{Bool, cond}
+use mathlib.Core.List.{List, [], _∷_, _++_, map}
+use Prim.Native.Nat.{ℕ, _-_}
+use Prim.Native.Char.{code}
+use lib.Dec.{eqb}
+use lib.ListN.{length, take, drop}
+use Rattle.lists.specs.Bytes.{bytes, keep, lower, lead, after, same, starts, ends}
+use Rattle.lists.specs.Classes.{except}
+use Rattle.lists.specs.Recur.{recur}
+use Rattle.units.specs.Units.{unitWord}
+use Rattle.shapes.specs.Shapes.{isDottedAbbrev, isCommaInt, isTime, isLeadingZeroDigits, isDigits, isDouble, isOrdinal, unitAt, hasUnit, unitPart}
+use Rattle.shapes.specs.Times.{TimeParts, parts, none, isMeridiemTime, timeParts}
+use Rattle.numerals.specs.Words.{Word, other}
+use Rattle.numerals.specs.Cardinal.{cardinal, digits}
+use Rattle.numerals.specs.Ordinal.{ordinal}
+use Rattle.readings.specs.Year.{year}
+use Rattle.readings.specs.Real.{real}
+use Rattle.readings.specs.Letters.{letters}
+use Rattle.rows.specs.declared.Sign.{Sign}
+use Rattle.rows.specs.declared.Sign.the-variants.{Plus, Minus}
+use Rattle.rows.specs.declared.Row.{Row}
+use Rattle.rows.specs.declared.Row.the-variants.{NoRow, Empty, Dotted, CommaInt, Time, Meridiem, LeadingZero, Digits, Figure, Ordinal, Percent, Unit, OneWord}
+
+-- the number of each row; "a refused call's record has row 0"
+abbrev pub rowNumber : Row → ℕ
+rowNumber NoRow = 0
+rowNumber Empty = 1
+rowNumber Dotted = 2
+rowNumber CommaInt = 3
+rowNumber Time = 4
+rowNumber Meridiem = 5
+rowNumber LeadingZero = 6
+rowNumber Digits = 7
+rowNumber (Figure g) = 8
+rowNumber Ordinal = 9
+rowNumber Percent = 10
+rowNumber Unit = 11
+rowNumber OneWord = 12
+
+-- the value of each sign, and of a row: "for row 8, its sign", 0 where there is none
+abbrev pub signNumber : Sign → ℕ
+signNumber Plus = 1
+signNumber Minus = 2
+
+abbrev pub rowSign : Row → ℕ
+rowSign NoRow = 0
+rowSign Empty = 0
+rowSign Dotted = 0
+rowSign CommaInt = 0
+rowSign Time = 0
+rowSign Meridiem = 0
+rowSign LeadingZero = 0
+rowSign Digits = 0
+rowSign (Figure g) = signNumber g
+rowSign Ordinal = 0
+rowSign Percent = 0
+rowSign Unit = 0
+rowSign OneWord = 0
+
+-- a name's sign is minus where a minus leads it, else plus
+abbrev pub signOf : List ℕ → Sign
+signOf s = cond (starts (code "-") s) Minus Plus
+
+-- "the hour by `cardinal`; then, unless the minute is "00", the minute by `year`" (`read_clock`)
+unfoldable pub clock : List ℕ → List ℕ → List Word
+clock hour minute = cardinal hour ++ cond (same minute (bytes "00")) [] (year minute)
+
+-- of a time, what stands before its colon and after it
+abbrev pub hourOf : List ℕ → List ℕ
+hourOf s = lead (except (code ":")) s
+
+abbrev pub minuteOf : List ℕ → List ℕ
+minuteOf s = drop 1 (after (except (code ":")) s)
+
+-- "as 4, then `letters` of the meridiem"
+unfoldable pub clockLetters : TimeParts → List Word
+clockLetters (parts hour minute meridiem) = clock hour minute ++ letters meridiem
+clockLetters none = []
+
+abbrev pub perCent : List Word
+perCent = other (bytes "per") ∷ other (bytes "cent") ∷ []
+
+-- a name as it is read: the row that takes it, and its words
+pub record Reading : Type 0 where
+  pub row : Row
+  pub words : List Word
+
+abbrev pub by : Row → List Word → Reading
+by r ws = record { row = r; words = ws }
+
+-- "The name goes to the first row that takes it"; `again` reads a shorter name from row 1
+unfoldable pub readStep : (List ℕ → Reading) → List ℕ → Reading
+readStep again s =
+    cond (eqb (length s) 0) (by Empty [])
+    (cond (isDottedAbbrev s) (by Dotted (letters (keep (except (code ".")) s)))
+    (cond (isCommaInt s) (by CommaInt (cardinal s))
+    (cond (isTime s) (by Time (clock (hourOf s) (minuteOf s)))
+    (cond (isMeridiemTime s) (by Meridiem (clockLetters (timeParts s)))
+    (cond (isLeadingZeroDigits s) (by LeadingZero (digits s))
+    (cond (isDigits s) (by Digits (cardinal s))
+    (cond (isDouble s) (by (Figure (signOf s)) (real s))
+    (cond (isOrdinal s) (by Ordinal (ordinal (take (length s - 2) s)))
+    (cond (ends (code "%") s) (by Percent (again (take (length s - 1) s) .words ++ perCent))
+    (cond (hasUnit s) (by Unit (cardinal (take (unitAt s) s) ++ other (unitWord (unitPart s)) ∷ []))
+    (by OneWord (other (map lower s) ∷ []))))))))))))
+
+unfoldable pub read : List ℕ → Reading
+read = recur (by NoRow []) readStep

@@ -1,0 +1,6 @@
+use borrow.Author.Needs.{needs}
+use Rattle.sink.proofs.put_gap.Statement.{statement}
+use Rattle.sink.proofs.put_gap.Tie as tie
+
+pub put-gap-spec : {M : Type 1} → statement M
+put-gap-spec = tie.close (tie.spec (λ c. search needs) (λ c κs. search needs) (λ c. search needs) (λ c. rw (c .before .before .before .before .before .if1 .taken) (c .before .before .put .ensures)) (λ c. rw (c .if1 .left)))
