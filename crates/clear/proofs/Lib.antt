@@ -1,1 +1,7 @@
+pub mod Cuts
+pub mod Figures
+pub mod Times
+pub mod Suffixes
+pub mod Initials
+pub mod Words
 pub mod Tested

@@ -1,1 +1,41 @@
 -- The test and the definition by kinds are one. Assumes nothing.
+use mathlib.Core.Path.{_≡_, refl}
+use mathlib.Core.Bool.{Bool, true, false, _||_, or-true}
+use mathlib.Core.List.{List}
+use Prim.Native.Nat.{ℕ}
+use Rattle.clear.specs.Clear.{Clear, is-number, is-percent, is-time, is-meridiem, is-ordinal, is-unit, is-initials, is-word}
+use Rattle.clear.specs.Test.{isNumberClear, isPercentClear, isTimeClear, isMeridiemClear, isOrdinalClear, isUnitClear, isInitialsClear, isWordClear, isClear}
+use Rattle.clear.proofs.Figures.{test-number, number-test, test-percent, percent-test}
+use Rattle.clear.proofs.Times.{test-time, time-test, test-meridiem, meridiem-test}
+use Rattle.clear.proofs.Suffixes.{test-ordinal, ordinal-test, test-unit, unit-test}
+use Rattle.clear.proofs.Initials.{test-initials, initials-test}
+use Rattle.clear.proofs.Words.{test-word, word-test}
+
+-- the first kind whose test passes
+chain : {X : Type 0} (a b c d e f g h : Bool) → (a ≡ true → X) → (b ≡ true → X) → (c ≡ true → X) → (d ≡ true → X) → (e ≡ true → X) → (f ≡ true → X) → (g ≡ true → X) → (h ≡ true → X)
+    → (a || b || c || d || e || f || g || h) ≡ true → X
+chain true b c d e f g h i j k l m n o p r = i refl
+chain false true c d e f g h i j k l m n o p r = j refl
+chain false false true d e f g h i j k l m n o p r = k refl
+chain false false false true e f g h i j k l m n o p r = l refl
+chain false false false false true f g h i j k l m n o p r = m refl
+chain false false false false false true g h i j k l m n o p r = n refl
+chain false false false false false false true h i j k l m n o p r = o refl
+chain false false false false false false false h i j k l m n o p r = p r
+
+pub clear-test : (s : List ℕ) → isClear s ≡ true → Clear s
+unfolding isClear
+clear-test s =
+    chain (isNumberClear s) (isPercentClear s) (isTimeClear s) (isMeridiemClear s) (isOrdinalClear s) (isUnitClear s) (isInitialsClear s) (isWordClear s)
+    (λ h. is-number s (test-number s h)) (test-percent s) (test-time s) (test-meridiem s) (test-ordinal s) (test-unit s) (test-initials s) (test-word s)
+
+pub test-clear : (s : List ℕ) → Clear s → isClear s ≡ true
+unfolding isClear
+test-clear s (is-number t n) = rw (number-test t n)
+test-clear s (is-percent t n) = rw (percent-test t n, or-true)
+test-clear s (is-time h m p q n) = rw (time-test h m p q n, or-true)
+test-clear s (is-meridiem h m x p q r) = rw (meridiem-test h m x p q r, or-true)
+test-clear s (is-ordinal t h) = rw (ordinal-test t h, or-true)
+test-clear s (is-unit t k h l w) = rw (unit-test t k h l w, or-true)
+test-clear s (is-initials c d cs h) = rw (initials-test c d cs h, or-true)
+test-clear s (is-word t h a n c o) = rw (word-test t h a n, or-true)

@@ -1,19 +1,16 @@
 -- How the rows read a name. Assumes nothing.
-use mathlib.Core.Path.{_≡_, refl, ap}
-use mathlib.Core.Bool.{Bool, true, false, cond, not, _&&_, false≢true}
-use mathlib.Core.List.{List, [], _∷_, _++_}
+use mathlib.Core.Path.{_≡_, refl}
+use mathlib.Core.Bool.{Bool, true, false, false≢true}
+use mathlib.Core.List.{List, [], _∷_}
 use Prim.Native.Nat.{ℕ, _-_, _<_, _≤_}
 use Prim.Native.Char.{code}
 use native.Mathlib.Omega.{arith}
-use lib.Dec.{eqb}
-use lib.ListN.{length, take, getD}
+use lib.ListN.{length, take}
 use lib.Seq.{length-take-le}
 use Rattle.lists.specs.Bytes.{ends}
-use Rattle.lists.specs.Recur.{recur}
 use Rattle.lists.proofs.Recursion.{Local, recur-eq}
-use Rattle.numerals.specs.Words.{Word}
-use Rattle.rows.specs.Rows.{Reading, by, perCent, readStep, read}
-use Rattle.rows.specs.declared.Row.the-variants.{NoRow, Percent}
+use Rattle.rows.specs.Rows.{by, readStep, read}
+use Rattle.rows.specs.declared.Row.the-variants.{NoRow}
 
 -- a text that ends in a byte has one
 pub ends-some : (c : ℕ) (s : List ℕ) → ends c s ≡ true → 1 ≤ length s

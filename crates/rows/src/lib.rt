@@ -1,4 +1,6 @@
-// The twelve rows of the call sheet: which row takes a name, and its words. Definitions and laws, no functions.
+// The twelve rows of the call sheet: which row takes a name, and its words.
+ghost use mathlib.Core.Path.{_≡_};
+ghost use Rattle.rows.specs.Rows.{signNumber, rowNumber, rowSign};
 
 // The sign of a number.
 pub enum Sign {
@@ -26,4 +28,60 @@ pub enum Row {
 // An entry's record.
 pub struct Entry {
     pub row: Row,
+}
+
+impl Sign {
+    // The sign's value.
+    pub fn number(self) -> u8
+        ensures { λ r. ⌜ r ≡ signNumber self ⌝ }
+    {
+        match self {
+            Sign::Plus => 1,
+            Sign::Minus => 2,
+        }
+    }
+}
+
+impl Row {
+    // The row's number, 0 where there is none.
+    pub fn number(self) -> u8
+        ensures { λ r. ⌜ r ≡ rowNumber self ⌝ }
+    {
+        match self {
+            Row::NoRow => 0,
+            Row::Empty => 1,
+            Row::Dotted => 2,
+            Row::CommaInt => 3,
+            Row::Time => 4,
+            Row::Meridiem => 5,
+            Row::LeadingZero => 6,
+            Row::Digits => 7,
+            Row::Figure(_) => 8,
+            Row::Ordinal => 9,
+            Row::Percent => 10,
+            Row::Unit => 11,
+            Row::OneWord => 12,
+        }
+    }
+
+    // The value of the row's sign, 0 where it has none.
+    pub fn sign(self) -> u8
+        ensures { λ r. ⌜ r ≡ rowSign self ⌝ }
+    {
+        match self {
+            Row::Figure(sign) => sign.number(),
+            Row::NoRow => 0,
+            Row::Empty => 0,
+            Row::Dotted => 0,
+            Row::CommaInt => 0,
+            Row::Time => 0,
+            Row::Meridiem => 0,
+            Row::LeadingZero => 0,
+            Row::Digits => 0,
+            Row::Ordinal => 0,
+            Row::Percent => 0,
+            Row::Unit => 0,
+            Row::OneWord => 0,
+        }
+    }
 }

@@ -1,0 +1,151 @@
+-- The first two kinds, and either of them with one %. Assumes nothing.
+use mathlib.Core.Path.{_≡_, refl, ap, _∙_}
+use mathlib.Core.Bool.{Bool, true, false, cond, not, _&&_, _||_, or-true}
+use mathlib.Core.List.{List, [], _∷_, _++_, append-nil}
+use mathlib.Core.Logic.{⊎-elim}
+use Prim.Native.Nat.{ℕ, suc, _-_}
+use Prim.Native.Char.{code}
+use native.Mathlib.Omega.{arith}
+use lib.Dec.{eqb}
+use lib.ListN.{length, take, drop, take-append-drop}
+use lib.Seq.{length-take-le}
+use borrow.Author.Tests.{eqb-true, not-true}
+use Rattle.lists.specs.Bytes.{bytes, span, starts, ends, stripPrefix, lead, after}
+use Rattle.lists.specs.Classes.{digit}
+use Rattle.lists.proofs.Scan.{span-all, span-le}
+use Rattle.shapes.specs.Shapes.{isDigits, isLeadingZeroDigits, stripSign}
+use Rattle.clear.specs.Clear.{plain, Minus, no-minus, a-minus, Fraction, no-point, a-point, ExponentSign, no-sign, plus-sign, minus-sign, Exponent, no-exponent, an-exponent, Number, is-digits, is-figure, Clear, is-percent}
+use Rattle.clear.specs.Test.{isExponentClear, isFractionClear, isFigureClear, isNumberClear, isPercentClear}
+use Rattle.clear.proofs.Cuts.{ands, ors, starts-first, starts-cons, cut-front, ends-snoc, snoc-ends, lead-seam, after-seam, span-seam, digits-all, digits-some, starts-digits}
+
+pub plain-digits : (s : List ℕ) → plain s ≡ true → isDigits s ≡ true
+plain-digits s h = ands (isDigits s) (not (isLeadingZeroDigits s)) h .0
+
+-- ---- exponents
+
+empty : (s : List ℕ) → eqb (length s) 0 ≡ true → [] ≡ s
+empty [] h = refl
+empty (b ∷ s) h = absurd (let e = eqb-true (suc (length s)) 0 h in omega arith)
+
+signed : (s : List ℕ) → plain (stripSign s) ≡ true → Exponent (code "e" ∷ s)
+signed s h = go (starts (code "+") s) (starts (code "-") s) refl refl h
+  where
+    go : (t u : Bool) → starts (code "+") s ≡ t → starts (code "-") s ≡ u → plain (cond (t || u) (drop 1 s) s) ≡ true → Exponent (code "e" ∷ s)
+    go true u e f h = rw (starts-cons (code "+") s e) at (an-exponent (bytes "+") (drop 1 s) plus-sign h)
+    go false true e f h = rw (starts-cons (code "-") s f) at (an-exponent (bytes "-") (drop 1 s) minus-sign h)
+    go false false e f h = an-exponent [] s no-sign h
+
+test-exponent : (s : List ℕ) → isExponentClear s ≡ true → Exponent s
+unfolding isExponentClear
+test-exponent s h = go (starts (code "e") s) refl h
+  where
+    go : (t : Bool) → starts (code "e") s ≡ t → cond t (plain (stripSign (drop 1 s))) (eqb (length s) 0) ≡ true → Exponent s
+    go true e h = rw (starts-cons (code "e") s e) at (signed (drop 1 s) h)
+    go false e h = rw (empty s h) at no-exponent
+
+strip-sign : (g x : List ℕ) → ExponentSign g → isDigits x ≡ true → stripSign (g ++ x) ≡ x
+strip-sign g x no-sign h = rw (none (code "+") refl, none (code "-") refl)
+  where
+    none : (c : ℕ) → digit c ≡ false → starts c x ≡ false
+    none c n = rw append-nil at (starts-digits c x [] n h)
+strip-sign g x plus-sign h = rw (starts-first (code "+") (code "+") x)
+strip-sign g x minus-sign h = rw (starts-first (code "+") (code "-") x, starts-first (code "-") (code "-") x)
+
+exponent-test : (s : List ℕ) → Exponent s → isExponentClear s ≡ true
+unfolding isExponentClear
+exponent-test s no-exponent = refl
+exponent-test s (an-exponent g x r h) = rw (starts-first (code "e") (code "e") (g ++ x), strip-sign g x r (plain-digits x h)) h
+
+-- no digit stands at the front of an exponent
+exponent-front : (s : List ℕ) → Exponent s → span digit s ≡ 0
+unfolding span
+exponent-front s no-exponent = refl
+exponent-front s (an-exponent g x r h) = refl
+
+-- ---- a point with digits, and an exponent
+
+-- what follows the whole digits
+record Tail (s : List ℕ) : Type 0 where
+  f : List ℕ
+  x : List ℕ
+  point : Fraction f
+  exponent : Exponent x
+  whole : f ++ x ≡ s
+
+span-digits : (s : List ℕ) → eqb (span digit s) 0 ≡ false → isDigits (lead digit s) ≡ true
+unfolding isDigits
+span-digits s h = rw (length-take-le (span digit s) s (span-le digit s), h, span-all digit s)
+
+test-fraction : (s : List ℕ) → isFractionClear s ≡ true → Tail s
+unfolding isFractionClear
+test-fraction s h = go (starts (code ".") s) refl h
+  where
+    d : List ℕ
+    d = drop 1 s
+
+    go : (t : Bool) → starts (code ".") s ≡ t → cond t (not (eqb (span digit d) 0) && isExponentClear (after digit d)) (isExponentClear s) ≡ true → Tail s
+    go true e h =
+        let p = ands (not (eqb (span digit d) 0)) (isExponentClear (after digit d)) h in
+        record {
+          f = code "." ∷ lead digit d;
+          x = after digit d;
+          point = a-point (lead digit d) (span-digits d (not-true _ (p .0)));
+          exponent = test-exponent (after digit d) (p .1);
+          whole = ap (λ (r : List ℕ). code "." ∷ r) (take-append-drop (span digit d) d) ∙ starts-cons (code ".") s e;
+        }
+    go false e h = record { f = []; x = s; point = no-point; exponent = test-exponent s h; whole = refl }
+
+exponent-point : (x : List ℕ) → Exponent x → starts (code ".") x ≡ false
+exponent-point x no-exponent = refl
+exponent-point x (an-exponent g y r h) = starts-first (code ".") (code "e") (g ++ y)
+
+fraction-test : (f x : List ℕ) → Fraction f → Exponent x → isFractionClear (f ++ x) ≡ true
+unfolding isFractionClear
+fraction-test f x no-point e = rw (exponent-point x e) (exponent-test x e)
+fraction-test f x (a-point d h) e =
+    let z = exponent-front x e in
+    let a = digits-all d h in
+    rw (starts-first (code ".") (code ".") (d ++ x), after-seam digit d x a z, span-seam digit d x a z, digits-some d h) (exponent-test x e)
+
+fraction-front : (f x : List ℕ) → Fraction f → Exponent x → span digit (f ++ x) ≡ 0
+unfolding span
+fraction-front f x no-point e = exponent-front x e
+fraction-front f x (a-point d h) e = refl
+
+-- ---- figures
+
+figure : (m s : List ℕ) → Minus m → isFigureClear s ≡ true → Number (m ++ s)
+unfolding isFigureClear
+figure m s r h =
+    let p = ands (plain (lead digit s)) (isFractionClear (after digit s)) h in
+    let t = test-fraction (after digit s) (p .1) in
+    rw (t .whole, take-append-drop) at (is-figure m (lead digit s) (t .f) (t .x) r (p .0) (t .point) (t .exponent))
+
+pub test-number : (s : List ℕ) → isNumberClear s ≡ true → Number s
+test-number s h = ⊎-elim (is-digits s) (λ k. go (starts (code "-") s) refl k) (ors (isDigits s) (isFigureClear (stripPrefix (code "-") s)) h)
+  where
+    go : (t : Bool) → starts (code "-") s ≡ t → isFigureClear (cond t (drop 1 s) s) ≡ true → Number s
+    go true e k = rw (starts-cons (code "-") s e) at (figure (bytes "-") (drop 1 s) a-minus k)
+    go false e k = figure [] s no-minus k
+
+strip-minus : (m a t : List ℕ) → Minus m → isDigits a ≡ true → stripPrefix (code "-") (m ++ (a ++ t)) ≡ a ++ t
+strip-minus m a t no-minus h = rw (starts-digits (code "-") a t refl h)
+strip-minus m a t a-minus h = rw (starts-first (code "-") (code "-") (a ++ t))
+
+pub number-test : (s : List ℕ) → Number s → isNumberClear s ≡ true
+unfolding isFigureClear
+number-test s (is-digits t h) = rw h
+number-test s (is-figure m a f x r h p e) =
+    let d = plain-digits a h in
+    let z = fraction-front f x p e in
+    rw (strip-minus m a (f ++ x) r d, lead-seam digit a (f ++ x) (digits-all a d) z, after-seam digit a (f ++ x) (digits-all a d) z, h, fraction-test f x p e) (or-true (isDigits (m ++ (a ++ (f ++ x)))))
+
+-- ---- with one %
+
+pub test-percent : (s : List ℕ) → isPercentClear s ≡ true → Clear s
+test-percent s h =
+    let p = ands (ends (code "%") s) (isNumberClear (take (length s - 1) s)) h in
+    rw (ends-snoc (code "%") s (p .0)) at (is-percent (take (length s - 1) s) (test-number (take (length s - 1) s) (p .1)))
+
+pub percent-test : (s : List ℕ) → Number s → isPercentClear (s ++ bytes "%") ≡ true
+percent-test s n = rw (snoc-ends (code "%") s, cut-front s (bytes "%") 1 refl) (number-test s n)

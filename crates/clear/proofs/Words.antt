@@ -1,0 +1,150 @@
+-- Words of two or more letters a to z: a word that alone is an answer of `cardinal` or `ordinal` stands in the tables. Assumes nothing.
+use mathlib.Core.Path.{_≡_, refl, sym, ap, _∙_}
+use mathlib.Core.Bool.{Bool, true, false, not, _&&_, true≢false}
+use mathlib.Core.List.{List, [], _∷_, map, cons-eq-cons, nil≢cons, cons≢nil}
+use Prim.Native.Nat.{ℕ, zero, suc, _+_, _≤_, _<_}
+use Prim.Native.Char.{code}
+use native.Mathlib.Omega.{arith}
+use lib.Dec.{leb, eqb}
+use lib.ListN.{length, take, drop, length-drop}
+use mir.Facts.{and-yes}
+use borrow.Author.Tests.{leb-true, le-leb, not-true}
+use Rattle.lists.specs.Bytes.{all, small, keep}
+use Rattle.lists.specs.Classes.{except}
+use Rattle.lists.proofs.Recursion.{recur-induct, cond-elim}
+use Rattle.lists.proofs.Table.{below}
+use Rattle.lexicon.specs.Lexicon.{wordOf, onesAt, teensAt, tensAt, ordinalStep}
+use Rattle.lexicon.proofs.Laws.{lexicon}
+use Rattle.units.specs.Units.{before}
+use Rattle.numerals.specs.Words.{Word, one, teen, ten, scale, other, spell, spelled}
+use Rattle.numerals.specs.Cardinal.{clean, pair, scaleFor, join, splitAt, byScale, cardinalStep, cardinalFew, cardinalOf, cardinal}
+use Rattle.numerals.specs.Ordinal.{ordinalForm, orZero, onLast, ordinal}
+use Rattle.numerals.proofs.Cardinal.{split-parts}
+use Rattle.numerals.proofs.Every.{every-drop}
+use Rattle.numerals.proofs.Forms.{Digits, clean-digits, form-number}
+use Rattle.clear.specs.Clear.{tableWords, listed, Alone, Clear, is-word}
+use Rattle.clear.specs.Test.{isWordClear}
+use Rattle.clear.proofs.Cuts.{ands, T-true}
+
+-- ---- an answer of one word
+
+-- where the words are one word, it has the property P
+abbrev Lone : (Word → Type 0) → List Word → Type 0
+Lone P [] = Unit
+Lone P (w ∷ []) = P w
+Lone P (w ∷ v ∷ ws) = Unit
+
+-- a word of ONES, TEENS or TENS
+record Small (w : Word) : Type 0 where
+  place : ℕ
+  within : place < 30
+  word : spell w ≡ wordOf (onesAt + place)
+
+small-one : (d : ℕ) → d < 10 → Small (one d)
+unfolding spell
+small-one d h = record { place = d; within = omega arith; word = refl }
+
+small-teen : (d : ℕ) → d < 10 → Small (teen d)
+unfolding spell
+small-teen d h = let e : teensAt + d ≡ onesAt + (10 + d) = omega arith in record { place = 10 + d; within = omega arith; word = ap wordOf e }
+
+small-ten : (d : ℕ) → d < 10 → Small (ten d)
+unfolding spell
+small-ten d h = let e : tensAt + d ≡ onesAt + (20 + d) = omega arith in record { place = 20 + d; within = omega arith; word = ap wordOf e }
+
+pair-lone : (a b : ℕ) → a < 10 → b < 10 → Lone Small (pair a b)
+unfolding pair
+pair-lone zero zero p q = tt
+pair-lone zero (suc b) p q = small-one (suc b) q
+pair-lone (suc a) zero p q = small-ten (suc a) p
+pair-lone (suc zero) (suc b) p q = small-teen (suc b) q
+pair-lone (suc (suc a)) (suc b) p q = tt
+
+-- a scale's word never stands alone
+join-lone : (l : List Word) (w : Word) (r : List Word) → Lone Small r → Lone Small (join l w r)
+unfolding join
+join-lone [] w r h = h
+join-lone (v ∷ []) w r h = tt
+join-lone (v ∷ u ∷ l) w r h = tt
+
+few-lone : (s : List ℕ) → Digits s → Lone Small (cardinalFew s)
+unfolding cardinalFew cardinalStep byScale
+few-lone = recur-induct (λ s ws. Digits s → Lone Small ws) [] cardinalStep step
+  where
+    step : (f : List ℕ → List Word) (s : List ℕ) → ((t : List ℕ) → length t < length s → Digits t → Lone Small (f t)) → Digits s → Lone Small (cardinalStep f s)
+    step f [] i h = tt
+    step f (a ∷ []) i h = small-one a (h .0)
+    step f (a ∷ b ∷ []) i h = pair-lone a b (h .0) (h .1 .0)
+    step f (a ∷ b ∷ c ∷ []) i h = cond-elim (Lone Small) (eqb a 0) (λ e. i (b ∷ c ∷ []) (omega arith) (h .1)) (λ e. tt)
+    step f (a ∷ b ∷ c ∷ d ∷ s) i h =
+        let t = a ∷ b ∷ c ∷ d ∷ s in
+        let n = splitAt (length t) in
+        let p = split-parts (length t) (omega arith) in
+        join-lone (f (take n t)) (scale (scaleFor (length t))) (f (drop n t)) (i (drop n t) (omega (arith, length-drop n t, p .whole, p .right)) (every-drop (λ d. d < 10) n t h))
+
+ones-lone : (s : List ℕ) → Digits s → Lone Small (map one s)
+ones-lone [] h = tt
+ones-lone (a ∷ []) h = small-one a (h .0)
+ones-lone (a ∷ b ∷ s) h = tt
+
+cardinal-lone : (t : List ℕ) → Lone Small (cardinal t)
+unfolding cardinal cardinalOf
+cardinal-lone t = let d = clean-digits t in cond-elim (Lone Small) (leb (length (clean t)) 12) (λ e. few-lone (clean t) d) (λ e. ones-lone (clean t) d)
+
+-- ---- it is one of the tables'
+
+abbrev Barred : Word → Type 0
+Barred w = listed (spell w) tableWords ≡ true
+
+barredb : ℕ → Bool
+barredb k = listed (wordOf (onesAt + k)) tableWords && listed (wordOf (onesAt + ordinalStep + k)) tableWords
+
+barred : (k : ℕ) → k < 30 → (listed (wordOf (onesAt + k)) tableWords ≡ true) × (listed (wordOf (onesAt + ordinalStep + k)) tableWords ≡ true)
+unfolding barredb tableWords before lexicon
+barred k h =
+    let y = and-yes (listed (wordOf (onesAt + k)) tableWords) (listed (wordOf (onesAt + ordinalStep + k)) tableWords) (below barredb 30 tt k h) in
+    (T-true _ (y .0), T-true _ (y .1))
+
+small-barred : (w : Word) → Small w → Barred w
+small-barred w f = rw (f .word) (barred (f .place) (f .within) .0)
+
+form-barred : (w : Word) → Small w → Barred (other (ordinalForm (spell w)))
+unfolding spell
+form-barred w f = let h = f .within in rw (f .word, form-number (f .place) (omega arith)) (barred (f .place) h .1)
+
+lone-imply : (ws : List Word) → Lone Small ws → Lone Barred ws
+lone-imply [] h = tt
+lone-imply (w ∷ []) h = small-barred w h
+lone-imply (w ∷ v ∷ ws) h = tt
+
+last-lone : (ws : List Word) → Lone Small ws → Lone Barred (onLast (orZero ws))
+unfolding orZero onLast
+last-lone [] h = form-barred (one 0) (small-one 0 (omega arith))
+last-lone (w ∷ []) h = form-barred w h
+last-lone (w ∷ v ∷ []) h = tt
+last-lone (w ∷ v ∷ u ∷ ws) h = tt
+
+lone-listed : (w : List ℕ) (ws : List Word) → Lone Barred ws → spelled ws ≡ w ∷ [] → listed w tableWords ≡ true
+unfolding spelled
+lone-listed w [] h e = absurd (nil≢cons e)
+lone-listed w (v ∷ []) h e = let f : spell v ≡ w = cc in rw f at h
+lone-listed w (v ∷ u ∷ ws) h e = absurd (cons≢nil (cons-eq-cons .0 e .1))
+
+pub cardinal-alone : (w : List ℕ) → Alone cardinal w → listed w tableWords ≡ true
+cardinal-alone w a = lone-listed w (cardinal (a .0)) (lone-imply (cardinal (a .0)) (cardinal-lone (a .0))) (a .1)
+
+pub ordinal-alone : (w : List ℕ) → Alone ordinal w → listed w tableWords ≡ true
+unfolding ordinal
+ordinal-alone w a = let c = keep (except (code ",")) (a .0) in lone-listed w (onLast (orZero (cardinal c))) (last-lone (cardinal c) (cardinal-lone c)) (a .1)
+
+-- ---- the kind
+
+pub test-word : (s : List ℕ) → isWordClear s ≡ true → Clear s
+test-word s h =
+    let p = ands (leb 2 (length s) && all small s) (not (listed s tableWords)) h in
+    let q = ands (leb 2 (length s)) (all small s) (p .0) in
+    let n : listed s tableWords ≡ false = not-true _ (p .1) in
+    is-word s (leb-true 2 (length s) (q .0)) (q .1) n (λ a. true≢false (sym (cardinal-alone s a) ∙ n)) (λ a. true≢false (sym (ordinal-alone s a) ∙ n))
+
+pub word-test : (s : List ℕ) → 2 ≤ length s → all small s ≡ true → listed s tableWords ≡ false → isWordClear s ≡ true
+word-test s h a n = rw (le-leb 2 (length s) h, a, n)

@@ -1,0 +1,63 @@
+-- Names that end in %: no row before 10 takes them. Assumes nothing.
+use mathlib.Core.Path.{_≡_, refl, sym, _∙_}
+use mathlib.Core.Bool.{Bool, true, false, not, _&&_, and-eq-true-iff, or-true, false≢true}
+use mathlib.Core.List.{List, [], _∷_, _++_}
+use Prim.Native.Nat.{ℕ, zero, suc, _-_, _<_}
+use Prim.Native.Char.{code}
+use native.Mathlib.Omega.{arith}
+use lib.Dec.{eqb, ltb}
+use lib.ListN.{length, take, getD}
+use borrow.Author.Tests.{eqb-true, eq-eqb, ne-eqb}
+use Rattle.lists.specs.Bytes.{all, has, starts, ends}
+use Rattle.lists.specs.Classes.{digit, digitOrComma}
+use Rattle.shapes.specs.Shapes.{isDottedAbbrev, isCommaInt, isTime, isLeadingZeroDigits, isDigits, isDouble, isOrdinal}
+use Rattle.shapes.specs.Times.{isMeridiemTime}
+use Rattle.rows.specs.Rows.{by, perCent, readStep, read}
+use Rattle.rows.specs.declared.Row.the-variants.{Percent}
+use Rattle.rows.proofs.Laws.{ends-some, read-eq}
+use Rattle.rows.proofs.Taken.{untaken, lacks, dottedByte, timeByte, meridiemByte, doubleByte, ordinalByte, dotted-bytes, comma-bytes, time-bytes, meridiem-bytes, digits-all, double-bytes, ordinal-bytes}
+
+has-at : (c : ℕ) (s : List ℕ) (i : ℕ) → i < length s → getD s i 0 ≡ c → has c s ≡ true
+unfolding has
+has-at c [] i h e = absurd (omega arith)
+has-at c (b ∷ s) zero h e = rw (eq-eqb b c e)
+has-at c (b ∷ s) (suc i) h e = rw (has-at c s i (omega arith) e, or-true (eqb b c))
+
+-- a text has the byte that it ends in
+ends-has : (c : ℕ) (s : List ℕ) → ends c s ≡ true → has c s ≡ true
+ends-has c s e =
+    has-at c s (length s - 1) (omega (arith, ends-some c s e)) (eqb-true (getD s (length s - 1) 0) c (and-eq-true-iff (not (eqb (length s) 0)) (eqb (getD s (length s - 1) 0) c) .0 e .1))
+
+-- the name meets none of the tests of rows 1 to 9
+pub record Untaken (s : List ℕ) : Type 0 where
+  pub empty : eqb (length s) 0 ≡ false
+  pub dotted : isDottedAbbrev s ≡ false
+  pub comma : isCommaInt s ≡ false
+  pub time : isTime s ≡ false
+  pub meridiem : isMeridiemTime s ≡ false
+  pub leading : isLeadingZeroDigits s ≡ false
+  pub digits : isDigits s ≡ false
+  pub double : isDouble s ≡ false
+  pub ordinal : isOrdinal s ≡ false
+
+pub percent-untaken : (s : List ℕ) → ends (code "%") s ≡ true → Untaken s
+percent-untaken s e = record {
+  empty = ne-eqb (length s) 0 (λ z. omega (arith, ends-some (code "%") s e));
+  dotted = outside dottedByte (isDottedAbbrev s) refl (dotted-bytes s);
+  comma = outside digitOrComma (isCommaInt s) refl (comma-bytes s);
+  time = outside timeByte (isTime s) refl (time-bytes s);
+  meridiem = outside meridiemByte (isMeridiemTime s) refl (meridiem-bytes s);
+  leading = outside digit (isLeadingZeroDigits s) refl (λ h. digits-all s (and-eq-true-iff (ltb 1 (length s) && starts (code "0") s) (isDigits s) .0 h .1));
+  digits = outside digit (isDigits s) refl (digits-all s);
+  double = outside doubleByte (isDouble s) refl (double-bytes s);
+  ordinal = outside ordinalByte (isOrdinal s) refl (ordinal-bytes s);
+}
+  where
+    -- a shape whose bytes are of a class without % does not take the name
+    outside : (p : ℕ → Bool) (shape : Bool) → p (code "%") ≡ false → (shape ≡ true → all p s ≡ true) → shape ≡ false
+    outside p shape q f = untaken shape (λ h. false≢true (sym (lacks p (code "%") s q (ends-has (code "%") s e)) ∙ f h))
+
+-- so row 10 reads it
+pub percent-read : (s : List ℕ) → ends (code "%") s ≡ true → read s ≡ by Percent (read (take (length s - 1) s) .words ++ perCent)
+unfolding readStep
+percent-read s e = let u = percent-untaken s e in read-eq s ∙ rw (u .dotted, u .comma, u .time, u .meridiem, u .leading, u .digits, u .double, u .ordinal, e, u .empty)
