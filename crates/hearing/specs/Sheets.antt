@@ -1,12 +1,18 @@
--- Document 01, demand 3: from a call sheet back to the entries. Definitions only.
+-- Document 01, demand 3: what two sheets have in common, and the way from a call sheet back to its entries. Definitions only.
+use mathlib.Core.Path.{_≡_}
+use mathlib.Core.Bool.{true, false}
 use mathlib.Core.List.{List, [], _∷_, map}
+use mathlib.Core.Logic.{_↔_}
 use Prim.Native.Nat.{ℕ, _-_}
 use Prim.Native.Char.{code}
 use lib.Dec.{eqb}
 use lib.ListN.{length, take, drop, getD}
 use Rattle.lists.specs.Bytes.{split}
 use Rattle.tokens.specs.Tokens.{Token, tokens}
+use Rattle.admit.specs.Refusals.{Call}
+use Rattle.sentences.specs.Sentences.{starts}
 use Rattle.sheets.specs.Sheet.{SheetEntry}
+use Rattle.sheets.specs.Calls.{SheetGiven}
 use Rattle.clear.specs.Clear.{Clear}
 use Rattle.hearing.specs.Hear.{hear}
 
@@ -18,6 +24,22 @@ names s = map (λ (t : Token). t .name) (tokens s)
 unfoldable pub AllClear : List (List ℕ) → Type 0
 AllClear [] = Unit
 AllClear (n ∷ ns) = Clear n × AllClear ns
+
+-- "A sentence starts at the entries for which the whole-text form's definition says so.": it says so for entry k, from 0
+abbrev pub SentenceAt : List ℕ → ℕ → Type 0
+SentenceAt s k = getD (starts (tokens s)) k false ≡ true
+
+-- equally many entries, the same names in the same order, and sentences starting at the same entries
+pub record SameEntries (s t : List ℕ) : Type 0 where
+  pub many : length (tokens s) ≡ length (tokens t)
+  pub named : names s ≡ names t
+  pub sentences : (k : ℕ) → SentenceAt s k ↔ SentenceAt t k
+
+-- "the lines that this call writes, first byte to last"
+abbrev pub written : Call SheetGiven → List ℕ
+written r = take (r .value .bytes) (r .value .buffer)
+
+-- ---- the way back
 
 -- the words of a line, which are parted by spaces, after the line's mark
 abbrev pub wordsIn : List ℕ → List (List ℕ)

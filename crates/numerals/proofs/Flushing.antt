@@ -67,7 +67,7 @@ ordinal-said s ds σ d m e k q f =
 
 -- ---- more digits than are few
 
-onLast-snoc : (ws : List Word) (w : Word) → onLast (orZero (ws ++ w ∷ [])) ≡ ws ++ other (ordinalForm (spell w)) ∷ []
+pub onLast-snoc : (ws : List Word) (w : Word) → onLast (orZero (ws ++ w ∷ [])) ≡ ws ++ other (ordinalForm (spell w)) ∷ []
 unfolding orZero onLast
 onLast-snoc [] w = refl
 onLast-snoc (v ∷ []) w = refl

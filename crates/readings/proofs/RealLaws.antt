@@ -25,7 +25,7 @@ starts-some : (c : ℕ) (s : List ℕ) → starts c s ≡ true → 0 < length s
 starts-some c [] e = let z : _≡_ {A = ℕ} 0 1 = cc in omega arith
 starts-some c (b ∷ s) e = omega arith
 
-starts-cons : (c b : ℕ) (s : List ℕ) → starts c (b ∷ s) ≡ eqb b c
+pub starts-cons : (c b : ℕ) (s : List ℕ) → starts c (b ∷ s) ≡ eqb b c
 starts-cons c b s = rw (eqb·suc-zero (length s))
 
 -- where a text does not start with a byte, no part of it does
@@ -44,7 +44,7 @@ real-local f g s h =
     let l : eAt s < length s = ltb-true _ _ e in
     ap₂ (λ (ws vs : List Word). ws ++ other (bytes "e") ∷ vs) (h (take (eAt s) s) (simp length-take (omega arith))) (h (drop (eAt s + 1) s) (simp length-drop (omega arith)))) (λ k. refl)))
 
-real-eq : (s : List ℕ) → real s ≡ realStep real s
+pub real-eq : (s : List ℕ) → real s ≡ realStep real s
 unfolding real
 real-eq s = recur-eq [] realStep real-local s
 
@@ -57,7 +57,7 @@ unfolding spelled
 real-end = ap spelled real-none
 
 -- neither sign nor "e"
-real-plain : (s : List ℕ) → starts (code "-") s ≡ false → starts (code "+") s ≡ false → length s ≤ eAt s → real s ≡ pointed s
+pub real-plain : (s : List ℕ) → starts (code "-") s ≡ false → starts (code "+") s ≡ false → length s ≤ eAt s → real s ≡ pointed s
 unfolding realStep
 real-plain s m p h = real-eq s ∙ rw (m, p, le-ltb (eAt s) (length s) h)
 

@@ -1,0 +1,114 @@
+-- Document 01, demand 3, in one theorem about two whole sheets. Assumes nothing.
+use mathlib.Core.Path.{_≡_, refl, sym, ap, _∙_}
+use mathlib.Core.Bool.{Bool, true, false}
+use mathlib.Core.List.{List, [], _∷_, map, cons-eq-cons}
+use mathlib.Core.Logic.{_↔_}
+use Prim.Native.Nat.{ℕ, suc, _≤_}
+use native.Mathlib.Omega.{arith}
+use lib.ListN.{length, drop, length-map}
+use lib.Seq.{take-at, ext-getD}
+use borrow.Author.Tests.{le-ltb}
+use Rattle.lists.specs.Bytes.{over}
+use Rattle.sink.specs.Words.{storeOf}
+use Rattle.tokens.specs.Tokens.{Token, tokens}
+use Rattle.sentences.specs.Sentences.{starts}
+use Rattle.sentences.specs.Calls.{flags}
+use Rattle.sentences.proofs.Marking.{starts-length}
+use Rattle.numerals.proofs.Every.{Every}
+use Rattle.sheets.specs.Sheet.{SheetEntry, entriesOf, entries, lineOf, callSheet, countWords}
+use Rattle.sheets.specs.Calls.{sheetCall, Accepted}
+use Rattle.hearing.specs.Sheets.{names, AllClear, SameEntries, written, hearSheet}
+use Rattle.hearing.proofs.Told.{Heeded}
+use Rattle.hearing.proofs.Lines.{sheet-heard}
+use Rattle.hearing.proofs.Clears.{clear-heeded}
+
+abbrev nameOf : Token → List ℕ
+nameOf t = t .name
+
+-- a mark for each token
+marks-length : (s : List ℕ) → length (starts (tokens s)) ≡ length (tokens s)
+unfolding flags
+marks-length s = go (starts (tokens s)) ∙ starts-length s
+  where
+    go : (bs : List Bool) → length bs ≡ length (flags bs)
+    go [] = refl
+    go (b ∷ bs) = ap suc (go bs)
+
+-- clear names are heeded
+entries-heeded : (bs : List Bool) (ts : List Token) → AllClear (map nameOf ts) → Every (λ (e : SheetEntry). Heeded (e .name)) (entriesOf bs ts)
+unfolding entriesOf AllClear
+entries-heeded [] ts h = tt
+entries-heeded (b ∷ bs) [] h = tt
+entries-heeded (b ∷ bs) (t ∷ ts) h = (clear-heeded (t .name) (h .0), entries-heeded bs ts (h .1))
+
+-- the entries have the tokens' marks and names, and nothing else of them
+entries-parts : (bs : List Bool) (ts : List Token) → length bs ≡ length ts
+    → (map (λ (e : SheetEntry). e .starts) (entriesOf bs ts) ≡ bs) × (map (λ (e : SheetEntry). e .name) (entriesOf bs ts) ≡ map nameOf ts)
+unfolding entriesOf
+entries-parts [] [] h = (refl, refl)
+entries-parts [] (t ∷ ts) h = absurd (omega arith)
+entries-parts (b ∷ bs) [] h = absurd (omega arith)
+entries-parts (b ∷ bs) (t ∷ ts) h =
+    let k = entries-parts bs ts (omega arith) in
+    (ap (λ (cs : List Bool). b ∷ cs) (k .0), ap (λ (ns : List (List ℕ)). t .name ∷ ns) (k .1))
+
+entries-same : (bs : List Bool) (ts us : List Token) → map nameOf ts ≡ map nameOf us → entriesOf bs ts ≡ entriesOf bs us
+unfolding entriesOf
+entries-same [] ts us h = refl
+entries-same (b ∷ bs) [] [] h = refl
+entries-same (b ∷ bs) [] (u ∷ us) h = cc
+entries-same (b ∷ bs) (t ∷ ts) [] h = cc
+entries-same (b ∷ bs) (t ∷ ts) (u ∷ us) h = let k = cons-eq-cons .0 h in rw (k .0, entries-same bs ts us (k .1))
+
+both : (b c : Bool) → (b ≡ true) ↔ (c ≡ true) → b ≡ c
+both true c h = sym (h .0 refl)
+both false true h = h .1 refl
+both false false h = refl
+
+-- equal entries have the same marks and names
+entries-told : (s t : List ℕ) → entries s ≡ entries t → SameEntries s t
+entries-told s t e =
+    let p = entries-parts (starts (tokens s)) (tokens s) (marks-length s) in
+    let q = entries-parts (starts (tokens t)) (tokens t) (marks-length t) in
+    let marks : starts (tokens s) ≡ starts (tokens t) = sym (p .0) ∙ ap (map (λ (e : SheetEntry). e .starts)) e ∙ q .0 in
+    let named : names s ≡ names t = sym (p .1) ∙ ap (map (λ (e : SheetEntry). e .name)) e ∙ q .1 in
+    record {
+      many = sym (length-map (tokens s) nameOf) ∙ ap length named ∙ length-map (tokens t) nameOf;
+      named = named;
+      sentences = λ k. rw marks (λ h. h, λ h. h);
+    }
+
+-- and those with the same marks and names are equal
+entries-from : (s t : List ℕ) → SameEntries s t → entries s ≡ entries t
+entries-from s t h =
+    let marks : starts (tokens s) ≡ starts (tokens t) =
+    ext-getD false _ _ (marks-length s ∙ h .many ∙ sym (marks-length t)) (λ k l. both _ _ (h .sentences k)) in
+    rw marks (entries-same (starts (tokens t)) (tokens s) (tokens t) (h .named))
+
+-- demand 3: two accepted sheets made only of clear entries have the same call sheet exactly when they have equally many entries,
+-- the same names in the same order, and sentences starting at the same entries. That they are accepted is part of the claim, and
+-- isn't needed for it
+pub told-apart : (s t : List ℕ) → Accepted s → Accepted t → AllClear (names s) → AllClear (names t) → (callSheet s ≡ callSheet t) ↔ SameEntries s t
+told-apart s t a b p q = (
+  λ e. entries-told s t (sym (sheet-heard (entries s) (entries-heeded _ _ p)) ∙ ap hearSheet e ∙ sheet-heard (entries t) (entries-heeded _ _ q)),
+  λ h. ap (λ (es : List SheetEntry). storeOf (map lineOf es)) (entries-from s t h),
+)
+
+-- what the call of an accepted sheet answers and leaves in a buffer with room for the result
+pub call-written : (s old : List ℕ) → Accepted s → length (callSheet s) ≤ length old
+    → sheetCall s old
+    ≡ record {
+      refusal = 0;
+      value = record { tokens = length (tokens s); words = countWords (entries s); bytes = length (callSheet s); buffer = over (callSheet s) old };
+    }
+unfolding sheetCall
+call-written s old a h = rw (le-ltb (length old) (length (callSheet s)) h, a)
+
+-- the lines that it writes are the call sheet
+written-sheet : (s old : List ℕ) → Accepted s → length (callSheet s) ≤ length old → written (sheetCall s old) ≡ callSheet s
+written-sheet s old a h = rw (call-written s old a h) (take-at (callSheet s) (drop (length (callSheet s)) old) (length (callSheet s)) refl)
+
+-- so it's the two calls that are told apart
+pub calls-told-apart : (s t old new : List ℕ) → Accepted s → Accepted t → length (callSheet s) ≤ length old → length (callSheet t) ≤ length new
+    → AllClear (names s) → AllClear (names t) → (written (sheetCall s old) ≡ written (sheetCall t new)) ↔ SameEntries s t
+calls-told-apart s t old new a b h k p q = rw (written-sheet s old a h, written-sheet t new b k) (told-apart s t a b p q)

@@ -1,0 +1,98 @@
+-- How `hear` goes by the first and the last word of a line. Assumes nothing.
+use mathlib.Core.Path.{_≡_, refl}
+use mathlib.Core.Bool.{Bool, true, false, not, _&&_, and-eq-true-iff}
+use mathlib.Core.List.{List, [], _∷_, _++_, map}
+use Prim.Native.Nat.{ℕ, _-_, _≤_}
+use native.Mathlib.Omega.{arith}
+use lib.ListN.{length, getD, length-append}
+use lib.Seq.{take-at, getD-at}
+use borrow.Author.Tests.{ne-eqb, not-true}
+use Rattle.lists.specs.Bytes.{bytes, all, same}
+use Rattle.lexicon.specs.Lexicon.{ordinals}
+use Rattle.lexicon.proofs.Laws.{lexicon}
+use Rattle.units.specs.Units.{abbreviations, unitWords, before}
+use Rattle.numerals.specs.Words.{Word, other, spell, spelled}
+use Rattle.numerals.specs.Cardinal.{cardinal}
+use Rattle.numerals.proofs.Digits.{spelled-append}
+use Rattle.numerals.proofs.Every.{Every, every-append, every-map, every-imply}
+use Rattle.rows.specs.Rows.{read}
+use Rattle.clear.specs.Clear.{plain, listed}
+use Rattle.hearing.specs.Hear.{counted, vocabulary, know, known, firstWord, lastWord, butLast, hearDigits, isLetterWord, isLone, cardinalWord, withSuffix, hear}
+use Rattle.hearing.proofs.Told.{solid, Heeded}
+use Rattle.hearing.proofs.Numerals.{Numeral, numeral-test, numeral-known, every-known, plain-some}
+
+-- ---- the words of a line
+
+pub last-word : (ws : List (List ℕ)) (x : List ℕ) → lastWord (ws ++ x ∷ []) ≡ x
+last-word ws x = getD-at ws x [] [] (length (ws ++ x ∷ []) - 1) (omega (arith, length-append ws (x ∷ [])))
+
+pub but-last : (ws vs : List (List ℕ)) → butLast (length vs) (ws ++ vs) ≡ ws
+but-last ws vs = take-at ws vs (length (ws ++ vs) - length vs) (omega (arith, length-append ws vs))
+
+pub not-lone : (ws : List (List ℕ)) → 2 ≤ length ws → isLone ws ≡ false
+not-lone ws h = rw (ne-eqb (length ws) 1 (omega arith))
+
+-- ---- the words of numbers
+
+pub numerals-known : (ws : List Word) → Every Numeral ws → known (spelled ws) ≡ ws
+numerals-known ws h = every-known ws (every-imply Numeral (λ w. know (spell w) ≡ w) numeral-known ws h)
+
+pub numeral-no-letter : (w : Word) → Numeral w → isLetterWord (spell w) ≡ false
+unfolding vocabulary counted spell lexicon
+numeral-no-letter w n = not-true (isLetterWord (spell w)) (numeral-test (λ w. not (isLetterWord (spell w))) refl w n)
+
+pub numerals-solid : (ws : List Word) → Every Numeral ws → Every (λ w. solid w ≡ true) (spelled ws)
+unfolding vocabulary counted spell spelled lexicon all
+numerals-solid = every-map Numeral (λ w. solid w ≡ true) spell (λ w n. numeral-test (λ w. solid (spell w)) refl w n)
+
+-- a line that starts with plain digits and goes on
+pub plain-not-lone : (s : List ℕ) → plain s ≡ true → (x : List ℕ) (vs : List (List ℕ)) → isLone (spelled (cardinal s) ++ x ∷ vs) ≡ false
+unfolding spelled
+plain-not-lone s h x vs =
+    let k = plain-some s h in
+    rw (k .2) (not-lone (spell (k .0) ∷ (map spell (k .1) ++ x ∷ vs)) (omega (arith, length-append (map spell (k .1)) (x ∷ vs))))
+
+-- a name by its words
+pub heeded : (n : List ℕ) (ws : List Word) → read n .words ≡ ws → hear (spelled ws) ≡ n → Every (λ w. solid w ≡ true) (spelled ws) → Heeded n
+heeded n ws e h k = record { heard = rw e h; words = rw e k }
+
+-- ---- a number and one word more
+
+-- a word that is no letter, nor the last one of a per cent or of a meridiem
+abbrev pub lateWord : List ℕ → Bool
+lateWord x = not (isLetterWord x) && (not (same x (bytes "cent")) && (not (same x (bytes "m")) && solid x))
+
+module _ (ns : List Word) (x : List ℕ) (e : Every Numeral ns) (q : lateWord x ≡ true) (l : isLone (spelled ns ++ x ∷ []) ≡ false) where
+  abbrev line : List (List ℕ)
+  line = spelled ns ++ x ∷ []
+
+  past-letter : (isLetterWord x ≡ false) × ((not (same x (bytes "cent")) && (not (same x (bytes "m")) && solid x)) ≡ true)
+  past-letter = let k = and-eq-true-iff (not (isLetterWord x)) _ .0 q in (not-true (isLetterWord x) (k .0), k .1)
+
+  past-cent : (same x (bytes "cent") ≡ false) × ((not (same x (bytes "m")) && solid x) ≡ true)
+  past-cent = let k = and-eq-true-iff (not (same x (bytes "cent"))) (not (same x (bytes "m")) && solid x) .0 (past-letter .1) in (not-true (same x (bytes "cent")) (k .0), k .1)
+
+  past-m : (same x (bytes "m") ≡ false) × (solid x ≡ true)
+  past-m = let k = and-eq-true-iff (not (same x (bytes "m"))) (solid x) .0 (past-cent .1) in (not-true (same x (bytes "m")) (k .0), k .1)
+
+  first : isLetterWord (firstWord line) ≡ false
+  unfolding spelled
+  first = go ns e
+    where
+      go : (ns : List Word) → Every Numeral ns → isLetterWord (firstWord (spelled ns ++ x ∷ [])) ≡ false
+      go [] e = past-letter .0
+      go (w ∷ ws) e = numeral-no-letter w (e .0)
+
+  pub hear-unit : listed x unitWords ≡ true → hear line ≡ hearDigits ns ++ getD abbreviations (before x unitWords) []
+  unfolding hear
+  hear-unit u = rw (l, first, last-word (spelled ns) x, past-cent .0, past-m .0, u, but-last (spelled ns) (x ∷ []), numerals-known ns e)
+
+  pub hear-ordinal : listed x unitWords ≡ false → listed x (map bytes ordinals) ≡ true → hear line ≡ withSuffix (hearDigits (known (spelled ns ++ cardinalWord x ∷ [])))
+  unfolding hear
+  hear-ordinal u o = rw (l, first, last-word (spelled ns) x, past-cent .0, past-m .0, u, o, but-last (spelled ns) (x ∷ []))
+
+  pub heeded-late : (n : List ℕ) → read n .words ≡ ns ++ other x ∷ [] → hear line ≡ n → Heeded n
+  unfolding spelled spell
+  heeded-late n r h =
+      let s : spelled (ns ++ other x ∷ []) ≡ line = spelled-append ns (other x ∷ []) in
+      heeded n (ns ++ other x ∷ []) r (rw s h) (rw s (every-append (λ w. solid w ≡ true) (spelled ns) (x ∷ []) (numerals-solid ns e) (past-m .1, tt)))

@@ -1,1 +1,0 @@
--- Words that are spelled and known again. Assumes nothing.

@@ -1,0 +1,85 @@
+-- A call sheet whose names are heeded is heard as its entries. Assumes nothing.
+use mathlib.Core.Path.{_≡_, refl, ap, ap₂, _∙_}
+use mathlib.Core.Bool.{Bool, true, false, not, cond, _&&_, and-eq-true-iff}
+use mathlib.Core.List.{List, [], _∷_, _++_, map, append-assoc, append-nil}
+use Prim.Native.Nat.{ℕ, _+_, _-_}
+use Prim.Native.Char.{code}
+use native.Mathlib.Omega.{arith}
+use lib.Dec.{eqb}
+use lib.ListN.{length, drop, length-append}
+use lib.Seq.{take-at}
+use Rattle.lists.specs.Bytes.{bytes, all, split, onto}
+use Rattle.lists.specs.Classes.{except}
+use Rattle.lists.proofs.Scan.{all-append, all-within, all-span}
+use Rattle.lists.proofs.Parts.{split-last}
+use Rattle.sink.specs.Words.{storeOf}
+use Rattle.numerals.proofs.Every.{Every}
+use Rattle.sheets.specs.Sheet.{SheetEntry, wordsOf, mark, spaced, lineOf}
+use Rattle.hearing.specs.Sheets.{hearLine, hearSheet}
+use Rattle.hearing.proofs.Told.{solid, Heeded}
+
+-- a part without the separator, and the parts after it
+split-at : (c : ℕ) (s t : List ℕ) → eqb c c ≡ true → all (except c) s ≡ true → split c (s ++ c ∷ t) ≡ s ∷ split c t
+unfolding split all onto
+split-at c [] t r h = rw r
+split-at c (b ∷ s) t r h = go (eqb b c) h (split-at c s t r)
+  where
+    go : (u : Bool) → (not u && all (except c) s) ≡ true → (all (except c) s ≡ true → split c (s ++ c ∷ t) ≡ s ∷ split c t)
+        → cond u ([] ∷ split c (s ++ c ∷ t)) (onto b (split c (s ++ c ∷ t))) ≡ (b ∷ s) ∷ split c t
+    go true h i = cc
+    go false h i = rw (i h)
+
+-- a solid word has neither separator
+solid-except : (w : List ℕ) → solid w ≡ true → (all (except (code " ")) w ≡ true) × (all (except (code "\n")) w ≡ true)
+solid-except w h = (
+  all-within _ (except (code " ")) (λ b k. and-eq-true-iff (except (code " ") b) (except (code "\n") b) .0 k .0) w h,
+  all-within _ (except (code "\n")) (λ b k. and-eq-true-iff (except (code " ") b) (except (code "\n") b) .0 k .1) w h,
+)
+
+-- words with spaces between them are the parts
+words-parted : (w : List ℕ) (ws : List (List ℕ)) → Every (λ w. solid w ≡ true) (w ∷ ws) → split (code " ") (w ++ spaced ws) ≡ w ∷ ws
+unfolding spaced
+words-parted w [] h =
+    let k : all (except (code " ")) w ≡ true = solid-except w (h .0) .0 in
+    rw append-nil (split-last (code " ") w (omega (arith, all-span (except (code " ")) w k)))
+words-parted w (v ∷ ws) h = split-at (code " ") w (v ++ spaced ws) refl (solid-except w (h .0) .0) ∙ ap (λ (vs : List (List ℕ)). w ∷ vs) (words-parted v ws (h .1))
+
+words-heard : (ws : List (List ℕ)) → Every (λ w. solid w ≡ true) ws → drop 1 (split (code " ") (spaced ws)) ≡ ws
+unfolding spaced split
+words-heard [] h = refl
+words-heard (w ∷ ws) h = words-parted w ws h
+
+spaced-except : (ws : List (List ℕ)) → Every (λ w. solid w ≡ true) ws → all (except (code "\n")) (spaced ws) ≡ true
+unfolding spaced all
+spaced-except [] h = refl
+spaced-except (w ∷ ws) h = rw (all-append (except (code "\n")) w (spaced ws), solid-except w (h .0) .1, spaced-except ws (h .1))
+
+-- a mark is told, and is no LF
+mark-told : (b : Bool) → (eqb (mark b) (code "+") ≡ b) × (except (code "\n") (mark b) ≡ true)
+mark-told true = (refl, refl)
+mark-told false = (refl, refl)
+
+-- a line without its LF
+bare : SheetEntry → List ℕ
+bare e = mark (e .starts) ∷ spaced (wordsOf e)
+
+-- the lines are the parts at LF, and nothing follows the last LF
+lines-parted : (es : List SheetEntry) → Every (λ (e : SheetEntry). Heeded (e .name)) es → split (code "\n") (storeOf (map lineOf es)) ≡ map bare es ++ [] ∷ []
+unfolding storeOf lineOf bare all
+lines-parted [] h = unfold split in refl
+lines-parted (e ∷ es) h =
+    ap (λ (l : List ℕ). split (code "\n") (mark (e .starts) ∷ l)) (append-assoc (spaced (wordsOf e)) (bytes "\n") (storeOf (map lineOf es)))
+    ∙ split-at (code "\n") (bare e) (storeOf (map lineOf es)) refl (rw (mark-told (e .starts) .1) (spaced-except (wordsOf e) (h .0 .words)))
+    ∙ ap (λ (ls : List (List ℕ)). bare e ∷ ls) (lines-parted es (h .1))
+
+line-heard : (e : SheetEntry) → Heeded (e .name) → hearLine (bare e) ≡ e
+unfolding bare
+line-heard e h = rw (mark-told (e .starts) .0, words-heard (wordsOf e) (h .words), h .heard)
+
+lines-heard : (es : List SheetEntry) → Every (λ (e : SheetEntry). Heeded (e .name)) es → map hearLine (map bare es) ≡ es
+lines-heard [] h = refl
+lines-heard (e ∷ es) h = ap₂ (λ (l : SheetEntry) (ls : List SheetEntry). l ∷ ls) (line-heard e (h .0)) (lines-heard es (h .1))
+
+pub sheet-heard : (es : List SheetEntry) → Every (λ (e : SheetEntry). Heeded (e .name)) es → hearSheet (storeOf (map lineOf es)) ≡ es
+sheet-heard es h =
+    rw (lines-parted es h, take-at (map bare es) ([] ∷ []) (length (map bare es ++ [] ∷ []) - 1) (simp length-append (omega arith))) (lines-heard es h)

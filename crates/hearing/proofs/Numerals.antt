@@ -1,0 +1,269 @@
+-- The words that numbers are read with: what each of them passes, and which digits they are heard as. Assumes nothing.
+use mathlib.Core.Path.{_≡_, refl, sym, ap, _∙_}
+use mathlib.Core.Bool.{Bool, true, false, cond, _&&_, and-false, and-eq-true-iff}
+use mathlib.Core.Logic.{⊎-elim}
+use mathlib.Core.List.{List, [], _∷_, _++_, map, nil≢cons}
+use Prim.Native.Nat.{ℕ, zero, suc, _+_, _≤_, _<_}
+use Prim.Native.Char.{code}
+use native.Mathlib.Nat.{suc-add, zero-add}
+use native.Mathlib.Omega.{arith}
+use lib.Dec.{leb, ltb, eqb, eqb→eq}
+use lib.ListN.{length, take, drop, getD, length-take, length-drop, length-map}
+use borrow.Author.Tests.{lt-ltb, le-leb, lt-leb, ltb-true}
+use Rattle.lists.specs.Bytes.{same, starts}
+use Rattle.lists.proofs.Recursion.{recur-induct, cond-elim}
+use Rattle.lists.proofs.Sets.{le-or-lt}
+use Rattle.lists.proofs.Table.{below}
+use Rattle.lexicon.proofs.Laws.{lexicon}
+use Rattle.units.specs.Units.{before}
+use Rattle.shapes.specs.Shapes.{isDigits, isLeadingZeroDigits}
+use Rattle.numerals.specs.Words.{Word, one, teen, ten, hundred, scale, spell, spelled}
+use Rattle.numerals.specs.Cardinal.{clean, pair, scaleFor, join, splitAt, byScale, cardinalStep, cardinalFew, cardinalOf, cardinal, digits}
+use Rattle.numerals.specs.Value.{value, valueFrom}
+use Rattle.numerals.proofs.Cardinal.{split-parts, cardinal-1}
+use Rattle.numerals.proofs.Every.{Every, every-append, every-take, every-drop, every-map}
+use Rattle.numerals.proofs.Forms.{Digits, clean-digits}
+use Rattle.numerals.proofs.Value.{cardinal-names}
+use Rattle.clear.specs.Clear.{plain}
+use Rattle.hearing.specs.Hear.{counted, vocabulary, knowIn, know, known, shown, digitOf, isOne, twoOnes, hearDigits}
+use Rattle.hearing.proofs.Shown.{plain-digits, plain-values, shown-plain, clean-length, inked-clean}
+
+-- a word that numbers are read with
+abbrev pub Numeral : Word → Type 0
+Numeral w = (k : ℕ) × (k < length vocabulary) × (w ≡ getD vocabulary k hundred)
+
+-- every word of a list passes p
+abbrev pub allWords : (Word → Bool) → List Word → Bool
+allWords p [] = true
+allWords p (w ∷ ws) = p w && allWords p ws
+
+all-at : (p : Word → Bool) (ws : List Word) (k : ℕ) → allWords p ws ≡ true → k < length ws → p (getD ws k hundred) ≡ true
+all-at p [] k h l = absurd (omega arith)
+all-at p (w ∷ ws) zero h l = and-eq-true-iff (p w) (allWords p ws) .0 h .0
+all-at p (w ∷ ws) (suc k) h l = all-at p ws k (and-eq-true-iff (p w) (allWords p ws) .0 h .1) (omega arith)
+
+-- what the vocabulary passes, each of its words passes: a computed test is a rule
+pub numeral-test : (p : Word → Bool) → allWords p vocabulary ≡ true → (w : Word) → Numeral w → p w ≡ true
+numeral-test p h w n = rw (n .2) (all-at p vocabulary (n .0) h (n .1))
+
+-- ---- the words of a cardinal number
+
+-- counted words, in front of others
+counted-in : (f : ℕ → Word) (n k i : ℕ) (r : List Word) → i < k → getD (counted f n k ++ r) i hundred ≡ f (n + i)
+unfolding counted
+counted-in f n zero i r h = absurd (omega arith)
+counted-in f n (suc k) zero r h = ap f (omega arith)
+counted-in f n (suc k) (suc i) r h = counted-in f (suc n) k i r (omega arith) ∙ ap f (omega arith)
+
+counted-past : (f : ℕ → Word) (n k i : ℕ) (r : List Word) → getD (counted f n k ++ r) (k + i) hundred ≡ getD r i hundred
+unfolding counted
+counted-past f n zero i r = rw zero-add
+counted-past f n (suc k) i r = rw suc-add (counted-past f (suc n) k i r)
+
+abbrev fromTens : List Word
+fromTens = counted ten 1 9 ++ (hundred ∷ counted scale 1 3)
+
+abbrev fromTeens : List Word
+fromTeens = counted teen 1 9 ++ fromTens
+
+one-in : (d : ℕ) → d < 10 → Numeral (one d)
+unfolding vocabulary counted
+one-in d h = (d, omega arith, sym (counted-in one 0 10 d fromTeens h ∙ ap one (zero-add d)))
+
+teen-in : (d : ℕ) → suc d < 10 → Numeral (teen (suc d))
+unfolding vocabulary counted
+teen-in d h = (10 + d, omega arith, sym (counted-past one 0 10 d fromTeens ∙ counted-in teen 1 9 d fromTens (omega arith) ∙ ap teen (omega arith)))
+
+ten-in : (d : ℕ) → suc d < 10 → Numeral (ten (suc d))
+unfolding vocabulary counted
+ten-in d h =
+    let e : 10 + (9 + d) ≡ 19 + d = omega arith in
+    (19 + d, omega arith, sym (rw e at (counted-past one 0 10 (9 + d) fromTeens) ∙ counted-past teen 1 9 d fromTens ∙ counted-in ten 1 9 d (hundred ∷ counted scale 1 3) (omega arith) ∙ ap ten (omega arith)))
+
+hundred-in : Numeral hundred
+unfolding vocabulary counted
+hundred-in = (28, omega arith, refl)
+
+scale-in : (n : ℕ) → Numeral (scale (scaleFor n))
+unfolding vocabulary counted
+scale-in n =
+    cond-elim (λ k. Numeral (scale k)) (ltb 9 n) (λ e. (31, omega arith, refl))
+    (λ e. cond-elim (λ k. Numeral (scale k)) (ltb 6 n) (λ f. (30, omega arith, refl)) (λ f. (29, omega arith, refl)))
+
+pair-in : (a b : ℕ) → a < 10 → b < 10 → Every Numeral (pair a b)
+unfolding pair
+pair-in zero zero h k = tt
+pair-in zero (suc b) h k = (one-in (suc b) k, tt)
+pair-in (suc a) zero h k = (ten-in a h, tt)
+pair-in (suc zero) (suc b) h k = (teen-in b k, tt)
+pair-in (suc (suc a)) (suc b) h k = (ten-in (suc a) h, (one-in (suc b) k, tt))
+
+join-in : (l : List Word) (w : Word) (r : List Word) → Every Numeral l → Numeral w → Every Numeral r → Every Numeral (join l w r)
+unfolding join
+join-in [] w r p q h = h
+join-in (v ∷ l) w r p q h = every-append Numeral (v ∷ l) (w ∷ r) p (q, h)
+
+few-numerals : (s : List ℕ) → Digits s → Every Numeral (cardinalFew s)
+unfolding cardinalFew cardinalStep byScale
+few-numerals = recur-induct (λ s ws. Digits s → Every Numeral ws) [] cardinalStep step
+  where
+    step : (f : List ℕ → List Word) (s : List ℕ) → ((t : List ℕ) → length t < length s → Digits t → Every Numeral (f t)) → Digits s → Every Numeral (cardinalStep f s)
+    step f [] h d = tt
+    step f (a ∷ []) h d = (one-in a (d .0), tt)
+    step f (a ∷ b ∷ []) h d = pair-in a b (d .0) (d .1 .0)
+    step f (a ∷ b ∷ c ∷ []) h d = cond-elim (Every Numeral) (eqb a 0) (λ e. h (b ∷ c ∷ []) (omega arith) (d .1)) (λ e. (one-in a (d .0), (hundred-in, pair-in b c (d .1 .0) (d .1 .1 .0))))
+    step f (a ∷ b ∷ c ∷ e ∷ s) h d =
+        let t = a ∷ b ∷ c ∷ e ∷ s in
+        let n = splitAt (length t) in
+        let p = split-parts (length t) (omega arith) in
+        join-in (f (take n t)) (scale (scaleFor (length t))) (f (drop n t))
+        (h (take n t) (omega (arith, length-take n t, p .left)) (every-take (λ d. d < 10) n t d))
+        (scale-in (length t))
+        (h (drop n t) (omega (arith, length-drop n t, p .whole, p .right)) (every-drop (λ d. d < 10) n t d))
+
+ones-numerals : (s : List ℕ) → Digits s → Every Numeral (map one s)
+ones-numerals = every-map (λ d. d < 10) Numeral one one-in
+
+-- a cardinal number has no other words, nor have digits
+pub cardinal-numerals : (s : List ℕ) → Every Numeral (cardinal s)
+unfolding cardinal cardinalOf
+cardinal-numerals s = cond-elim (Every Numeral) (leb (length (clean s)) 12) (λ e. few-numerals (clean s) (clean-digits s)) (λ e. ones-numerals (clean s) (clean-digits s))
+
+pub digits-numerals : (s : List ℕ) → Every Numeral (digits s)
+unfolding digits
+digits-numerals s = ones-numerals (clean s) (clean-digits s)
+
+-- ---- words that are known
+
+-- the first word that is spelled so
+know-first : (vs : List Word) (w : List ℕ) → before w (map spell vs) < length vs → knowIn vs w ≡ getD vs (before w (map spell vs)) hundred
+unfolding knowIn before
+know-first [] w h = absurd (omega arith)
+know-first (v ∷ vs) w h = go (same (spell v) w) h (know-first vs w)
+  where
+    go : (t : Bool) → cond t 0 (suc (before w (map spell vs))) < suc (length vs) → (before w (map spell vs) < length vs → knowIn vs w ≡ getD vs (before w (map spell vs)) hundred)
+        → cond t v (knowIn vs w) ≡ getD (v ∷ vs) (cond t 0 (suc (before w (map spell vs)))) hundred
+    go true h r = refl
+    go false h r = r (omega arith)
+
+-- no two words of the vocabulary are spelled the same
+first : ℕ → Bool
+first k = eqb (before (spell (getD vocabulary k hundred)) (map spell vocabulary)) k
+
+-- a number's word is known by its spelling, and so are words one after another
+pub numeral-known : (w : Word) → Numeral w → know (spell w) ≡ w
+unfolding first know vocabulary counted before spell lexicon
+numeral-known w n =
+    let k = n .0 in
+    let e : before (spell (getD vocabulary k hundred)) (map spell vocabulary) ≡ k = eqb→eq _ _ (below first 32 tt k (n .1)) in
+    rw (n .2, know-first vocabulary (spell (getD vocabulary k hundred)) (rw e (n .1)), e)
+
+pub every-known : (ws : List Word) → Every (λ w. know (spell w) ≡ w) ws → known (spelled ws) ≡ ws
+unfolding spelled
+every-known [] h = refl
+every-known (w ∷ ws) h = rw (h .0, every-known ws (h .1))
+
+-- ---- digits that are heard
+
+-- digit by digit
+digits-back : (d : List ℕ) → map digitOf (map one d) ≡ d
+unfolding digitOf
+digits-back [] = refl
+digits-back (a ∷ d) = ap (λ (r : List ℕ). a ∷ r) (digits-back d)
+
+each-two : (d : List ℕ) → Digits d → 1 < length d → twoOnes (map one d) ≡ true
+unfolding twoOnes digitOf
+each-two [] t l = absurd (omega arith)
+each-two (a ∷ []) t l = absurd (omega arith)
+each-two (a ∷ b ∷ d) t l = rw (lt-ltb a 10 (t .0), lt-ltb b 10 (t .1 .0))
+
+hear-each : (s : List ℕ) → isDigits s ≡ true → 1 < length s → hearDigits (digits s) ≡ s
+unfolding hearDigits digits
+hear-each s h l = rw (each-two (clean s) (clean-digits s) (rw (clean-length s h) l), digits-back (clean s)) (inked-clean s h)
+
+-- a number that is read by groups does not start with two words of ONES
+pair-not : (a b : ℕ) → twoOnes (pair a b) ≡ false
+unfolding twoOnes pair digitOf
+pair-not zero zero = refl
+pair-not zero (suc b) = refl
+pair-not (suc a) zero = refl
+pair-not (suc zero) (suc b) = refl
+pair-not (suc (suc a)) (suc b) = refl
+
+join-not : (l : List Word) (k : ℕ) (r : List Word) → twoOnes l ≡ false → twoOnes r ≡ false → twoOnes (join l (scale k) r) ≡ false
+unfolding twoOnes join digitOf
+join-not [] k r p q = q
+join-not (v ∷ []) k r p q = and-false (isOne v)
+join-not (v ∷ u ∷ l) k r p q = p
+
+few-not : (s : List ℕ) → twoOnes (cardinalFew s) ≡ false
+unfolding cardinalFew cardinalStep byScale twoOnes digitOf
+few-not = recur-induct (λ s ws. twoOnes ws ≡ false) [] cardinalStep step
+  where
+    step : (f : List ℕ → List Word) (s : List ℕ) → ((t : List ℕ) → length t < length s → twoOnes (f t) ≡ false) → twoOnes (cardinalStep f s) ≡ false
+    step f [] h = refl
+    step f (a ∷ []) h = refl
+    step f (a ∷ b ∷ []) h = pair-not a b
+    step f (a ∷ b ∷ c ∷ []) h = cond-elim (λ (ws : List Word). twoOnes ws ≡ false) (eqb a 0) (λ e. h (b ∷ c ∷ []) (omega arith)) (λ e. and-false (ltb a 10))
+    step f (a ∷ b ∷ c ∷ e ∷ s) h =
+        let t = a ∷ b ∷ c ∷ e ∷ s in
+        let n = splitAt (length t) in
+        let p = split-parts (length t) (omega arith) in
+        join-not (f (take n t)) (scaleFor (length t)) (f (drop n t))
+        (h (take n t) (omega (arith, length-take n t, p .left)))
+        (h (drop n t) (omega (arith, length-drop n t, p .whole, p .right)))
+
+few : (s : List ℕ) → length (clean s) ≤ 12 → cardinal s ≡ cardinalFew (clean s)
+unfolding cardinal cardinalOf
+few s h = rw (le-leb (length (clean s)) 12 h)
+
+many : (s : List ℕ) → 12 < length (clean s) → cardinal s ≡ digits s
+unfolding cardinal cardinalOf digits
+many s h = rw (lt-leb (length (clean s)) 12 h)
+
+-- the digits of the value of a number's words
+shown-value : (s : List ℕ) → plain s ≡ true → length (clean s) ≤ 12 → shown 11 (value (cardinal s)) [] ≡ clean s
+shown-value s h l = rw (cardinal-names s l) (shown-plain (clean s) 11 (clean-digits s) (plain-values s h) l)
+
+-- 0 is named by its own word alone
+pub zero-named : (s : List ℕ) → plain s ≡ true → length (clean s) ≤ 12 → value (cardinal s) ≡ 0 → cardinal s ≡ one 0 ∷ []
+unfolding shown
+zero-named s h l z =
+    let d : 0 ∷ [] ≡ clean s = rw z at (shown-value s h l) in
+    few s l ∙ rw (← d) (cardinal-1 (0 ∷ []) refl)
+
+pub many-length : (s : List ℕ) → 12 < length (clean s) → length (cardinal s) ≡ length (clean s)
+unfolding digits
+many-length s l = ap length (many s l) ∙ length-map (clean s) one
+
+not-silent : (s : List ℕ) → plain s ≡ true → cardinal s ≡ [] → ⊥
+unfolding value valueFrom
+not-silent s h e =
+    ⊎-elim
+    (λ (l : length (clean s) ≤ 12). nil≢cons (sym e ∙ zero-named s h l (rw e)))
+    (λ (l : 12 < length (clean s)). omega (arith, many-length s l, ap length e))
+    (le-or-lt (length (clean s)) 12)
+
+-- plain digits have a word, and are heard from their words; so are digits with a leading zero
+pub plain-some : (s : List ℕ) → plain s ≡ true → (w : Word) × (ws : List Word) × (cardinal s ≡ w ∷ ws)
+plain-some s h = go (cardinal s) refl
+  where
+    go : (ws : List Word) → cardinal s ≡ ws → (w : Word) × (ws : List Word) × (cardinal s ≡ w ∷ ws)
+    go [] e = absurd (not-silent s h e)
+    go (w ∷ ws) e = (w, ws, e)
+
+pub hear-plain : (s : List ℕ) → plain s ≡ true → hearDigits (cardinal s) ≡ s
+unfolding hearDigits
+hear-plain s h =
+    ⊎-elim
+    (λ (l : length (clean s) ≤ 12). rw (ap twoOnes (few s l) ∙ few-not (clean s), shown-value s h l) (inked-clean s i))
+    (λ (l : 12 < length (clean s)). ap hearDigits (many s l) ∙ hear-each s i (omega (arith, clean-length s i)))
+    (le-or-lt (length (clean s)) 12)
+  where
+    i : isDigits s ≡ true
+    i = plain-digits s h
+
+pub hear-leading : (s : List ℕ) → isLeadingZeroDigits s ≡ true → hearDigits (digits s) ≡ s
+hear-leading s h =
+    let k = and-eq-true-iff (ltb 1 (length s) && starts (code "0") s) (isDigits s) .0 h in
+    hear-each s (k .1) (ltb-true 1 (length s) (and-eq-true-iff (ltb 1 (length s)) (starts (code "0") s) .0 (k .0) .0))
