@@ -2,19 +2,17 @@
 use mathlib.Core.Path.{_≡_, refl, sym, ap, _∙_}
 use mathlib.Core.Bool.{Bool, true, false, cond, not, _&&_, and-false, and-eq-true-iff, or-false, false≢true}
 use mathlib.Core.List.{List, [], _∷_, _++_, map}
-use Prim.Native.Nat.{ℕ, _+_, _-_, _<_, _≤_}
+use Prim.Native.Nat.{ℕ, _+_, _-_, _<_}
 use Prim.Native.Char.{code}
 use native.Mathlib.Omega.{arith}
-use lib.Dec.{eqb}
+use lib.Dec.{eqb, leb}
 use lib.ListN.{length, take, drop, getD}
 use lib.Seq.{drop-cons}
 use native.Mathlib.Numerals.{add-one}
-use mathlib.Core.Logic.{⊎-elim}
-use borrow.Author.Tests.{ltb-true, eq-eqb, ne-eqb, lt-leb, not-true}
+use borrow.Author.Tests.{ltb-true, leb-true, eq-eqb, ne-eqb, lt-leb, not-true}
 use Rattle.lists.specs.Bytes.{keep, all, ends}
 use Rattle.lists.specs.Classes.{except, letter, continuation, digitOrComma}
 use Rattle.units.specs.Units.{unitIndex, isUnit, unitWord, wordNumbers, unitAbbreviations}
-use Rattle.lists.proofs.Sets.{le-or-lt}
 use Rattle.lists.proofs.Recursion.{cond-elim}
 use Rattle.units.proofs.Laws.{word-row, rows}
 use Rattle.shapes.specs.Shapes.{hasUnit, unitAt, unitPart, isDottedAbbrev}
@@ -27,19 +25,19 @@ use Rattle.sink.specs.Sink.{Sink, emitAll}
 use Rattle.numerals.specs.Words.{Word, other, spelled}
 use Rattle.numerals.proofs.Digits.{spelled-append}
 use Rattle.readings.specs.Letters.{letterWord, letters, chars}
-use Rattle.rows.proofs.Taken.{dottedByte, dotted-bytes}
+use Rattle.rows.proofs.Taken.{untaken, dottedByte, dotted-bytes}
 use Rattle.rows.specs.Rows.{Reading, by, readStep, read}
 use Rattle.rows.proofs.Laws.{read-eq}
 use Rattle.reader.specs.Walk.{Says, initials, fromUnit, fromLeadingZero, fromMeridiem, fromEmpty}
 use Rattle.rows.specs.declared.Row.{Row}
 
--- a row's words are said, and the row answered
-pub says-row : (g : Reading) (row : Row) (ws : List Word) → g ≡ by row ws → (σ : Sink) {τ : Sink} {q : Row} → q ≡ row → τ ≡ emitAll (spelled ws) σ → Says g σ τ q
-says-row g row ws e σ p d = record { row = p ∙ sym (ap (λ (r : Reading). r .row) e); said = d ∙ sym (ap (λ (r : Reading). emitAll (spelled (r .words)) σ) e) }
-
--- the same of what another function said
+-- a reading is said where an equal one is
 pub says-same : (g h : Reading) → g ≡ h → (σ : Sink) {τ : Sink} {q : Row} → Says h σ τ q → Says g σ τ q
 says-same g h e σ k = record { row = k .row ∙ sym (ap (λ (r : Reading). r .row) e); said = k .said ∙ sym (ap (λ (r : Reading). emitAll (spelled (r .words)) σ) e) }
+
+-- a row's words are said, and the row answered
+pub says-row : (g : Reading) (row : Row) (ws : List Word) → g ≡ by row ws → (σ : Sink) {τ : Sink} {q : Row} → q ≡ row → τ ≡ emitAll (spelled ws) σ → Says g σ τ q
+says-row g row ws e σ p d = says-same g (by row ws) e σ (record { row = p; said = d })
 
 -- a name that does not end in % goes through the other rows
 pub leaf-read : (s : List ℕ) → ends (code "%") s ≡ false → read s ≡ fromEmpty s
@@ -48,36 +46,18 @@ leaf-read s e = read-eq s ∙ rw e
 
 -- ---- a unit
 
-some-part : (s : List ℕ) → (length (unitPart s) ≡ 0 → ⊥) → hasUnit s ≡ true
-some-part s n = go (hasUnit s) refl
-  where
-    go : (b : Bool) → hasUnit s ≡ b → hasUnit s ≡ true
-    go true e = e
-    go false e = absurd (n (rw e))
-
-no-part : (s : List ℕ) → length (unitPart s) ≡ 0 → hasUnit s ≡ false
-no-part s n = go (hasUnit s) refl
-  where
-    go : (b : Bool) → hasUnit s ≡ b → hasUnit s ≡ false
-    go false e = e
-    go true e = absurd (unit-some s e (rw e at n))
-
 pub unit-there : (s : List ℕ) {u : List ℕ} → u ≡ unitPart s → (length u ≡ 0 → ⊥) → hasUnit s ≡ true
-unit-there s e n = some-part s (rw e at n)
+unit-there s e n = go (hasUnit s) refl (rw e at n)
+  where
+    go : (b : Bool) → hasUnit s ≡ b → (length (unitPart s) ≡ 0 → ⊥) → hasUnit s ≡ true
+    go true e n = e
+    go false e n = absurd (n (rw e))
 
 pub unit-missing : (s : List ℕ) {u : List ℕ} → u ≡ unitPart s → length u ≡ 0 → hasUnit s ≡ false
-unit-missing s e n = no-part s (rw e at n)
-
-and-left : (a b : Bool) → (a && b) ≡ true → a ≡ true
-and-left true b h = refl
-and-left false b h = h
-
-and-right : (a b : Bool) → (a && b) ≡ true → b ≡ true
-and-right true b h = h
-and-right false b h = cc
+unit-missing s e n = untaken (hasUnit s) (λ k. unit-some s k (rw (e, k) at n))
 
 is-unit : (s : List ℕ) → hasUnit s ≡ true → isUnit (unitPart s) ≡ true
-is-unit s e = rw e (unfold hasUnit in and-right (not (eqb (unitAt s) 0) && all digitOrComma (take (unitAt s) s)) (isUnit (drop (unitAt s) s)) e)
+is-unit s e = rw e (unfold hasUnit in and-eq-true-iff (not (eqb (unitAt s) 0) && all digitOrComma (take (unitAt s) s)) (isUnit (drop (unitAt s) s)) .0 e .1)
 
 -- the lexicon's word of a unit is the unit's
 pub unit-word : (s : List ℕ) {u : List ℕ} {i k : ℕ} → u ≡ unitPart s → (length u ≡ 0 → ⊥) → i ≡ unitIndex u → k ≡ getD wordNumbers i 0 → wordOf k ≡ unitWord (unitPart s)
@@ -140,21 +120,20 @@ letter-initial b n = rw (ne-eqb b (code ".") n)
 
 -- a text of letters has a character a byte
 letter-alone : (b : ℕ) → letter b ≡ true → continuation b ≡ false
-letter-alone b e =
-    ⊎-elim (λ (h : 128 ≤ b). absurd (false≢true (sym (simp and-false refl ∙ refl) ∙ rw (lt-leb b (code "Z") (omega arith), lt-leb b (code "z") (omega arith)) at e)))
-    (λ (h : b < 128). rw (lt-leb 128 b h))
-    (le-or-lt 128 b)
+letter-alone b e = untaken (continuation b) (λ k.
+    let h = leb-true 0x80 b (and-eq-true-iff (leb 0x80 b) (leb b 0xBF) .0 k .0) in
+    false≢true (rw (lt-leb b (code "Z") (omega arith), lt-leb b (code "z") (omega arith), and-false (leb (code "A") b), and-false (leb (code "a") b)) at e))
 
 alone : (s : List ℕ) → all letter s ≡ true → continuation (getD s 0 0) ≡ false
 unfolding all
 alone [] e = refl
-alone (b ∷ s) e = letter-alone b (and-left (letter b) (all letter s) e)
+alone (b ∷ s) e = letter-alone b (and-eq-true-iff (letter b) (all letter s) .0 e .0)
 
 letter-chars : (s : List ℕ) → all letter s ≡ true → letters s ≡ map (λ b. other (letterWord (b ∷ []))) s
 unfolding letters chars all
 letter-chars [] e = refl
 letter-chars (b ∷ s) e =
-    let t = and-right (letter b) (all letter s) e in
+    let t = and-eq-true-iff (letter b) (all letter s) .0 e .1 in
     rw (alone s t) (ap (λ (ws : List Word). other (letterWord (b ∷ [])) ∷ ws) (letter-chars s t))
 
 -- a byte of a dotted abbreviation that is no point is a letter

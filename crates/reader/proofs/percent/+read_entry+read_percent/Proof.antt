@@ -6,11 +6,11 @@ use borrow.Author.Needs.{needs}
 use Rattle.readings.proofs.Said.{says-more}
 use Rattle.rows.specs.Rows.{perCent, read}
 use Rattle.rows.specs.declared.Row.the-variants.{Percent}
-use Rattle.rows.proofs.Laws.{ends-some, shorter}
+use Rattle.rows.proofs.Laws.{ends-some}
 use Rattle.rows.proofs.Percent.{percent-read}
 use Rattle.reader.proofs.LeafLaws.{says-row, says-same, leaf-read}
 use Prim.Native.Nat.{ℕ, _+_, _*_, _-_, _<_}
-use lib.ListN.{length, take}
+use lib.ListN.{length, take, length-take}
 use borrow.Fn.Kinds.{In}
 use borrow.Fn.PlainCycle.{Measures, is, falls, and}
 use Rattle.reader.proofs.percent.read_entry.Reads as read-entry
@@ -86,7 +86,7 @@ pub +read-entry+read-percent-spec : {M : Type 1} → statement M
     (read-percent-at t)
     read-percent.Post
     (λ c κs. search needs)
-    (λ c κs. (omega (arith, ap length (c .before .before .without-back .ensures), shorter (c .before .before .before .before .before .before .args .name .now) (c .before .before .before .before .before .before .pre .1)), tt))
+    (λ c κs. (omega (arith, simp length-take at (ap length (c .before .before .without-back .ensures)), c .before .before .before .before .before .before .pre .1), tt))
     (λ c κs. search needs)
     (λ c κs. search needs)
     (λ c. search needs)
