@@ -1,6 +1,6 @@
 //! Times each call of the static library beside the Rust's from_utf8 and function, on the same bytes.
 //!
-//! bench [shapes] [numbers] [tokens]: all three unless some are named. Writes Markdown tables. A time is the median of the
+//! bench [shapes] [numbers] [tokens] [calls]: all four unless some are named. Writes Markdown tables. A time is the median of the
 //! samples; the two sides take turns at each sample.
 //!
 //! Safety of the calls: each gets a text, and some get buffers, that live through the call and overlap nothing.
@@ -8,6 +8,7 @@
 #[allow(dead_code)]
 #[path = "../tests/answers.rs"]
 mod answers;
+mod call_rows;
 mod inputs;
 #[allow(dead_code)]
 #[path = "../tests/linear.rs"]
@@ -16,6 +17,9 @@ mod number_rows;
 #[allow(dead_code)]
 #[path = "../tests/readings.rs"]
 mod readings;
+#[allow(dead_code)]
+#[path = "../tests/rows.rs"]
+mod rows;
 mod shape_rows;
 mod timing;
 mod token_rows;
@@ -55,6 +59,14 @@ fn main() {
         token_rows::doubling();
         println!();
         table(&token_rows::step_rows());
+        println!();
+    }
+    if wanted("calls") {
+        table(&call_rows::rows());
+        println!();
+        call_rows::doubling();
+        println!();
+        table(&call_rows::entry_rows());
     }
 }
 

@@ -1,5 +1,5 @@
 #!/usr/bin/env bash
-# Times both sides and writes Markdown tables: bench/run.sh [shapes] [numbers] [tokens]
+# Times both sides and writes Markdown tables: bench/run.sh [shapes] [numbers] [tokens] [calls]
 set -euo pipefail
 cd "$(dirname "$0")/.."
 

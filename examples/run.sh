@@ -1,14 +1,16 @@
 #!/usr/bin/env bash
-# Builds the C example with gcc's sanitizers and runs it: examples/run.sh [NAME..], or --sheet FILE
+# Builds a C example with gcc's sanitizers and runs it: examples/run.sh voice_unit FILE [NUMBER], or take_apart [NAME.. | --sheet FILE]
 set -euo pipefail
 from=$PWD
 cd "$(dirname "$0")/.."
 
+example=${1:?"which example: voice_unit or take_apart"}
+shift
 tests/library.sh
 mkdir -p target/examples
 gcc -std=c99 -pedantic -Wall -Wextra -Werror -g -fsanitize=address,undefined -fno-sanitize-recover=all \
-    -Iinclude -o target/examples/voice_unit examples/voice_unit.c target/staticlib/libvoice.a
+    -Iinclude -o "target/examples/$example" "examples/$example.c" target/staticlib/libvoice.a
 
-program=$PWD/target/examples/voice_unit
+program=$PWD/target/examples/$example
 cd "$from"
 "$program" "$@"

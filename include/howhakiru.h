@@ -2,6 +2,14 @@
  *
  * Link target/staticlib/libvoice.a, which `rt staticlib voice` writes for x86-64 Linux. Of the C library it needs memcpy alone.
  *
+ *     const char *sheet = "Bar 12 at 9:30. Rack 5mm (21st)\n"; // seven entries
+ *     uint8_t line[HWK_CALL_MOST(32)];
+ *     for (size_t i = 0;; i++) {
+ *         hwk_entry called = hwk_call_entry((const uint8_t *)sheet, strlen(sheet), i, line, sizeof line);
+ *         if (called.refusal != HWK_ACCEPTED) break;     // HWK_NO_SUCH_ENTRY after the last one
+ *         fwrite(line, 1, called.bytes, stdout);         // "+ bar", "- twelve", "- at", "- nine thirty", ..
+ *     }
+ *
  *     const char *name = "9:30";
  *     hwk_verdict v = hwk_is_time((const uint8_t *)name, strlen(name));
  *     if (v.refusal == HWK_ACCEPTED && v.yes) { .. }
@@ -12,11 +20,11 @@
  *     for (size_t i = 0; i < read.words; i++) // none where the call is refused
  *         printf("%.*s\n", (int)hwk_word_len(table, i), (const char *)store + hwk_word_at(table, i));
  *
- *     const char *sheet = "Rack 5mm."; // two tokens: Rack, and 5mm with a point
+ *     const char *text = "Rack 5mm."; // two tokens: Rack, and 5mm with a point
  *     uint8_t tokens[HWK_TOKENS_TABLE_MOST(9)];
- *     size_t count = hwk_tokenize((const uint8_t *)sheet, 9, tokens, sizeof tokens).tokens;
+ *     size_t count = hwk_tokenize((const uint8_t *)text, 9, tokens, sizeof tokens).tokens;
  *     for (size_t i = 0; i < count; i++)
- *         printf("%.*s\n", (int)hwk_token_len(tokens, i, HWK_NAME), sheet + hwk_token_at(tokens, i, HWK_NAME));
+ *         printf("%.*s\n", (int)hwk_token_len(tokens, i, HWK_NAME), text + hwk_token_at(tokens, i, HWK_NAME));
  *
  * What holds for every call
  * -------------------------
@@ -30,8 +38,10 @@
  * state that it was given), and leaves every lent buffer as it was. In an accepted call the bytes of a buffer past the result
  * stay as they were.
  *
- * Nothing is allocated, and no call goes deeper for a longer text: a number of up to 12 digits is read by a function that
- * calls itself on fewer digits, five deep at most, and nothing else recurses. Each call needs less than 4 KiB of stack.
+ * Nothing is allocated. A number of up to 12 digits is read by a function that calls itself on fewer digits, five deep at most,
+ * and an entry that ends in % by two functions that call each other, once for each % at its end; nothing else recurses. So
+ * hwk_call_entry and hwk_call_sheet need 512 KiB of stack at most, for a name of 4,096 %, and less than @@ without such
+ * names; every other call needs less than 4 KiB.
  * (Where a program is linked dynamically and bound lazily, its first call of memcpy, ours or another, needs the dynamic
  * linker's own few KiB on top.) Digits, letters and cases are ASCII's.
  */
@@ -48,6 +58,9 @@ extern "C" {
 /* The most bytes of a text. */
 #define HWK_TEXT_LIMIT 65536
 
+/* The most bytes of a name that is called. */
+#define HWK_NAME_LIMIT 4096
+
 /* The most bytes that hwk_unit_word writes. */
 #define HWK_UNIT_WORD_MOST 11
 
@@ -55,8 +68,8 @@ extern "C" {
 #define HWK_ACCEPTED 0
 #define HWK_TEXT_TOO_LONG 1    /* a text has more than HWK_TEXT_LIMIT bytes */
 #define HWK_NOT_UTF8 2         /* a text is not UTF-8 (RFC 3629) */
-#define HWK_NO_SUCH_ENTRY 3    /* an entry's number is not below the count of entries; no call below answers it */
-#define HWK_NAME_TOO_LONG 4    /* a name to be called is too long; no call below answers it */
+#define HWK_NO_SUCH_ENTRY 3    /* hwk_call_entry: the entry's number is not below the count of entries */
+#define HWK_NAME_TOO_LONG 4    /* hwk_call_entry, hwk_call_sheet: an entry to be called has a name of more than HWK_NAME_LIMIT bytes */
 #define HWK_BUFFER_TOO_SHORT 5 /* a lent buffer is smaller than the whole result */
 
 /* Shape verdicts: does the whole text have the shape? Each reads `s`, `s_len` bytes, writes nothing, and refuses with
@@ -329,6 +342,71 @@ typedef struct hwk_step {
  * with 1, but for the first. The texts may be any others, too. */
 hwk_step hwk_push(hwk_state state, const uint8_t *whitespace, size_t whitespace_len, const uint8_t *name, size_t name_len,
                   const uint8_t *punctuation, size_t punctuation_len);
+
+/* The call sheet
+ * --------------
+ * A sheet's entries are its tokens, numbered from 0; what is called of an entry is its name. An entry makes one line: "+" if it
+ * starts a sentence, else "-"; then a space and the word for each word; then LF. The first row that takes the name gives its
+ * words:
+ *    1  an empty name                     no words
+ *    2  hwk_is_dotted_abbrev              hwk_letters of the name without its points: "U.S." is u s
+ *    3  hwk_is_comma_int                  hwk_cardinal
+ *    4  hwk_is_time                       hwk_cardinal of the hour; then, unless it is "00", hwk_year of the minute
+ *    5  hwk_split_time_meridiem           the same, then hwk_letters of the meridiem: "9:30am" is nine thirty _a m
+ *    6  hwk_is_leading_zero_digits        hwk_digits
+ *    7  hwk_is_digits                     hwk_cardinal
+ *    8  hwk_is_double                     hwk_real
+ *    9  hwk_is_ordinal                    hwk_ordinal of the name without its last two bytes
+ *   10  a name that ends in %             what stands before the sign, from row 1 on; then per cent
+ *   11  hwk_split_unit                    hwk_cardinal of the number, then hwk_unit_word of the unit
+ *   12  any other                         the name as one word, A to Z in lower case
+ * A line may have no words: an empty name, "00:00", "000,000". */
+typedef struct hwk_entry {
+    uint8_t refusal; /* HWK_ACCEPTED or a refusal's number; then every field below is 0 */
+    uint8_t row;     /* the row that took the name, 1 to 12 */
+    uint8_t sign;    /* in row 8 HWK_PLUS, or HWK_MINUS where the name starts with a minus; else 0 */
+    size_t words;    /* how many words the line has */
+    size_t bytes;    /* how many bytes the line has, its LF included, at the front of `out` */
+} hwk_entry;
+
+#define HWK_PLUS 1
+#define HWK_MINUS 2
+
+/* Room for the call of every sheet of up to `len` bytes, and so for every line of it: proved, and on the ample side. A call that
+ * is lent so much writes at once; one that is lent less measures first. */
+#define HWK_CALL_MOST(len) (32 * (size_t)(len) + 32)
+
+/* Calls entry `number` of the sheet: writes its line to the front of `out`. Refuses with HWK_TEXT_TOO_LONG, HWK_NOT_UTF8,
+ * HWK_NO_SUCH_ENTRY, HWK_NAME_TOO_LONG where this entry's name is too long, whatever the others are, and HWK_BUFFER_TOO_SHORT
+ * where `out` is shorter than the line. The sheet is walked from its start, so an entry far behind costs more: to call all of
+ * them at once, call the sheet. */
+hwk_entry hwk_call_entry(const uint8_t *s, size_t s_len, size_t number, uint8_t *out, size_t out_len);
+
+typedef struct hwk_sheet {
+    uint8_t refusal; /* HWK_ACCEPTED or a refusal's number; then every field below is 0 */
+    size_t tokens;   /* how many entries the sheet has, and so how many lines */
+    size_t words;    /* how many words all lines have */
+    size_t bytes;    /* how many bytes all lines have, at the front of `out` */
+} hwk_sheet;
+
+/* Calls the whole sheet: writes the lines of all entries, in order and with nothing between, to the front of `out`. Refuses with
+ * HWK_TEXT_TOO_LONG, HWK_NOT_UTF8, HWK_NAME_TOO_LONG where any name is too long, and HWK_BUFFER_TOO_SHORT where `out` is shorter
+ * than all lines. A sheet without entries, the empty one among them, has no lines and fits an empty buffer. */
+hwk_sheet hwk_call_sheet(const uint8_t *s, size_t s_len, uint8_t *out, size_t out_len);
+
+/* Is the name a clear one? Proved: two sheets of clear entries alone that are called have the same call sheet exactly when they
+ * have the same names in the same order and sentences that start at the same entries. Clear are, where "plain" digits are "0" or
+ * have no 0 in front:
+ *   one or more digits; or a minus or none, plain digits, a point with digits or none, an e with a sign or none and plain digits
+ *   or none; either of these with one % behind it
+ *   a plain hour of 1 or 2 digits, a colon, and a minute of 01 to 59; or of 00 to 59 and then am or pm
+ *   plain digits and their right suffix: "1st", "11th", "22nd"
+ *   plain digits and one of  LB ft kg km cm mm ml oz hz KHz MHz GHz KB GB MB TB
+ *   two or more capitals with single points between: "A.B"
+ *   two or more letters a to z, but no word of the tables of numbers: "rack", "to", "hundred", but not "one", "first", "thousand"
+ * Another entry may sound like one of these: "9:00" like "9", "5lb" like "5LB". Reads `s`, a name and not a sheet, writes nothing,
+ * and refuses with HWK_TEXT_TOO_LONG or HWK_NOT_UTF8. */
+hwk_verdict hwk_is_clear(const uint8_t *s, size_t s_len);
 
 #ifdef __cplusplus
 }

@@ -1,20 +1,23 @@
 //! Makes the same call on both sides, compares what comes back, and counts. The calls themselves are in shape_calls.rs,
-//! reading_calls.rs, token_calls.rs and step_calls.rs.
+//! reading_calls.rs, token_calls.rs, step_calls.rs and call_calls.rs.
 
 use std::fmt::{Arguments, Debug};
 use std::ops::Range;
 use std::process;
 
 use crate::answers::{self, Admitted};
+use crate::call_calls::CALL_CALLS;
 use crate::lent::{Buffer, Fenced};
 use crate::reading_calls::READINGS;
 use crate::shape_calls::SHAPES;
 use crate::token_calls::TOKEN_CALLS;
 
-/// The calls of the header, numbered for `one_call`: those about shapes first, then the readings, then those about tokens.
-pub const CALLS: usize = READINGS_END + TOKEN_CALLS;
+/// The calls of the header, numbered for `one_call`: those about shapes first, then the readings, then those about tokens, then those of the
+/// call sheet.
+pub const CALLS: usize = TOKENS_END + CALL_CALLS;
 
 const READINGS_END: usize = SHAPES + READINGS;
+const TOKENS_END: usize = READINGS_END + TOKEN_CALLS;
 
 const DIFFERENCES_SHOWN: usize = 20;
 
@@ -135,6 +138,7 @@ impl Comparison {
         self.word_without_store(lent);
         self.readings_without_buffers(lent);
         self.tokens_without_buffers(lent);
+        self.calls_without_buffers(lent);
     }
 
     /// Lends the text, and looks after it once the calls were made.
@@ -156,7 +160,8 @@ impl Comparison {
         match call {
             0..SHAPES => self.shape(call, lent),
             SHAPES..READINGS_END => self.reading(call - SHAPES, lent),
-            _ => self.token_call(call - READINGS_END, lent),
+            READINGS_END..TOKENS_END => self.token_call(call - READINGS_END, lent),
+            _ => self.call_call(call - TOKENS_END, lent),
         }
     }
 

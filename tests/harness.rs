@@ -1,6 +1,6 @@
 //! Compares every call of the static library with the Rust reference.
 //!
-//! harness SECONDS SEED: the fixed groups run whole, the random ones for what is left of the time, once at least. Two threads
+//! harness SECONDS SEED: the fixed groups run whole, the random ones for what is left of the time, once at least. Three threads
 //! share the calls.
 
 use std::process;
@@ -8,6 +8,10 @@ use std::thread;
 use std::time::{Duration, Instant};
 
 mod answers;
+mod apart;
+mod call_calls;
+mod call_texts;
+mod clear;
 mod comparison;
 mod corners;
 mod exhaustive;
@@ -22,6 +26,7 @@ mod pieces;
 mod random;
 mod reading_calls;
 mod readings;
+mod rows;
 mod shape_calls;
 mod short;
 mod step_calls;
@@ -52,36 +57,37 @@ fn main() {
         process::exit(2);
     };
     println!("compare: seed {seed}, {seconds} seconds");
-    let halves = [NAMES, SHEETS].map(|half| {
-        let run = move || compare(half, seconds, seed);
+    let shares = [NAMES, SHEETS, CALL_SHEETS].map(|share| {
+        let run = move || compare(share, seconds, seed);
         thread::Builder::new().stack_size(STACK).spawn(run).expect("a thread")
     });
-    let [names, sheets] = halves.map(|half| half.join().unwrap_or_else(|_| process::exit(1)));
-    names.and(sheets).finish(seed);
+    let [names, sheets, calls] = shares.map(|share| share.join().unwrap_or_else(|_| process::exit(1)));
+    names.and(sheets).and(calls).finish(seed);
 }
 
-/// Half of the calls, on a thread of its own: its fixed groups, and a round of its random ones.
+/// A share of the calls, on a thread of its own: its fixed groups, and a round of its random ones.
 #[derive(Clone, Copy)]
-struct Half {
+struct Share {
     name: &'static str,
-    /// The time is divided by this: the longer half is to have a core for itself in the end.
+    /// The time is divided by this: the longest share is to have a core for itself in the end.
     divisor: u64,
     fixed: fn(&mut Comparison, bool),
     round: fn(&mut Comparison, &mut Random),
 }
 
-const NAMES: Half = Half { name: "shapes and numbers", divisor: 1, fixed: names, round: names_round };
-const SHEETS: Half = Half { name: "tokens", divisor: 2, fixed: tokens, round: tokens_round };
+const NAMES: Share = Share { name: "shapes and numbers", divisor: 1, fixed: names, round: names_round };
+const SHEETS: Share = Share { name: "tokens", divisor: 2, fixed: tokens, round: tokens_round };
+const CALL_SHEETS: Share = Share { name: "call sheets", divisor: 2, fixed: calls, round: calls_round };
 
-fn compare(half: Half, seconds: u64, seed: u64) -> Counts {
+fn compare(share: Share, seconds: u64, seed: u64) -> Counts {
     let start = Instant::now();
     let mut comparison = Comparison::new(seed);
-    (half.fixed)(&mut comparison, seconds >= LONG);
-    println!("compare: fixed groups of {} took {} s", half.name, start.elapsed().as_secs());
+    (share.fixed)(&mut comparison, seconds >= LONG);
+    println!("compare: fixed groups of {} took {} s", share.name, start.elapsed().as_secs());
     let mut random = Random::new(seed);
     loop {
-        (half.round)(&mut comparison, &mut random);
-        if start.elapsed() >= Duration::from_secs(seconds / half.divisor) {
+        (share.round)(&mut comparison, &mut random);
+        if start.elapsed() >= Duration::from_secs(seconds / share.divisor) {
             return comparison.counts;
         }
     }
@@ -132,6 +138,18 @@ fn tokens(comparison: &mut Comparison, long: bool) {
     step_states::every_choice(comparison);
 }
 
+/// The verdict on clear names among them, and demand 3 on pairs.
+fn calls(comparison: &mut Comparison, long: bool) {
+    clear::check_barred();
+    call_texts::named(comparison);
+    call_texts::one_byte_changed(comparison);
+    call_texts::pairs(comparison);
+    call_texts::exhaustive(comparison, long);
+    call_texts::long_names(comparison);
+    call_texts::long_sheets(comparison);
+    apart::names(comparison);
+}
+
 /// Each random group for some tenths of a second.
 fn names_round(comparison: &mut Comparison, random: &mut Random) {
     short::random(comparison, random, 50_000);
@@ -152,4 +170,10 @@ fn tokens_round(comparison: &mut Comparison, random: &mut Random) {
     token_long::random(comparison, random, 500);
     step_states::random(comparison, random, 100_000);
     step_texts::sequences(comparison, random, 2_000);
+}
+
+fn calls_round(comparison: &mut Comparison, random: &mut Random) {
+    call_texts::random(comparison, random, 5_000);
+    call_texts::random_pieces(comparison, random, 10_000);
+    apart::sheets(comparison, random, 10_000);
 }

@@ -2,6 +2,7 @@
 
 use crate::answers::{Part, Time, Verdict, Word};
 use crate::readings::{Number, Words};
+use crate::rows::{CalledEntry, CalledSheet};
 use crate::tokens::{State, Step, Tokens};
 
 /// A call that takes the text alone and answers a verdict.
@@ -47,6 +48,9 @@ extern "C" {
         punctuation: *const u8,
         punctuation_len: usize,
     ) -> Step;
+    pub fn hwk_call_sheet(s: *const u8, s_len: usize, out: *mut u8, out_len: usize) -> CalledSheet;
+    pub fn hwk_call_entry(s: *const u8, s_len: usize, number: usize, out: *mut u8, out_len: usize) -> CalledEntry;
+    pub fn hwk_is_clear(s: *const u8, s_len: usize) -> Verdict;
 }
 
 /// The readers have one signature.

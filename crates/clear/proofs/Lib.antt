@@ -5,3 +5,4 @@ pub mod Suffixes
 pub mod Initials
 pub mod Words
 pub mod Tested
+pub mod Lookups

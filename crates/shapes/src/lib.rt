@@ -66,7 +66,7 @@ pub fn is_alpha(s: &[u8]) -> bool
     (s.len() != 0) & all_of(LETTER, 0, s)
 }
 
-fn strip_sign(s: &[u8]) -> &[u8]
+pub fn strip_sign(s: &[u8]) -> &[u8]
     ensures { λ r. ⌜ now r ≡ stripSign (now (s .entry)) ⌝ }
 {
     if starts_with(s, b'+') | starts_with(s, b'-') {

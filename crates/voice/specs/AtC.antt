@@ -1,10 +1,13 @@
--- How the parts of a time are laid out for C: numbers and a flag. Definitions only.
+-- How the parts of a time and an entry's answer are laid out for C: numbers and a flag. Definitions only.
 use mathlib.Core.Bool.{true, false}
+use mathlib.Core.List.{List}
 use Prim.Native.Nat.{ℕ, _-_}
 use Rattle.admit.specs.Refusals.{Call}
 use Rattle.shapes.specs.declared.TimeSplit.{TimeSplit}
 use Rattle.shapes.specs.declared.TimeSplit.the-variants.{At, Nothing}
+use Rattle.sheets.specs.Calls.{EntryGiven}
 use Rattle.voice.specs.declared.HwkTime.{HwkTime}
+use Rattle.voice.specs.declared.HwkEntry.{HwkEntry}
 
 -- each part by its offset and its length, in a text of n bytes; every number 0 where there is none
 abbrev pub partsAtC : ℕ → ℕ → TimeSplit → HwkTime
@@ -15,3 +18,7 @@ partsAtC n number Nothing =
 
 abbrev pub timeAtC : ℕ → Call TimeSplit → HwkTime
 timeAtC n r = partsAtC n (r .refusal) (r .value)
+
+-- an entry's answer, with the buffer as the call leaves it
+abbrev pub asEntryAtC : HwkEntry → List ℕ → Call EntryGiven
+asEntryAtC r buffer = record { refusal = r .refusal; value = record { row = r .row; sign = r .sign; words = r .words; bytes = r .bytes; buffer = buffer } }

@@ -1,4 +1,6 @@
 // Every function that C calls, thin over the library. include/howhakiru.h is the same list for C.
+use calls::CalledEntry;
+use calls::CalledSheet;
 use lists::minus;
 use numbers::Numeral;
 use patterns::SplitTime;
@@ -11,7 +13,8 @@ use shapes::TimeSplit;
 use sink::Spoken;
 use tokens::Tokens;
 ghost use mathlib.Core.Path.{_≡_};
-ghost use Prim.Native.Nat.{_-_};
+ghost use mathlib.Core.List.{List};
+ghost use Prim.Native.Nat.{ℕ, _-_};
 ghost use lib.ListN.{length};
 ghost use Rattle.shapes.specs.Shapes.{isDigits, isAlpha, isDouble, isCommaInt, isOrdinal, isUsMoney, isIllion, isRoman, isDrOrSt, isNumberS, isLeadingZeroDigits, isSevenDigitPhone, isNDigits, isTime, isDottedAbbrev, isDigitsSlashDigits, isDigitsDashDigits};
 ghost use Rattle.patterns.specs.Calls.{asVerdict, verdictCall, asTime, timeCall, asUnit, unitCall, asWord, wordCall};
@@ -27,7 +30,10 @@ ghost use Rattle.tokens.specs.Tokens.{tokens};
 ghost use Rattle.tokens.specs.Table.{records, filledCall, asFilled};
 ghost use Rattle.sentences.specs.Sentences.{fresh};
 ghost use Rattle.sentences.specs.Calls.{startBytes, stepCall, asStep};
-ghost use Rattle.voice.specs.AtC.{timeAtC};
+ghost use Rattle.sheets.specs.Calls.{sheetCall, entryCall};
+ghost use Rattle.calls.specs.Answers.{asSheet, asEntry};
+ghost use Rattle.clear.specs.Test.{isClear};
+ghost use Rattle.voice.specs.AtC.{timeAtC, asEntryAtC};
 
 // split_time_meridiem for C, which takes no enum: each part by its offset and its length.
 #[repr(C)]
@@ -40,6 +46,30 @@ pub struct HwkTime {
     pub minute_len: usize,
     pub meridiem_at: usize,
     pub meridiem_len: usize,
+}
+
+// One entry's answer for C, which takes no enum: its row's number and its sign's value.
+#[repr(C)]
+pub struct HwkEntry {
+    pub refusal: u8,
+    pub row: u8,
+    pub sign: u8,
+    pub words: usize,
+    pub bytes: usize,
+}
+
+fn entry_at_c(e: CalledEntry) -> HwkEntry
+    ensures { λ r. ⌜ ((buffer : List ℕ) → asEntryAtC r buffer ≡ asEntry e buffer) ⌝ }
+{
+    let entry = e.entry;
+    let row = entry.row;
+    HwkEntry {
+        refusal: e.refusal,
+        row: row.number(),
+        sign: row.sign(),
+        words: e.words,
+        bytes: e.bytes,
+    }
 }
 
 // The parts of a time in a text of n bytes.
@@ -291,4 +321,25 @@ pub extern "C" fn hwk_push(state: State, whitespace: &[u8], name: &[u8], punctua
     ensures { λ r. ⌜ asStep r ≡ stepCall state (now (whitespace .entry)) (now (name .entry)) (now (punctuation .entry)) ⌝ }
 {
     state.push(whitespace, name, punctuation)
+}
+
+#[no_mangle]
+pub extern "C" fn hwk_call_entry(s: &[u8], number: usize, out: &mut [u8]) -> HwkEntry
+    ensures { λ r. ⌜ asEntryAtC r (now (out .exit)) ≡ entryCall (now (s .entry)) number (now (out .entry)) ⌝ }
+{
+    entry_at_c(calls::call_entry(s, number, out))
+}
+
+#[no_mangle]
+pub extern "C" fn hwk_call_sheet(s: &[u8], out: &mut [u8]) -> CalledSheet
+    ensures { λ r. ⌜ asSheet r (now (out .exit)) ≡ sheetCall (now (s .entry)) (now (out .entry)) ⌝ }
+{
+    calls::call_sheet(s, out)
+}
+
+#[no_mangle]
+pub extern "C" fn hwk_is_clear(s: &[u8]) -> Verdict
+    ensures { λ r. ⌜ asVerdict r ≡ verdictCall (now (s .entry)) (isClear (now (s .entry))) ⌝ }
+{
+    clear::is_clear(s)
 }

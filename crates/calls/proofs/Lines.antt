@@ -1,0 +1,139 @@
+-- What lines leave in the buffer, and where the pen stands after them. Assumes nothing.
+use mathlib.Core.Path.{_≡_, refl, sym, ap, _∙_}
+use mathlib.Core.Bool.{Bool, true, false}
+use mathlib.Core.Logic.{⊎-elim}
+use mathlib.Core.List.{List, [], _∷_, _++_, map}
+use Prim.Native.Nat.{ℕ, _+_, _≤_, _<_, min}
+use Prim.Native.Char.{code}
+use native.Mathlib.Omega.{arith}
+use lib.Dec.{ltb}
+use lib.ListN.{length, length-append}
+use lib.Seq.{sets}
+use borrow.Author.Tests.{ltb-false, le-ltb, lt-ltb}
+use Rattle.lists.specs.Bytes.{bytes, over}
+use Rattle.lists.proofs.Sets.{sets-append, sets-front, le-or-lt}
+use Rattle.sink.specs.Sink.{top, Sink, sink, putByte, emit, emitAll}
+use Rattle.sink.specs.Words.{storeOf, spacedPen}
+use Rattle.sink.specs.declared.Pen.{Pen}
+use Rattle.sink.proofs.Finish.{storeBy, emitAll-at, emitAll-words, emitAll-is}
+use Rattle.sheets.specs.Sheet.{SheetEntry, wordsOf, mark, spaced, lineOf, countWords}
+use Rattle.calls.specs.Walk.{lineTo, linesTo}
+
+-- a spaced pen whose places are numbers of the machine
+pub record Line (s : Sink) : Type 0 where
+  pub spaced : s .spaced ≡ true
+  pub at : s .at ≤ top
+  pub words : s .words ≤ top
+
+-- from s to t the bytes b are written, with n words in them
+pub record Wrote (b : List ℕ) (n : ℕ) (s t : Sink) : Type 0 where
+  pub line : Line t
+  pub at : t .at ≡ min (s .at + length b) top
+  pub words : t .words ≡ min (s .words + n) top
+  pub store : s .at + length b ≤ top → s .words + n ≤ top → t .store ≡ sets (s .store) (s .at) b
+
+-- f writes the bytes b, with n words in them, wherever the pen stands
+abbrev pub Writes : List ℕ → ℕ → (Sink → Sink) → Type 0
+Writes b n f = (s : Sink) → Line s → Wrote b n s (f s)
+
+-- one after the other
+wrote-both : {b c : List ℕ} {m n k : ℕ} {s t u : Sink} → Wrote b m s t → Wrote c n t u → k ≡ m + n → Wrote (b ++ c) k s u
+wrote-both {b} {c} {m} {n} {k} {s} {t} {u} p q e =
+    let l : length (b ++ c) ≡ length b + length c = length-append b c in
+    record {
+      line = q .line;
+      at = let a = p .at in let d = q .at in omega arith;
+      words = let a = p .words in let d = q .words in omega arith;
+      store = λ h h′.
+          let a : t .at ≡ s .at + length b = let d = p .at in omega arith in
+          let w : t .words ≡ s .words + m = let d = p .words in omega arith in
+          q .store (omega arith) (omega arith) ∙ rw (a, p .store (omega arith) (omega arith)) (sym (sets-append (s .store) (s .at) b c));
+    }
+
+wrote-byte : (b : ℕ) {s : Sink} → Line s → Wrote (b ∷ []) 0 s (putByte b s)
+unfolding putByte
+wrote-byte b {s} l =
+    record {
+      line = record { spaced = l .spaced; at = omega arith; words = l .words };
+      at = omega arith;
+      words = let h = l .words in omega arith;
+      store = λ h h′. refl;
+    }
+
+store-spaced : (ws : List (List ℕ)) → storeBy true ws ≡ spaced ws
+unfolding storeBy spaced
+store-spaced [] = refl
+store-spaced (w ∷ ws) = ap (λ (r : List ℕ). bytes " " ++ (w ++ r)) (store-spaced ws)
+
+emitAll-spaced : (ws : List (List ℕ)) (s : Sink) → emitAll ws s .spaced ≡ s .spaced
+unfolding emitAll emit
+emitAll-spaced [] s = refl
+emitAll-spaced (w ∷ ws) s = emitAll-spaced ws (emit w s)
+
+wrote-words : (ws : List (List ℕ)) {s : Sink} → Line s → Wrote (spaced ws) (length ws) s (emitAll ws s)
+wrote-words ws {s} l =
+    let e : storeBy (s .spaced) ws ≡ spaced ws = ap (λ (g : Bool). storeBy g ws) (l .spaced) ∙ store-spaced ws in
+    let a : emitAll ws s .at ≡ min (s .at + length (spaced ws)) top = rw e at (emitAll-at ws s (l .at)) in
+    let w : emitAll ws s .words ≡ min (s .words + length ws) top = emitAll-words ws s (l .words) in
+    record {
+      line = record { spaced = emitAll-spaced ws s ∙ l .spaced; at = omega arith; words = omega arith };
+      at = a;
+      words = w;
+      store = λ h h′. ap (λ (q : Sink). q .store) (emitAll-is ws s (rw e h) h′) ∙ ap (sets (s .store) (s .at)) e;
+    }
+
+-- the line in the code's steps
+pub line-said : (e : SheetEntry) {b : ℕ} (σ ρ ς : Sink) {τ : Sink} → b ≡ mark (e .starts) → ρ ≡ putByte b σ → ς ≡ emitAll (wordsOf e) ρ → τ ≡ putByte (code "\n") ς → τ ≡ lineTo e σ
+unfolding lineTo
+line-said e σ ρ ς m a w n = rw (n, w, a, m)
+
+pub wrote-line : (e : SheetEntry) → Writes (lineOf e) (length (wordsOf e)) (lineTo e)
+unfolding lineOf lineTo
+wrote-line e s l =
+    let a = wrote-byte (mark (e .starts)) l in
+    let b = wrote-words (wordsOf e) (a .line) in
+    wrote-both a (wrote-both b (wrote-byte (code "\n") (b .line)) refl) (omega arith)
+
+pub wrote-lines : (es : List SheetEntry) → Writes (storeOf (map lineOf es)) (countWords es) (linesTo es)
+unfolding storeOf countWords linesTo
+wrote-lines [] s l =
+    record { line = l; at = let h = l .at in omega arith; words = let h = l .words in omega arith; store = λ h h′. refl }
+wrote-lines (e ∷ es) s l = let a = wrote-line e s l in wrote-both a (wrote-lines es (lineTo e s) (a .line)) refl
+
+-- every word takes a byte, the space before it
+spaced-words : (ws : List (List ℕ)) → length ws ≤ length (spaced ws)
+unfolding spaced
+spaced-words [] = omega arith
+spaced-words (w ∷ ws) = omega (arith, spaced-words ws, length-append w (spaced ws))
+
+pub line-words : (e : SheetEntry) → length (wordsOf e) ≤ length (lineOf e)
+unfolding lineOf
+line-words e = omega (arith, spaced-words (wordsOf e), length-append (spaced (wordsOf e)) (bytes "\n"))
+
+pub lines-words : (es : List SheetEntry) → countWords es ≤ length (storeOf (map lineOf es))
+unfolding storeOf countWords
+lines-words [] = omega arith
+lines-words (e ∷ es) = omega (arith, line-words e, lines-words es, length-append (lineOf e) (storeOf (map lineOf es)))
+
+-- from the start of a buffer on; every word takes a byte at least
+module _ {b : List ℕ} {n : ℕ} {f : Sink → Sink} (w : Writes b n f) (few : n ≤ length b) (x y x₀ y₀ : List ℕ) {p p₀ : Pen} (start : p₀ ≡ spacedPen) (q : sink x y p ≡ f (sink x₀ y₀ p₀)) where
+  all-wrote : Wrote b n (sink x₀ y₀ spacedPen) (sink x y p)
+  all-wrote =
+      let e : sink x y p ≡ f (sink x₀ y₀ spacedPen) = q ∙ ap (λ (r : Pen). f (sink x₀ y₀ r)) start in
+      rw e (w (sink x₀ y₀ spacedPen) (record { spaced = refl; at = omega arith; words = omega arith }))
+
+  -- the pen tells whether a buffer of so many bytes is too short: no buffer is as long as the largest number
+  pub measured-lines : (room : ℕ) → room < top → ltb room (p .at) ≡ ltb room (length b)
+  measured-lines room h =
+      let a = all-wrote .at in
+      ⊎-elim (λ (l : length b ≤ room). le-ltb room (p .at) (omega arith) ∙ sym (le-ltb room (length b) l))
+      (λ (l : room < length b). lt-ltb room (p .at) (omega arith) ∙ sym (lt-ltb room (length b) l))
+      (le-or-lt (length b) room)
+
+  -- a buffer that is long enough holds them, and the pen has their counts
+  pub written-lines : ltb (length x₀) (length b) ≡ false → length x₀ < top → (p .at ≡ length b) × (p .words ≡ n) × (x ≡ over b x₀)
+  written-lines g small =
+      let fits : length b ≤ length x₀ = ltb-false _ _ g in
+      let a = all-wrote .at in
+      let k = all-wrote .words in
+      (omega arith, omega arith, all-wrote .store (omega arith) (omega arith) ∙ sets-front x₀ b fits)

@@ -1,0 +1,271 @@
+// The call sheet: one entry's line, and the lines of a whole sheet.
+use admit::Answer;
+use admit::Refusal;
+use admit::refusal_of;
+use lists::minus;
+use lists::part;
+use reader::leaf::Said;
+use reader::percent::read_entry;
+use rows::Entry;
+use rows::Row;
+use sentences::State;
+use sentences::starts_sentence;
+use sink::Pen;
+use sink::byte;
+use tokens::token_at;
+ghost use mathlib.Core.Path.{_≡_};
+ghost use mathlib.Core.Bool.{false};
+ghost use Prim.Native.Nat.{_<_};
+ghost use lib.Dec.{ltb};
+ghost use lib.ListN.{length};
+ghost use Rattle.sink.specs.Sink.{top, sink};
+ghost use Rattle.sink.specs.Words.{spacedPen};
+ghost use Rattle.tokens.specs.Tokens.{tokens};
+ghost use Rattle.sheets.specs.Sheet.{entries, mark, lineOf, callSheet};
+ghost use Rattle.sheets.specs.Calls.{anyLong, sheetCall, entryCall};
+ghost use Rattle.calls.specs.Answers.{asSheet, asEntry};
+ghost use Rattle.calls.specs.Walk.{refusedSheet, refusedEntry, linesTo, Lined, named, FoundAt, nameCall};
+
+// The longest name that is called.
+const NAME_BYTES: usize = 4096;
+
+// A whole sheet's answer: the refusal's number or 0, the count of tokens, the count of words, and the call sheet's length.
+#[repr(C)]
+pub struct CalledSheet {
+    pub refusal: u8,
+    pub tokens: usize,
+    pub words: usize,
+    pub bytes: usize,
+}
+
+// One entry's answer: the refusal's number or 0, its record, the count of its words, and its line's length.
+pub struct CalledEntry {
+    pub refusal: u8,
+    pub entry: Entry,
+    pub words: usize,
+    pub bytes: usize,
+}
+
+// Where an entry was found, if it was: whether it starts a sentence, and its name's place in the sheet.
+struct Found {
+    found: bool,
+    starts: bool,
+    name: usize,
+    end: usize,
+}
+
+// A walk over all entries: how many there are, and the pen after their lines.
+struct Walked {
+    tokens: usize,
+    pen: Pen,
+}
+
+fn mark_of(starts: bool) -> u8
+    ensures { λ r. ⌜ r ≡ mark starts ⌝ }
+{
+    if starts { b'+' } else { b'-' }
+}
+
+// Writes an entry's line.
+fn say_line(starts: bool, name: &[u8], out: &mut [u8], table: &mut [u8], pen: Pen) -> Said
+    ensures { λ r. ⌜ Lined (named starts (now (name .entry))) (sink (now (out .entry)) (now (table .entry)) pen) (sink (now (out .exit)) (now (table .exit)) (r .pen)) (r .entry .row) ⌝ }
+{
+    let p = byte(out, pen, mark_of(starts));
+    let said = read_entry(name, out, table, p);
+    let entry = said.entry;
+    let last = said.pen;
+    Said {
+        entry,
+        pen: byte(out, last, b'\n'),
+    }
+}
+
+// Writes the lines of all entries.
+fn say_sheet(s: &[u8], out: &mut [u8], table: &mut [u8]) -> Walked
+    ensures { λ r. ⌜ (r .tokens ≡ length (tokens (now (s .entry)))) × (sink (now (out .exit)) (now (table .exit)) (r .pen) ≡ linesTo (entries (now (s .entry))) (sink (now (out .entry)) (now (table .entry)) spacedPen)) ⌝ }
+{
+    let mut state = State::fresh();
+    let mut pen = Pen::spaced();
+    let mut n = 0;
+    let mut at = 0;
+    while at < s.len() {
+        let t = token_at(s, at);
+        if t.prepunctuation == s.len() {
+            return Walked { tokens: n, pen };
+        }
+        let name = part(s, t.name, t.punctuation);
+        let starts = starts_sentence(state, part(s, at, t.prepunctuation), name);
+        let said = say_line(starts, name, out, table, pen);
+        pen = said.pen;
+        state = State::kept(name, part(s, t.punctuation, t.end));
+        n += 1;
+        at = t.end;
+    }
+    Walked { tokens: n, pen }
+}
+
+// Whether a name is longer than is called.
+fn has_long_name(s: &[u8]) -> bool
+    ensures { λ r. ⌜ r ≡ anyLong (entries (now (s .entry))) ⌝ }
+{
+    let mut at = 0;
+    while at < s.len() {
+        let t = token_at(s, at);
+        if t.prepunctuation == s.len() {
+            return false;
+        }
+        if NAME_BYTES < minus(t.punctuation, t.name) {
+            return true;
+        }
+        at = t.end;
+    }
+    false
+}
+
+// Whether a buffer of so many bytes is smaller than the call sheet: the lines are measured.
+fn is_sheet_short(s: &[u8], room: usize) -> bool
+    requires { ⌜ room < top ⌝ }
+    ensures { λ r. ⌜ r ≡ ltb room (length (callSheet (now (s .entry)))) ⌝ }
+{
+    let mut no_out = [0u8; 0];
+    let mut no_table = [0u8; 0];
+    let measured = say_sheet(s, &mut no_out, &mut no_table);
+    room < measured.pen.at
+}
+
+fn sheet_refused(refusal: u8) -> CalledSheet
+    ensures { λ r. ⌜ r ≡ refusedSheet refusal ⌝ }
+{
+    CalledSheet {
+        refusal,
+        tokens: 0,
+        words: 0,
+        bytes: 0,
+    }
+}
+
+// Calls the whole sheet.
+pub fn call_sheet(s: &[u8], out: &mut [u8]) -> CalledSheet
+    ensures { λ r. ⌜ asSheet r (now (out .exit)) ≡ sheetCall (now (s .entry)) (now (out .entry)) ⌝ }
+{
+    let refusal = refusal_of(s);
+    if refusal != 0 {
+        return sheet_refused(refusal);
+    }
+    if has_long_name(s) {
+        let answer = Answer::Refused(Refusal::NameTooLong);
+        return sheet_refused(answer.number());
+    }
+    if is_sheet_short(s, out.len()) {
+        let answer = Answer::Refused(Refusal::BufferTooShort);
+        return sheet_refused(answer.number());
+    }
+    let mut no_table = [0u8; 0];
+    let written = say_sheet(s, out, &mut no_table);
+    CalledSheet {
+        refusal: 0,
+        tokens: written.tokens,
+        words: written.pen.words,
+        bytes: written.pen.at,
+    }
+}
+
+fn entry_refused(refusal: u8) -> CalledEntry
+    ensures { λ r. ⌜ r ≡ refusedEntry refusal ⌝ }
+{
+    CalledEntry {
+        refusal,
+        entry: Entry { row: Row::NoRow },
+        words: 0,
+        bytes: 0,
+    }
+}
+
+fn nowhere() -> Found
+    ensures { λ r. ⌜ r .found ≡ false ⌝ }
+{
+    Found {
+        found: false,
+        starts: false,
+        name: 0,
+        end: 0,
+    }
+}
+
+// Finds entry number k.
+fn find_entry(s: &[u8], k: usize) -> Found
+    ensures { λ r. ⌜ FoundAt (now (s .entry)) k r ⌝ }
+{
+    let mut state = State::fresh();
+    let mut n = 0;
+    let mut at = 0;
+    while at < s.len() {
+        let t = token_at(s, at);
+        if t.prepunctuation == s.len() {
+            return nowhere();
+        }
+        let name = part(s, t.name, t.punctuation);
+        if n == k {
+            return Found {
+                found: true,
+                starts: starts_sentence(state, part(s, at, t.prepunctuation), name),
+                name: t.name,
+                end: t.punctuation,
+            };
+        }
+        state = State::kept(name, part(s, t.punctuation, t.end));
+        n += 1;
+        at = t.end;
+    }
+    nowhere()
+}
+
+// Whether a buffer of so many bytes is smaller than an entry's line: the line is measured.
+fn is_line_short(starts: bool, name: &[u8], room: usize) -> bool
+    requires { ⌜ room < top ⌝ }
+    ensures { λ r. ⌜ r ≡ ltb room (length (lineOf (named starts (now (name .entry))))) ⌝ }
+{
+    let mut no_out = [0u8; 0];
+    let mut no_table = [0u8; 0];
+    let measured = say_line(starts, name, &mut no_out, &mut no_table, Pen::spaced());
+    room < measured.pen.at
+}
+
+// Calls an entry of this name.
+fn call_name(starts: bool, name: &[u8], out: &mut [u8]) -> CalledEntry
+    ensures { λ r. ⌜ asEntry r (now (out .exit)) ≡ nameCall (named starts (now (name .entry))) (now (out .entry)) ⌝ }
+{
+    if NAME_BYTES < name.len() {
+        let answer = Answer::Refused(Refusal::NameTooLong);
+        return entry_refused(answer.number());
+    }
+    if is_line_short(starts, name, out.len()) {
+        let answer = Answer::Refused(Refusal::BufferTooShort);
+        return entry_refused(answer.number());
+    }
+    let mut no_table = [0u8; 0];
+    let written = say_line(starts, name, out, &mut no_table, Pen::spaced());
+    let entry = written.entry;
+    CalledEntry {
+        refusal: 0,
+        entry,
+        words: written.pen.words,
+        bytes: written.pen.at,
+    }
+}
+
+// Calls entry number k of the sheet, from 0.
+pub fn call_entry(s: &[u8], k: usize, out: &mut [u8]) -> CalledEntry
+    ensures { λ r. ⌜ asEntry r (now (out .exit)) ≡ entryCall (now (s .entry)) k (now (out .entry)) ⌝ }
+{
+    let refusal = refusal_of(s);
+    if refusal != 0 {
+        return entry_refused(refusal);
+    }
+    let found = find_entry(s, k);
+    if !found.found {
+        let answer = Answer::Refused(Refusal::NoSuchEntry);
+        return entry_refused(answer.number());
+    }
+    call_name(found.starts, part(s, found.name, found.end), out)
+}

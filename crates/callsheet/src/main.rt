@@ -1,0 +1,32 @@
+// Reads a sheet from standard input, up to 4,096 bytes of it, and writes its call sheet, or one line with the refusal's number.
+use calls::call_sheet;
+use libc::STDIN_FILENO;
+use libc::STDOUT_FILENO;
+use lists::front;
+
+fn write_refusal(number: u8) {
+    io::write_all(STDOUT_FILENO, b"refused ");
+    io::print_decimal(STDOUT_FILENO, number as u64);
+    io::write_all(STDOUT_FILENO, b"\n");
+}
+
+fn write_call(sheet: &[u8], out: &mut [u8]) {
+    let called = call_sheet(sheet, out);
+    if called.refusal != 0 {
+        write_refusal(called.refusal);
+        return;
+    }
+    io::write_all(STDOUT_FILENO, front(out, called.bytes));
+}
+
+// Room for the call of every sheet of 4,096 bytes.
+fn room() -> [u8; 131104] {
+    [0; 131104]
+}
+
+fn main() {
+    let mut sheet = io::buffer();
+    let n = io::read_full(STDIN_FILENO, &mut sheet);
+    let mut out = room();
+    write_call(front(&sheet, n), &mut out);
+}

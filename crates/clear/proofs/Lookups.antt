@@ -1,0 +1,80 @@
+-- The first rows of the units, and the words of the tables by number: each one test at every number, which antt computes. Assumes nothing.
+use mathlib.Core.Path.{_≡_, refl}
+use mathlib.Core.Bool.{Bool, true, false, cond, not, _&&_, _||_}
+use mathlib.Core.List.{List, [], _∷_}
+use mathlib.Core.Logic.{⊎-elim}
+use Prim.Native.Nat.{ℕ, zero, suc, _+_, _-_, _≤_, _<_}
+use native.Mathlib.Numerals.{add-one}
+use native.Mathlib.Omega.{arith}
+use lib.Dec.{T, ltb, eqb, leb·suc-suc}
+use lib.ListN.{length, drop, getD, drop-of-length-le}
+use lib.Seq.{drop-cons}
+use borrow.Author.Tests.{lt-ltb, le-ltb}
+use Rattle.lists.specs.Bytes.{same}
+use Rattle.lists.proofs.Sets.{le-or-lt}
+use Rattle.lists.proofs.Table.{below, same→≡}
+use Rattle.lexicon.specs.Lexicon.{wordOf}
+use Rattle.lexicon.proofs.Laws.{lexicon}
+use Rattle.units.specs.Units.{unitAbbreviations, unitWords, before, wordNumbers}
+use Rattle.clear.specs.Clear.{tableWords, listed}
+
+agree : (a b : Bool) → T (cond a b (not b)) → a ≡ b
+agree true true t = refl
+agree true false t = absurd t
+agree false true t = absurd t
+agree false false t = refl
+
+-- there is a row k, and it is the first with its word
+abbrev firstRow : ℕ → Bool
+firstRow k = ltb k (length unitAbbreviations) && eqb (before (getD unitWords k []) unitWords) k
+
+-- there is a row k, and its word's number is larger than that of the row before
+abbrev newWord : ℕ → Bool
+newWord k = ltb k 22 && ltb (getD wordNumbers (k - 1) 0) (getD wordNumbers k 0)
+
+pub first-zero : true ≡ firstRow 0
+unfolding lexicon before unitWords unitAbbreviations
+first-zero = refl
+
+first : ℕ → Bool
+first k = cond (newWord (suc k)) (firstRow (suc k)) (not (firstRow (suc k)))
+
+-- rows with one word stand together, and the words in the lexicon's order
+pub first-row : (k : ℕ) → (k ≡ 0 → ⊥) → newWord k ≡ firstRow k
+unfolding first lexicon wordNumbers before unitWords unitAbbreviations
+first-row zero h = absurd (h refl)
+first-row (suc k) h = ⊎-elim (λ (g : 21 ≤ k). rw (le-ltb (suc k) 22 (omega arith))) (λ (g : k < 21). agree (newWord (suc k)) (firstRow (suc k)) (below first 21 tt k g)) (le-or-lt 21 k)
+
+-- where the lexicon has the words of the tables
+abbrev numberAt : ℕ → ℕ
+numberAt i = cond (ltb i 30) (16 + i) (cond (ltb i 60) (16 + 34 + (i - 30)) (46 + (63 - i)))
+
+tabled : ℕ → Bool
+tabled i = same (wordOf (numberAt i)) (getD tableWords i [])
+
+pub table-row : (i : ℕ) → i < 63 → wordOf (numberAt i) ≡ getD tableWords i []
+unfolding tabled lexicon tableWords
+table-row i h = same→≡ _ _ (below tabled 63 tt i h)
+
+tables : length tableWords ≡ 63
+unfolding tableWords lexicon
+tables = refl
+
+-- the look-up from word i on: this word, or those after it
+pub listed-more : (s : List ℕ) (i : ℕ) → i < 63 → listed s (drop i tableWords) ≡ same (getD tableWords i []) s || listed s (drop (i + 1) tableWords)
+unfolding before
+listed-more s i h = rw (add-one, drop-cons tableWords i [] (rw tables h)) (go (same (getD tableWords i []) s))
+  where
+    n : ℕ
+    n = before s (drop (suc i) tableWords)
+
+    m : ℕ
+    m = length (drop (suc i) tableWords)
+
+    go : (t : Bool) → ltb (cond t 0 (suc n)) (suc m) ≡ t || ltb n m
+    go true = lt-ltb 0 (suc m) (omega arith)
+    go false = leb·suc-suc (suc n) m
+
+pub listed-end : (s : List ℕ) (i : ℕ) → 63 ≤ i → listed s (drop i tableWords) ≡ false
+unfolding before
+listed-end s i h = rw (drop-of-length-le tableWords {i = i} (rw tables h))

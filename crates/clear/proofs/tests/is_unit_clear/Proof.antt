@@ -1,0 +1,15 @@
+use borrow.Author.Needs.{needs}
+use Rattle.clear.proofs.tests.is_unit_clear.Statement.{statement}
+use Rattle.clear.proofs.tests.is_unit_clear.Tie as tie
+
+pub is-unit-clear-spec : {M : Type 1} → statement M
+is-unit-clear-spec =
+    tie.close
+    (tie.spec
+    (λ c κs. search needs)
+    (λ c κs. search needs)
+    (λ c κs. search needs)
+    (λ c κs. search needs)
+    (λ c κs. search needs)
+    (λ c κs. search needs)
+    (λ c. rw (c .before .before .before .is-plain .ensures, c .is-first-row .ensures, c .before .unit-index .ensures, c .before .before .before .before .front .ensures, c .before .before .tail .ensures, c .before .before .before .before .before .after-last .ensures)))

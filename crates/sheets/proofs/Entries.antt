@@ -1,0 +1,57 @@
+-- The entries of a sheet, one by one: each one's line stands in the whole sheet's call. Assumes nothing.
+use mathlib.Core.Path.{_≡_, refl, sym, ap, _∙_}
+use mathlib.Core.Bool.{Bool, true}
+use mathlib.Core.List.{List, [], _∷_, _++_, map, append-assoc}
+use Prim.Native.Nat.{ℕ, zero, suc, _+_, _<_}
+use native.Mathlib.Omega.{arith}
+use lib.ListN.{length, take, drop, getD, length-map}
+use Rattle.sink.specs.Words.{storeOf}
+use Rattle.tokens.specs.Tokens.{Token, tokens}
+use Rattle.sentences.specs.Sentences.{isBreak, startsAfter, starts}
+use Rattle.sheets.specs.Sheet.{SheetEntry, entriesOf, entries, wordsOf, lineOf, lines, callSheet, countWords, noEntry}
+use Rattle.sheets.specs.Calls.{entryAt, lineAt}
+
+-- an entry for each token
+after-length : (b : Bool) (t : Token) (ts : List Token) → length (entriesOf (b ∷ startsAfter t ts) (t ∷ ts)) ≡ suc (length ts)
+unfolding entriesOf startsAfter
+after-length b t [] = refl
+after-length b t (u ∷ us) = ap suc (after-length (isBreak t u) u us)
+
+pub entries-length : (s : List ℕ) → length (entries s) ≡ length (tokens s)
+unfolding entriesOf starts
+entries-length s = go (tokens s)
+  where
+    go : (ts : List Token) → length (entriesOf (starts ts) ts) ≡ length ts
+    go [] = refl
+    go (t ∷ ts) = after-length true t ts
+
+map-at : (es : List SheetEntry) (k : ℕ) → k < length es → getD (map lineOf es) k [] ≡ lineOf (getD es k noEntry)
+map-at [] k h = absurd (omega arith)
+map-at (e ∷ es) zero h = refl
+map-at (e ∷ es) (suc k) h = map-at es k (omega arith)
+
+-- the line of an entry that is there
+pub line-at : (s : List ℕ) (k : ℕ) → k < length (tokens s) → lineAt s k ≡ lineOf (entryAt s k)
+line-at s k h = map-at (entries s) k (omega (arith, entries-length s))
+
+-- what stands before one of several texts, it, and what stands after it
+store-at : (ls : List (List ℕ)) (k : ℕ) → k < length ls → storeOf ls ≡ storeOf (take k ls) ++ (getD ls k [] ++ storeOf (drop (suc k) ls))
+unfolding storeOf
+store-at [] k h = absurd (omega arith)
+store-at (l ∷ ls) zero h = refl
+store-at (l ∷ ls) (suc k) h = ap (λ (r : List ℕ). l ++ r) (store-at ls k (omega arith)) ∙ sym (append-assoc l _ _)
+
+-- the words before one of several entries, its own, and those after it
+words-at : (es : List SheetEntry) (k : ℕ) → k < length es → countWords es ≡ countWords (take k es) + (length (wordsOf (getD es k noEntry)) + countWords (drop (suc k) es))
+unfolding countWords
+words-at [] k h = absurd (omega arith)
+words-at (e ∷ es) zero h = omega arith
+words-at (e ∷ es) (suc k) h = omega (arith, words-at es k (omega arith))
+
+-- "its line as it stands in the whole sheet's call", and "the count of words"
+pub entry-line : (s : List ℕ) (k : ℕ) → k < length (tokens s)
+    → (callSheet s ≡ storeOf (take k (lines s)) ++ (lineAt s k ++ storeOf (drop (suc k) (lines s))))
+    × (countWords (entries s) ≡ countWords (take k (entries s)) + (length (wordsOf (entryAt s k)) + countWords (drop (suc k) (entries s))))
+entry-line s k h =
+    let n = entries-length s in
+    (store-at (lines s) k (omega (arith, length-map (entries s) lineOf)), words-at (entries s) k (omega arith))
