@@ -35,7 +35,7 @@ check 'pieces' '+ one\n- two\n' < <(printf '1'; sleep 0.2; printf ' 2')
 
 # The longest call sheets there are: no sheet of 4,096 bytes is refused for room.
 for piece in '777777777777 ' '%' '777777777777e' '7 ' '-7777777777 '; do
-    yes "$piece" | tr -d '\n' | head -c 4096 >target/callsheet/in || true
+    yes -- "$piece" | tr -d '\n' | head -c 4096 >target/callsheet/in || true
     "$program" <target/callsheet/in | grep -q '^[+-]'
 done
 

@@ -3,7 +3,7 @@
 
 /// ONES, TEENS, TENS and their ordinal forms, and SCALES. No other word is by itself an answer of `cardinal` or `ordinal`.
 #[rustfmt::skip]
-const BARRED: &[&str] = &[
+pub const BARRED: &[&str] = &[
     "zero", "one", "two", "three", "four", "five", "six", "seven", "eight", "nine",
     "ten", "eleven", "twelve", "thirteen", "fourteen", "fifteen", "sixteen", "seventeen", "eighteen", "nineteen",
     "twenty", "thirty", "forty", "fifty", "sixty", "seventy", "eighty", "ninety",

@@ -10,6 +10,7 @@ use std::time::{Duration, Instant};
 mod answers;
 mod apart;
 mod call_calls;
+mod call_corners;
 mod call_texts;
 mod clear;
 mod comparison;

@@ -1,14 +1,17 @@
-//! Records the Rust's answers on three samples of texts, one line each, for the replays that need no Rust at hand. The same
-//! texts come out at every run. record FOLDER: writes patterns.txt, numbers.txt and tokens.txt there.
+//! Records the Rust's answers on four samples of texts, one line each, for the replays that need no Rust at hand. The same
+//! texts come out at every run. record FOLDER: writes patterns.txt, numbers.txt, tokens.txt and calls.txt there.
 //!
 //! A line of each file starts with REPEAT BYTE TAIL REFUSAL, with a space between. The text is BYTE repeated REPEAT times, then
-//! TAIL; bytes are in hex, and - stands for none. What follows is in recorded_shapes.rs, recorded_numbers.rs and
-//! recorded_tokens.rs.
+//! TAIL; bytes are in hex, and - stands for none. What follows is in recorded_shapes.rs, recorded_numbers.rs,
+//! recorded_tokens.rs and recorded_calls.rs.
 
 use std::fs;
 use std::process;
 
 mod answers;
+mod call_corners;
+#[allow(dead_code)] // the harness checks the words too
+mod clear;
 mod corners;
 mod linear;
 mod number_corners;
@@ -17,9 +20,12 @@ mod pieces;
 mod random;
 #[allow(dead_code)] // the harness asks for answers in every buffer
 mod readings;
+mod recorded_calls;
 mod recorded_numbers;
 mod recorded_shapes;
 mod recorded_tokens;
+#[allow(dead_code)] // the harness compares answers
+mod rows;
 #[allow(dead_code)] // the harness feeds steps too
 mod token_corners;
 #[allow(dead_code)] // the harness asks for answers in every buffer
@@ -34,6 +40,7 @@ fn main() {
     write(&folder, "patterns.txt", &recorded_shapes::lines(), 250_000);
     write(&folder, "numbers.txt", &recorded_numbers::lines(), 400_000);
     write(&folder, "tokens.txt", &recorded_tokens::lines(), 250_000);
+    write(&folder, "calls.txt", &recorded_calls::lines(), 350_000);
 }
 
 fn write(folder: &str, name: &str, lines: &[String], most: usize) {

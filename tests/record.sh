@@ -16,4 +16,5 @@ if [ $# -eq 0 ]; then
     cp "$folder/patterns.txt" crates/replay/data/
     cp "$folder/numbers.txt" crates/replay_numbers/data/
     cp "$folder/tokens.txt" crates/replay_tokens/data/
+    cp "$folder/calls.txt" crates/replay_calls/data/
 fi

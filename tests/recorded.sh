@@ -14,7 +14,8 @@ elif [ "$status" -ne 0 ]; then
     exit "$status"
 fi
 
-for recorded in crates/replay/data/patterns.txt crates/replay_numbers/data/numbers.txt crates/replay_tokens/data/tokens.txt; do
+for recorded in crates/replay/data/patterns.txt crates/replay_numbers/data/numbers.txt crates/replay_tokens/data/tokens.txt \
+    crates/replay_calls/data/calls.txt; do
     if ! cmp "$recorded" "$anew/${recorded##*/}"; then
         echo "recorded: $recorded is not what the Rust answers; tests/record.sh writes it anew"
         exit 1

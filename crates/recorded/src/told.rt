@@ -9,8 +9,8 @@ use crate::fields::plus;
 use crate::fields::repeat;
 use crate::fields::unhex;
 
-// Puts the bytes of TAIL past the first n, and answers how long the text is, BAD where TAIL is no hex or has no room.
-fn put_tail(hex: &[u8], n: usize, text: &mut [u8]) -> usize {
+// Puts the bytes of the hex past the first n, and answers how long all is then, BAD where it is no hex or has no room.
+pub fn put_hex(hex: &[u8], n: usize, text: &mut [u8]) -> usize {
     if text.len() < n {
         return BAD;
     }
@@ -29,5 +29,5 @@ pub fn text_of(line: &[u8], text: &mut [u8]) -> usize {
         return BAD;
     }
     repeat(text, n, (b % 256) as u8);
-    put_tail(pairs(end), n, text)
+    put_hex(pairs(end), n, text)
 }

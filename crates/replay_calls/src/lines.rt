@@ -1,0 +1,42 @@
+// The lines of a sheet's entries, told in pieces: bytes in hex that stand so many times.
+use lists::NOT;
+use lists::front;
+use lists::span_of;
+use lists::tail;
+use recorded::fields::BAD;
+use recorded::fields::field;
+use recorded::fields::has_fields;
+use recorded::fields::number;
+use recorded::fields::pairs;
+use recorded::fields::past;
+use recorded::told::put_hex;
+
+// Puts a piece past the first n bytes, and answers how long all is then, BAD where it is none or has no room.
+fn put_piece(piece: &[u8], n: usize, lines: &mut [u8]) -> usize {
+    let count = number(field(piece, b'x', 0));
+    let hex = field(piece, b'x', 1);
+    if !has_fields(piece, b'x', 2) | (hex.len() == 0) | (lines.len() < count) {
+        return BAD;
+    }
+    let mut end = n;
+    let mut i = 0;
+    while i < count {
+        end = put_hex(hex, end, lines);
+        i += 1;
+    }
+    end
+}
+
+// Puts all pieces, and answers how long the lines are, BAD where one is none.
+pub fn put_lines(told: &[u8], lines: &mut [u8]) -> usize {
+    let pieces = pairs(told);
+    let mut end = 0;
+    let mut at = 0;
+    while at < pieces.len() {
+        let rest = tail(pieces, at);
+        let n = span_of(NOT, b',', rest);
+        end = put_piece(front(rest, n), end, lines);
+        at = past(pieces.len(), at, n);
+    }
+    end
+}
