@@ -374,7 +374,7 @@ typedef struct hwk_entry {
 
 /* Room for the call of every sheet of up to `len` bytes, and so for every line of it: proved, and on the ample side. A call that
  * is lent so much writes at once; one that is lent less measures first. */
-#define HWK_CALL_MOST(len) (32 * (size_t)(len) + 32)
+#define HWK_CALL_MOST(len) (24 * (size_t)(len) + 24)
 
 /* Calls entry `number` of the sheet: writes its line to the front of `out`. Refuses with HWK_TEXT_TOO_LONG, HWK_NOT_UTF8,
  * HWK_NO_SUCH_ENTRY, HWK_NAME_TOO_LONG where this entry's name is too long, whatever the others are, and HWK_BUFFER_TOO_SHORT

@@ -32,12 +32,22 @@ SAME(state_fresh, offsetof(hwk_state, fresh) == 18);
 SAME(step_size, sizeof(hwk_step) == 32);
 SAME(step_breaks, offsetof(hwk_step, breaks) == 1);
 SAME(step_state, offsetof(hwk_step, state) == 8);
+SAME(entry_size, sizeof(hwk_entry) == 24);
+SAME(entry_row, offsetof(hwk_entry, row) == 1);
+SAME(entry_sign, offsetof(hwk_entry, sign) == 2);
+SAME(entry_words, offsetof(hwk_entry, words) == 8);
+SAME(entry_bytes, offsetof(hwk_entry, bytes) == 16);
+SAME(sheet_size, sizeof(hwk_sheet) == 32);
+SAME(sheet_tokens, offsetof(hwk_sheet, tokens) == 8);
+SAME(sheet_words, offsetof(hwk_sheet, words) == 16);
+SAME(sheet_bytes, offsetof(hwk_sheet, bytes) == 24);
 
 /* The comparison with the Rust holds every reading to these same sums. */
 SAME(store_most, HWK_WORDS_STORE_MOST(1000) == 22022);
 SAME(table_most, HWK_WORDS_TABLE_MOST(1000) == 16016);
 SAME(tokens_table_most, HWK_TOKENS_TABLE_MOST(1000) == 16032);
 SAME(tokens_starts_most, HWK_TOKENS_STARTS_MOST(1000) == 501);
+SAME(call_most, HWK_CALL_MOST(1000) == 24024);
 
 static const char *const units[] = {"LB", "LBS", "lb", "lbs", "ft", "FT", "kg", "km", "cm", "mm", "ml",
                                     "oz", "hz", "Hz", "HZ", "KHz", "MHz", "GHz", "KB", "GB", "MB", "TB"};
@@ -143,6 +153,44 @@ static void check_roman(void)
     free(text);
 }
 
+static hwk_entry first_entry(const char *sheet, uint8_t *out, size_t out_len)
+{
+    return hwk_call_entry((const uint8_t *)sheet, strlen(sheet), 0, out, out_len);
+}
+
+/* A name of each row, and the row's number; the two signs. */
+static void check_rows(void)
+{
+    static const char *const rows[] = {"\" ", "A.B", "1,000", "9:30", "9:30am", "007", "7", "7.5", "7th", "7%", "7mm", "rack"};
+    uint8_t out[HWK_CALL_MOST(8)];
+    for (size_t i = 0; i < sizeof rows / sizeof rows[0]; i++) {
+        hwk_entry called = first_entry(rows[i], out, sizeof out);
+        assert(called.refusal == HWK_ACCEPTED && called.row == i + 1 && called.sign == (i + 1 == 8 ? HWK_PLUS : 0));
+    }
+    assert(first_entry("-7", out, sizeof out).sign == HWK_MINUS);
+    assert(first_entry("-7%", out, sizeof out).sign == 0);
+    assert(first_entry("", out, sizeof out).refusal == HWK_NO_SUCH_ENTRY);
+}
+
+/* A name at the limit is called and a longer one is not; what the header says always suffices does, for the longest calls. */
+static void check_calls(void)
+{
+    static const char *const repeated[] = {"%", "777777777777 ", "777777777777e", "7 ", "a.", "( ", "-7777777777 "};
+    static uint8_t text[HWK_NAME_LIMIT + 1], out[HWK_CALL_MOST(HWK_NAME_LIMIT)];
+    for (size_t i = 0; i < sizeof repeated / sizeof repeated[0]; i++) {
+        for (size_t k = 0; k < HWK_NAME_LIMIT; k++) text[k] = (uint8_t)repeated[i][k % strlen(repeated[i])];
+        hwk_sheet called = hwk_call_sheet(text, HWK_NAME_LIMIT, out, sizeof out);
+        assert(called.refusal == HWK_ACCEPTED && called.bytes <= sizeof out);
+        assert(hwk_call_sheet(text, HWK_NAME_LIMIT, out, called.bytes).bytes == called.bytes);
+        assert(hwk_call_sheet(text, HWK_NAME_LIMIT, out, called.bytes - 1).refusal == HWK_BUFFER_TOO_SHORT);
+    }
+    memset(text, 'x', sizeof text);
+    assert(hwk_call_entry(text, HWK_NAME_LIMIT, 0, out, sizeof out).bytes == HWK_NAME_LIMIT + 3);
+    assert(hwk_call_entry(text, sizeof text, 0, out, sizeof out).refusal == HWK_NAME_TOO_LONG);
+    assert(hwk_call_sheet(text, sizeof text, out, sizeof out).refusal == HWK_NAME_TOO_LONG);
+    assert(hwk_call_sheet(NULL, 0, NULL, 0).refusal == HWK_ACCEPTED);
+}
+
 int main(void)
 {
     check_texts();
@@ -151,5 +199,7 @@ int main(void)
     check_reading();
     check_table();
     check_roman();
+    check_rows();
+    check_calls();
     return 0;
 }

@@ -1,3 +1,5 @@
 pub mod Lines
+pub mod Room
 pub mod Turns
+pub mod Runs
 pub mod Answers

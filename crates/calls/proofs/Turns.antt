@@ -2,7 +2,7 @@
 use mathlib.Core.Path.{_≡_, refl, sym, ap, _∙_}
 use mathlib.Core.Bool.{Bool, true, false, _||_, false≢true}
 use mathlib.Core.List.{List, [], _∷_}
-use Prim.Native.Nat.{ℕ, suc, _+_, _-_, _≤_, _<_}
+use Prim.Native.Nat.{ℕ, _+_, _-_, _≤_, _<_}
 use native.Mathlib.Nat.{add-zero}
 use native.Mathlib.Omega.{arith}
 use lib.Dec.{ltb}
@@ -18,7 +18,7 @@ use Rattle.sentences.specs.Sentences.{breakAfter, startsAfter, starts, isBreak,
 use Rattle.sentences.specs.declared.State.{State}
 use Rattle.sentences.proofs.Kept.{marksFrom, marks-starts}
 use Rattle.sheets.specs.Sheet.{SheetEntry, entriesOf, entries, noEntry}
-use Rattle.sheets.specs.Calls.{nameLimit, isLong, anyLong, entryAt}
+use Rattle.sheets.specs.Calls.{nameLimit, anyLong}
 use Rattle.sheets.proofs.Entries.{entries-length}
 use Rattle.calls.specs.Walk.{linesTo, lineTo, named, FoundAt}
 use Rattle.calls.specs.declared.Found.{Found}

@@ -2,6 +2,8 @@
 use admit::Answer;
 use admit::Refusal;
 use admit::refusal_of;
+use lists::WHITESPACE;
+use lists::after_last;
 use lists::minus;
 use lists::part;
 use reader::leaf::Said;
@@ -28,6 +30,12 @@ ghost use Rattle.calls.specs.Walk.{refusedSheet, refusedEntry, linesTo, 
 
 // The longest name that is called.
 const NAME_BYTES: usize = 4096;
+
+// The shortest run in which a name may be longer.
+const RUN_BYTES: usize = NAME_BYTES + 1;
+
+// The most bytes of a call sheet, for each byte of the sheet and one more.
+const GROWTH: usize = 24;
 
 // A whole sheet's answer: the refusal's number or 0, the count of tokens, the count of words, and the call sheet's length.
 #[repr(C)]
@@ -104,10 +112,29 @@ fn say_sheet(s: &[u8], out: &mut [u8], table: &mut [u8]) -> Walked
     Walked { tokens: n, pen }
 }
 
+// Whether more bytes than a name may have stand together without whitespace. From each place the last whitespace is looked for
+// that would end such a run, so few bytes are read.
+fn has_long_run(s: &[u8]) -> bool
+    ensures { λ r. ⌜ (r ≡ false → anyLong (entries (now (s .entry))) ≡ false) ⌝ }
+{
+    let mut at = 0;
+    while NAME_BYTES < s.len() - at {
+        let ahead = after_last(WHITESPACE, 0, part(s, at, at + RUN_BYTES));
+        if ahead == 0 {
+            return true;
+        }
+        at += ahead;
+    }
+    false
+}
+
 // Whether a name is longer than is called.
 fn has_long_name(s: &[u8]) -> bool
     ensures { λ r. ⌜ r ≡ anyLong (entries (now (s .entry))) ⌝ }
 {
+    if !has_long_run(s) {
+        return false;
+    }
     let mut at = 0;
     while at < s.len() {
         let t = token_at(s, at);
@@ -122,11 +149,14 @@ fn has_long_name(s: &[u8]) -> bool
     false
 }
 
-// Whether a buffer of so many bytes is smaller than the call sheet: the lines are measured.
+// Whether a buffer of so many bytes is smaller than the call sheet. Where it may be, the lines are measured.
 fn is_sheet_short(s: &[u8], room: usize) -> bool
     requires { ⌜ room < top ⌝ }
     ensures { λ r. ⌜ r ≡ ltb room (length (callSheet (now (s .entry)))) ⌝ }
 {
+    if s.len() < room / GROWTH {
+        return false;
+    }
     let mut no_out = [0u8; 0];
     let mut no_table = [0u8; 0];
     let measured = say_sheet(s, &mut no_out, &mut no_table);
@@ -220,11 +250,14 @@ fn find_entry(s: &[u8], k: usize) -> Found
     nowhere()
 }
 
-// Whether a buffer of so many bytes is smaller than an entry's line: the line is measured.
+// Whether a buffer of so many bytes is smaller than an entry's line. Where it may be, the line is measured.
 fn is_line_short(starts: bool, name: &[u8], room: usize) -> bool
     requires { ⌜ room < top ⌝ }
     ensures { λ r. ⌜ r ≡ ltb room (length (lineOf (named starts (now (name .entry))))) ⌝ }
 {
+    if name.len() < room / GROWTH {
+        return false;
+    }
     let mut no_out = [0u8; 0];
     let mut no_table = [0u8; 0];
     let measured = say_line(starts, name, &mut no_out, &mut no_table, Pen::spaced());

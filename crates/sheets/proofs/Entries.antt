@@ -1,4 +1,4 @@
--- The entries of a sheet, one by one: each one's line stands in the whole sheet's call. Assumes nothing.
+-- The entries of a sheet, one by one. Assumes nothing.
 use mathlib.Core.Path.{_≡_, refl, sym, ap, _∙_}
 use mathlib.Core.Bool.{Bool, true}
 use mathlib.Core.List.{List, [], _∷_, _++_, map, append-assoc}
@@ -48,10 +48,10 @@ words-at [] k h = absurd (omega arith)
 words-at (e ∷ es) zero h = omega arith
 words-at (e ∷ es) (suc k) h = omega (arith, words-at es k (omega arith))
 
--- "its line as it stands in the whole sheet's call", and "the count of words"
-pub entry-line : (s : List ℕ) (k : ℕ) → k < length (tokens s)
+-- the call sheet and the count of words, at entry k
+pub sheet-at : (s : List ℕ) (k : ℕ) → k < length (tokens s)
     → (callSheet s ≡ storeOf (take k (lines s)) ++ (lineAt s k ++ storeOf (drop (suc k) (lines s))))
     × (countWords (entries s) ≡ countWords (take k (entries s)) + (length (wordsOf (entryAt s k)) + countWords (drop (suc k) (entries s))))
-entry-line s k h =
+sheet-at s k h =
     let n = entries-length s in
     (store-at (lines s) k (omega (arith, length-map (entries s) lineOf)), words-at (entries s) k (omega arith))

@@ -1,2 +1,3 @@
 pub mod Due
 pub mod Entries
+pub mod Alone

@@ -21,7 +21,7 @@ first-after : (s : List ℕ) → drop (size (firstToken s)) s ≡ afterRun s
 first-after s = ap (λ (k : ℕ). drop k s) (first-size s) ∙ sym (afterRun-drop s)
 
 -- its whitespace
-first-white : (s : List ℕ) → length (firstToken s .whitespace) ≡ span whitespace s
+pub first-white : (s : List ℕ) → length (firstToken s .whitespace) ≡ span whitespace s
 first-white s =
     ap (λ (t : Token). length (t .whitespace)) (cut-white (lead whitespace s) (lead nonWhitespace (afterWhite s)) (eqb (length (afterRun s)) 0))
     ∙ length-take-le (span whitespace s) s (span-le whitespace s)

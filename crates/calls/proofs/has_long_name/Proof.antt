@@ -2,7 +2,8 @@ use Prim.Native.Nat.{_-_, _≤_}
 use native.Mathlib.Omega.{arith}
 use lib.ListN.{length, drop}
 use borrow.Author.Needs.{needs}
-use mathlib.Core.Path.{_≡_}
+use borrow.Author.Tests.{not-true}
+use mathlib.Core.Path.{_≡_, sym}
 use Rattle.tokens.specs.Tokens.{tokens}
 use Rattle.tokens.proofs.Walks.{no-more, moves-on, tokens-past}
 use Rattle.sheets.specs.Sheet.{entries}
@@ -23,11 +24,13 @@ has-long-name-spec =
     (tie.spec
     Inv-loop
     μ-loop
-    (λ c. (omega arith, long-names (c .before .args .s .now)))
     (λ c κs. search needs)
-    (λ c. long-none (no-more (c .before .before .before .before .before .before .args .s .now) (c .before .before .before .before .loop .at) _ (c .before .before .before .before .loop .inv .0) (c .before .before .token-at .ensures) (c .if1 .taken)) (c .before .before .before .before .loop .inv .1))
+    (λ c. sym (c .before .has-long-run .ensures (not-true _ (c .if1 .taken))))
+    (λ c. (omega arith, long-names (c .before .before .before .args .s .now)))
     (λ c κs. search needs)
-    (λ c. long-here (c .before .before .before .before .before .before .before .before .args .s .now) (c .before .before .before .before .before .before .loop .at) _ (c .before .before .before .before .before .before .loop .inv .0) (c .before .before .before .before .token-at .ensures) (c .before .before .if1 .left) (omega (arith, c .before .minus .ensures)) (c .before .before .before .before .before .before .loop .inv .1))
-    (λ c. let m = moves-on (c .before .before .before .before .before .before .before .before .args .s .now) (c .before .before .before .before .before .before .loop .at) _ (c .before .before .before .before .before .before .loop .inv .0) (c .before .before .before .before .token-at .ensures) (c .before .before .if1 .left) in omega (arith, m .0, m .1))
-    (λ c. (moves-on (c .before .before .before .before .before .before .before .before .args .s .now) (c .before .before .before .before .before .before .loop .at) _ (c .before .before .before .before .before .before .loop .inv .0) (c .before .before .before .before .token-at .ensures) (c .before .before .if1 .left) .1, long-later (c .before .before .before .before .before .before .before .before .args .s .now) (c .before .before .before .before .before .before .loop .at) _ (c .before .before .before .before .before .before .loop .inv .0) (c .before .before .before .before .token-at .ensures) (c .before .before .if1 .left) (omega (arith, c .before .minus .ensures)) (c .before .before .before .before .before .before .loop .inv .1)))
-    (λ c. long-none (tokens-past (c .before .before .before .args .s .now) (c .before .loop .at) (omega arith)) (c .before .loop .inv .1)))
+    (λ c. long-none (no-more (c .before .before .before .before .before .before .before .before .args .s .now) (c .before .before .before .before .loop .at) _ (c .before .before .before .before .loop .inv .0) (c .before .before .token-at .ensures) (c .if2 .taken)) (c .before .before .before .before .loop .inv .1))
+    (λ c κs. search needs)
+    (λ c. long-here (c .before .before .before .before .before .before .before .before .before .before .args .s .now) (c .before .before .before .before .before .before .loop .at) _ (c .before .before .before .before .before .before .loop .inv .0) (c .before .before .before .before .token-at .ensures) (c .before .before .if2 .left) (omega (arith, c .before .minus .ensures)) (c .before .before .before .before .before .before .loop .inv .1))
+    (λ c. let m = moves-on (c .before .before .before .before .before .before .before .before .before .before .args .s .now) (c .before .before .before .before .before .before .loop .at) _ (c .before .before .before .before .before .before .loop .inv .0) (c .before .before .before .before .token-at .ensures) (c .before .before .if2 .left) in omega (arith, m .0, m .1))
+    (λ c. (moves-on (c .before .before .before .before .before .before .before .before .before .before .args .s .now) (c .before .before .before .before .before .before .loop .at) _ (c .before .before .before .before .before .before .loop .inv .0) (c .before .before .before .before .token-at .ensures) (c .before .before .if2 .left) .1, long-later (c .before .before .before .before .before .before .before .before .before .before .args .s .now) (c .before .before .before .before .before .before .loop .at) _ (c .before .before .before .before .before .before .loop .inv .0) (c .before .before .before .before .token-at .ensures) (c .before .before .if2 .left) (omega (arith, c .before .minus .ensures)) (c .before .before .before .before .before .before .loop .inv .1)))
+    (λ c. long-none (tokens-past (c .before .before .before .before .before .args .s .now) (c .before .loop .at) (omega arith)) (c .before .loop .inv .1)))

@@ -1,6 +1,8 @@
 use mathlib.Core.Path.{refl}
+use lib.ListN.{length}
 use Rattle.sheets.specs.Sheet.{entries}
 use Rattle.calls.proofs.Lines.{wrote-lines, lines-words, measured-lines}
+use Rattle.calls.proofs.Room.{sheet-room, surely-fits}
 use borrow.Author.Needs.{needs}
 use Rattle.calls.proofs.is_sheet_short.Statement.{statement}
 use Rattle.calls.proofs.is_sheet_short.Tie as tie
@@ -8,4 +10,9 @@ use Rattle.calls.proofs.is_sheet_short.Tie as tie
 pub is-sheet-short-spec : {M : Type 1} → statement M
 is-sheet-short-spec =
     tie.close
-    (tie.spec (λ c. search needs) (λ c. search needs) (λ c κs. search needs) (λ c. let es = entries (c .before .before .before .before .before .before .before .args .s .now) in measured-lines (wrote-lines es) (lines-words es) _ _ _ _ refl (c .before .before .before .say-sheet .ensures .1) _ (c .before .before .before .before .before .before .before .pre)))
+    (tie.spec
+    (λ c. surely-fits _ (length (c .before .before .args .s .now)) _ (sheet-room (c .before .before .args .s .now)) (c .if1 .taken))
+    (λ c. search needs)
+    (λ c. search needs)
+    (λ c κs. search needs)
+    (λ c. let es = entries (c .before .before .before .before .before .before .before .before .args .s .now) in measured-lines (wrote-lines es) (lines-words es) _ _ _ _ refl (c .before .before .before .say-sheet .ensures .1) _ (c .before .before .before .before .before .before .before .before .pre)))

@@ -1,0 +1,74 @@
+-- What the call of one entry gives is what stands in the whole sheet's call. Assumes nothing.
+use mathlib.Core.Path.{_≡_, refl, sym, ap, _∙_}
+use mathlib.Core.Bool.{Bool, true, false, cond, not, _||_}
+use mathlib.Core.List.{List, [], _∷_, _++_}
+use Prim.Native.Nat.{ℕ, zero, suc, _+_, _≤_, _<_}
+use native.Mathlib.Omega.{arith}
+use lib.Dec.{leb, ltb}
+use lib.ListN.{length, take, drop, getD}
+use lib.Seq.{take-append-seam}
+use borrow.Author.Tests.{le-ltb, lt-leb}
+use Rattle.admit.specs.Utf8.{utf8}
+use Rattle.admit.specs.Refusals.{textLimit, textRefusal, Call}
+use Rattle.admit.proofs.Calls.{tests, call-accepted}
+use Rattle.sink.specs.Words.{storeOf}
+use Rattle.tokens.specs.Tokens.{tokens}
+use Rattle.sheets.specs.Sheet.{SheetEntry, entries, wordsOf, lines, callSheet, countWords, noEntry}
+use Rattle.sheets.specs.Calls.{isLong, anyLong, Accepted, entryAt, lineAt, EntryGiven, entryCall}
+use Rattle.sheets.proofs.Due.{later, allTests, text-passed}
+use Rattle.sheets.proofs.Entries.{entries-length, sheet-at}
+
+-- the line and the words that a call of entry k gives, on the buffer `old`
+abbrev pub lineGiven : List ℕ → ℕ → List ℕ → List ℕ
+lineGiven s k old = take (entryCall s k old .value .bytes) (entryCall s k old .value .buffer)
+
+abbrev pub wordsGiven : List ℕ → ℕ → List ℕ → ℕ
+wordsGiven s k old = entryCall s k old .value .words
+
+-- "or would stand there if no other entry were held back by number 4": of the names its own alone decides
+pub entry-alone : (s old : List ℕ) (k : ℕ) → textRefusal textLimit s ≡ 0 → k < length (tokens s) → isLong (entryAt s k) ≡ false → length (lineAt s k) ≤ length old
+    → (entryCall s k old .refusal ≡ 0) × (lineGiven s k old ≡ lineAt s k) × (wordsGiven s k old ≡ length (wordsOf (entryAt s k)))
+unfolding entryCall
+entry-alone s old k t h l r =
+    let none : Bool = leb (length (tokens s)) k in
+    let short : Bool = ltb (length old) (length (lineAt s k)) in
+    let d : allTests s none (isLong (entryAt s k)) short ≡ 0 = text-passed s none (isLong (entryAt s k)) short 0 (sym t) refl ∙ rw (lt-leb (length (tokens s)) k h, l, le-ltb (length old) (length (lineAt s k)) r) in
+    let q = call-accepted _ _ _ (allTests s none (isLong (entryAt s k)) short) (sym d) refl in (
+      sym (ap (λ (c : Call EntryGiven). c .refusal) q),
+      sym (ap (λ (c : Call EntryGiven). take (c .value .bytes) (c .value .buffer)) q) ∙ take-append-seam (lineAt s k) (drop (length (lineAt s k)) old),
+      sym (ap (λ (c : Call EntryGiven). c .value .words) q),
+    )
+
+-- no entry of an accepted sheet is held back but for room
+accepted-tests : (s : List ℕ) → Accepted s → (textRefusal textLimit s ≡ 0) × (anyLong (entries s) ≡ false)
+accepted-tests s = go (ltb textLimit (length s)) (utf8 s) (anyLong (entries s))
+  where
+    go : (long good big : Bool) → cond long 1 (cond (not good) 2 (later false big false)) ≡ 0 → (tests long good false ≡ 0) × (big ≡ false)
+    go true good big h = absurd (omega arith)
+    go false false big h = absurd (omega arith)
+    go false true true h = absurd (omega arith)
+    go false true false h = (refl, refl)
+
+or-left : (a b : Bool) → (a || b) ≡ false → a ≡ false
+or-left false b e = refl
+or-left true b e = e
+
+or-right : (a b : Bool) → (a || b) ≡ false → b ≡ false
+or-right false b e = e
+or-right true b e = let z : _≡_ {A = Bool} true false = e in cc
+
+short-at : (es : List SheetEntry) (k : ℕ) → k < length es → anyLong es ≡ false → isLong (getD es k noEntry) ≡ false
+unfolding anyLong
+short-at [] k h e = absurd (omega arith)
+short-at (x ∷ es) zero h e = or-left (isLong x) (anyLong es) e
+short-at (x ∷ es) (suc k) h e = short-at es k (omega arith) (or-right (isLong x) (anyLong es) e)
+
+-- "its line as it stands in the whole sheet's call", and its words are its share of "the count of words"
+pub entry-line : (s old : List ℕ) (k : ℕ) → Accepted s → k < length (tokens s) → length (lineAt s k) ≤ length old
+    → (entryCall s k old .refusal ≡ 0)
+    × (callSheet s ≡ storeOf (take k (lines s)) ++ (lineGiven s k old ++ storeOf (drop (suc k) (lines s))))
+    × (countWords (entries s) ≡ countWords (take k (entries s)) + (wordsGiven s k old + countWords (drop (suc k) (entries s))))
+entry-line s old k a h r =
+    let t = accepted-tests s a in
+    let c = entry-alone s old k (t .0) h (short-at (entries s) k (omega (arith, entries-length s)) (t .1)) r in
+    rw (c .1, c .2) (c .0, sheet-at s k h .0, sheet-at s k h .1)
