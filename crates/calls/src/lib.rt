@@ -2,12 +2,12 @@
 use admit::Answer;
 use admit::Refusal;
 use admit::refusal_of;
+use leaf::Said;
 use lists::WHITESPACE;
 use lists::after_last;
 use lists::minus;
 use lists::part;
-use reader::leaf::Said;
-use reader::percent::read_entry;
+use reader::read_name;
 use rows::Entry;
 use rows::Row;
 use sentences::State;
@@ -79,7 +79,7 @@ fn say_line(starts: bool, name: &[u8], out: &mut [u8], table: &mut [u8], pen: Pe
     ensures { λ r. ⌜ Lined (named starts (now (name .entry))) (sink (now (out .entry)) (now (table .entry)) pen) (sink (now (out .exit)) (now (table .exit)) (r .pen)) (r .entry .row) ⌝ }
 {
     let p = byte(out, pen, mark_of(starts));
-    let said = read_entry(name, out, table, p);
+    let said = read_name(name, out, table, p);
     let entry = said.entry;
     let last = said.pen;
     Said {

@@ -14,4 +14,4 @@ say-line-spec =
     (λ c κs. search needs)
     (λ c. search needs)
     (λ c. search needs)
-    (λ c. record { row = c .before .before .before .before .before .before .before .before .before .before .read-entry .ensures .row; written = line-said (named (c .before .before .before .before .before .before .before .before .before .before .before .before .before .before .before .before .before .before .before .before .before .args .starts) (c .before .before .before .before .before .before .before .before .before .before .before .before .before .before .before .before .before .before .before .before .before .args .name .now)) _ _ _ (c .before .before .before .before .before .before .before .before .before .before .before .before .before .before .before .before .mark-of .ensures) (c .before .before .before .before .before .before .before .before .before .before .before .before .before .before .before .byte .ensures (c .before .before .before .before .before .before .before .before .before .before .before .before .before .before .before .before .before .before .before .before .before .args .table .now)) (c .before .before .before .before .before .before .before .before .before .before .read-entry .ensures .said) (c .before .before .byte2 .ensures _) }))
+    (λ c. record { row = c .before .before .before .before .before .before .before .before .before .before .read-name .ensures .row; written = line-said (named (c .before .before .before .before .before .before .before .before .before .before .before .before .before .before .before .before .before .before .before .before .before .args .starts) (c .before .before .before .before .before .before .before .before .before .before .before .before .before .before .before .before .before .before .before .before .before .args .name .now)) _ _ _ (c .before .before .before .before .before .before .before .before .before .before .before .before .before .before .before .before .mark-of .ensures) (c .before .before .before .before .before .before .before .before .before .before .before .before .before .before .before .byte .ensures (c .before .before .before .before .before .before .before .before .before .before .before .before .before .before .before .before .before .before .before .before .before .args .table .now)) (c .before .before .before .before .before .before .before .before .before .before .read-name .ensures .said) (c .before .before .byte2 .ensures _) }))

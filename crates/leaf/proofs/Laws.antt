@@ -1,0 +1,153 @@
+-- What the readers of a leaf's rows answer. Assumes nothing.
+use mathlib.Core.Path.{_≡_, refl, sym, ap, _∙_}
+use mathlib.Core.Bool.{Bool, true, false, cond, not, _&&_, and-false, and-eq-true-iff, or-false, false≢true}
+use mathlib.Core.List.{List, [], _∷_, _++_, map}
+use Prim.Native.Nat.{ℕ, _+_, _-_, _<_}
+use Prim.Native.Char.{code}
+use native.Mathlib.Omega.{arith}
+use lib.Dec.{eqb, leb}
+use lib.ListN.{length, take, drop, getD}
+use lib.Seq.{drop-cons}
+use native.Mathlib.Numerals.{add-one}
+use borrow.Author.Tests.{ltb-true, leb-true, eq-eqb, ne-eqb, lt-leb, not-true}
+use Rattle.lists.specs.Bytes.{keep, all, ends}
+use Rattle.lists.specs.Classes.{except, letter, continuation, digitOrComma}
+use Rattle.units.specs.Units.{unitIndex, isUnit, unitWord, wordNumbers, unitAbbreviations}
+use Rattle.lists.proofs.Recursion.{cond-elim}
+use Rattle.units.proofs.Laws.{word-row, rows}
+use Rattle.shapes.specs.Shapes.{hasUnit, unitAt, unitPart, isDottedAbbrev}
+use Rattle.shapes.specs.Times.{parts, timeOf, separatorAt, isMeridiemTime, timeParts, timeSplit, partsOf}
+use Rattle.shapes.specs.declared.TimeSplit.{TimeSplit}
+use Rattle.shapes.specs.declared.TimeSplit.the-variants.{At, Nothing}
+use Rattle.shapes.proofs.Laws.{unit-some}
+use Rattle.lexicon.specs.Lexicon.{wordOf}
+use Rattle.sink.specs.Sink.{Sink, emitAll}
+use Rattle.numerals.specs.Words.{Word, other, spelled}
+use Rattle.numerals.proofs.Digits.{spelled-append}
+use Rattle.readings.specs.Letters.{letterWord, letters, chars}
+use Rattle.rows.proofs.Taken.{untaken, dottedByte, dotted-bytes}
+use Rattle.rows.specs.Rows.{Reading, by, readStep, read}
+use Rattle.rows.proofs.Laws.{read-eq}
+use Rattle.leaf.specs.Walk.{Says, initials, fromUnit, fromLeadingZero, fromMeridiem, fromEmpty}
+use Rattle.rows.specs.declared.Row.{Row}
+
+-- a reading is said where an equal one is
+pub says-same : (g h : Reading) → g ≡ h → (σ : Sink) {τ : Sink} {q : Row} → Says h σ τ q → Says g σ τ q
+says-same g h e σ k = record { row = k .row ∙ sym (ap (λ (r : Reading). r .row) e); said = k .said ∙ sym (ap (λ (r : Reading). emitAll (spelled (r .words)) σ) e) }
+
+-- a row's words are said, and the row answered
+pub says-row : (g : Reading) (row : Row) (ws : List Word) → g ≡ by row ws → (σ : Sink) {τ : Sink} {q : Row} → q ≡ row → τ ≡ emitAll (spelled ws) σ → Says g σ τ q
+says-row g row ws e σ p d = says-same g (by row ws) e σ (record { row = p; said = d })
+
+-- a name that does not end in % goes through the other rows
+pub leaf-read : (s : List ℕ) → ends (code "%") s ≡ false → read s ≡ fromEmpty s
+unfolding readStep fromEmpty fromMeridiem fromLeadingZero fromUnit
+leaf-read s e = read-eq s ∙ rw e
+
+-- ---- a unit
+
+pub unit-there : (s : List ℕ) {u : List ℕ} → u ≡ unitPart s → (length u ≡ 0 → ⊥) → hasUnit s ≡ true
+unit-there s e n = go (hasUnit s) refl (rw e at n)
+  where
+    go : (b : Bool) → hasUnit s ≡ b → (length (unitPart s) ≡ 0 → ⊥) → hasUnit s ≡ true
+    go true e n = e
+    go false e n = absurd (n (rw e))
+
+pub unit-missing : (s : List ℕ) {u : List ℕ} → u ≡ unitPart s → length u ≡ 0 → hasUnit s ≡ false
+unit-missing s e n = untaken (hasUnit s) (λ k. unit-some s k (rw (e, k) at n))
+
+is-unit : (s : List ℕ) → hasUnit s ≡ true → isUnit (unitPart s) ≡ true
+is-unit s e = rw e (unfold hasUnit in and-eq-true-iff (not (eqb (unitAt s) 0) && all digitOrComma (take (unitAt s) s)) (isUnit (drop (unitAt s) s)) .0 e .1)
+
+-- the lexicon's word of a unit is the unit's
+pub unit-word : (s : List ℕ) {u : List ℕ} {i k : ℕ} → u ≡ unitPart s → (length u ≡ 0 → ⊥) → i ≡ unitIndex u → k ≡ getD wordNumbers i 0 → wordOf k ≡ unitWord (unitPart s)
+unit-word s e n p q =
+    let h : unitIndex (unitPart s) < 22 = rw rows at (ltb-true (unitIndex (unitPart s)) (length unitAbbreviations) (is-unit s (unit-there s e n))) in
+    rw (q, p, e) (word-row (unitIndex (unitPart s)) h)
+
+-- ---- hour, minute and meridiem
+
+isAt : TimeSplit → Bool
+isAt (At h m x) = true
+isAt Nothing = false
+
+tested : (b : Bool) (h m x : ℕ) → isAt (cond b (At h m x) Nothing) ≡ b
+unfolding isAt
+tested true h m x = refl
+tested false h m x = refl
+
+split-test : (s : List ℕ) → isAt (timeSplit s) ≡ isMeridiemTime s
+unfolding timeSplit isAt
+split-test s = tested (isMeridiemTime s) (separatorAt (timeOf s)) (separatorAt (timeOf s) + 1) (length s - 2)
+
+pub split-none : (s : List ℕ) {r : TimeSplit} → r ≡ timeSplit s → r ≡ Nothing → isMeridiemTime s ≡ false
+unfolding isAt
+split-none s e n = sym (split-test s) ∙ ap isAt (sym e ∙ n)
+
+pub split-some : (s : List ℕ) {r : TimeSplit} → r ≡ timeSplit s → {h m x : ℕ} → r ≡ At h m x → isMeridiemTime s ≡ true
+unfolding isAt
+split-some s e n = sym (split-test s) ∙ ap isAt (sym e ∙ n)
+
+pub split-parts : (s : List ℕ) {r : TimeSplit} → partsOf r s ≡ timeParts s → {h m x : ℕ} → r ≡ At h m x → timeParts s ≡ parts (take h s) (take (x - m) (drop m s)) (drop x s)
+split-parts s e n = sym e ∙ ap (λ (r : TimeSplit). partsOf r s) n
+
+-- ---- initials
+
+one-initial : (b : ℕ) (s : List ℕ) → initials (b ∷ s) ≡ initials (b ∷ []) ++ initials s
+unfolding initials keep
+one-initial b s = go (except (code ".") b)
+  where
+    go : (t : Bool) → map (λ b. other (letterWord (b ∷ []))) (cond t (b ∷ keep (except (code ".")) s) (keep (except (code ".")) s)) ≡ map (λ b. other (letterWord (b ∷ []))) (cond t (b ∷ []) []) ++ map (λ b. other (letterWord (b ∷ []))) (keep (except (code ".")) s)
+    go true = refl
+    go false = refl
+
+pub initials-at : (s : List ℕ) (i : ℕ) → i < length s → spelled (initials (drop i s)) ≡ spelled (initials (getD s i 0 ∷ [])) ++ spelled (initials (drop (i + 1) s))
+initials-at s i h =
+    ap (λ (t : List ℕ). spelled (initials t)) (drop-cons s i 0 h ∙ ap (λ (k : ℕ). getD s i 0 ∷ drop k s) (sym (add-one i)))
+    ∙ ap spelled (one-initial (getD s i 0) (drop (i + 1) s)) ∙ spelled-append (initials (getD s i 0 ∷ [])) (initials (drop (i + 1) s))
+
+pub no-initials : spelled (initials []) ≡ []
+unfolding initials keep spelled
+no-initials = refl
+
+pub point-initial : (b : ℕ) → b ≡ code "." → initials (b ∷ []) ≡ []
+unfolding initials keep
+point-initial b e = rw (eq-eqb b (code ".") e)
+
+pub letter-initial : (b : ℕ) → (b ≡ code "." → ⊥) → initials (b ∷ []) ≡ other (letterWord (b ∷ [])) ∷ []
+unfolding initials keep
+letter-initial b n = rw (ne-eqb b (code ".") n)
+
+-- a text of letters has a character a byte
+letter-alone : (b : ℕ) → letter b ≡ true → continuation b ≡ false
+letter-alone b e = untaken (continuation b) (λ k.
+    let h = leb-true 0x80 b (and-eq-true-iff (leb 0x80 b) (leb b 0xBF) .0 k .0) in
+    false≢true (rw (lt-leb b (code "Z") (omega arith), lt-leb b (code "z") (omega arith), and-false (leb (code "A") b), and-false (leb (code "a") b)) at e))
+
+alone : (s : List ℕ) → all letter s ≡ true → continuation (getD s 0 0) ≡ false
+unfolding all
+alone [] e = refl
+alone (b ∷ s) e = letter-alone b (and-eq-true-iff (letter b) (all letter s) .0 e .0)
+
+letter-chars : (s : List ℕ) → all letter s ≡ true → letters s ≡ map (λ b. other (letterWord (b ∷ []))) s
+unfolding letters chars all
+letter-chars [] e = refl
+letter-chars (b ∷ s) e =
+    let t = and-eq-true-iff (letter b) (all letter s) .0 e .1 in
+    rw (alone s t) (ap (λ (ws : List Word). other (letterWord (b ∷ [])) ∷ ws) (letter-chars s t))
+
+-- a byte of a dotted abbreviation that is no point is a letter
+kept-letter : (b : ℕ) → dottedByte b ≡ true → except (code ".") b ≡ true → letter b ≡ true
+kept-letter b h k = sym (or-false (letter b)) ∙ rw (not-true (eqb b (code ".")) k) at h
+
+kept-letters : (s : List ℕ) → all dottedByte s ≡ true → all letter (keep (except (code ".")) s) ≡ true
+unfolding all keep
+kept-letters [] h = refl
+kept-letters (b ∷ s) h =
+    let k = and-eq-true-iff (dottedByte b) (all dottedByte s) .0 h in
+    cond-elim (λ (t : List ℕ). all letter t ≡ true) (except (code ".") b) (λ e. rw (kept-letter b (k .0) e, kept-letters s (k .1))) (λ e. kept-letters s (k .1))
+
+-- so it has a letter for each byte that is no point
+pub dotted-initials : (s : List ℕ) → isDottedAbbrev s ≡ true → letters (keep (except (code ".")) s) ≡ initials s
+unfolding initials
+dotted-initials s e = letter-chars (keep (except (code ".")) s) (kept-letters s (dotted-bytes s e))

@@ -1,0 +1,34 @@
+use borrow.Author.Needs.{needs}
+use Rattle.leaf.proofs.say_clock.Statement.{statement}
+use Rattle.leaf.proofs.say_clock.Tie as tie
+use mathlib.Core.Path.{refl, sym, _∙_}
+use mathlib.Core.List.{[]}
+use Rattle.sink.specs.Sink.{emitAll}
+use Rattle.numerals.specs.Words.{spelled}
+use Rattle.numerals.specs.Cardinal.{cardinal}
+use Rattle.readings.specs.Year.{year}
+use Rattle.readings.proofs.Said.{says-more}
+use Rattle.rows.specs.Rows.{clock}
+
+returns : tie.Need-returns
+unfolding clock
+returns c = says-more (cardinal (c .before .before .before .before .before .before .before .before .before .before .before .before .before .before .args .hour .now)) [] (rw (sym (c .before .same .ensures) ∙ c .if1 .taken)) _ (c .before .before .before .before .before .before .before .say-cardinal .ensures) (unfold spelled emitAll in refl)
+
+returns-2 : tie.Need-returns-2
+unfolding clock
+returns-2 c = says-more (cardinal (c .before .before .before .before .before .before .before .before .before .before .before .before .before .before .before .before .before .before .before .before .before .args .hour .now)) (year (c .before .before .before .before .before .before .before .before .before .before .before .before .before .before .before .before .before .before .before .before .before .args .minute .now)) (rw (sym (c .before .before .before .before .before .before .before .before .same .ensures) ∙ c .before .before .before .before .before .before .before .if1 .left)) _ (c .before .before .before .before .before .before .before .before .before .before .before .before .before .before .say-cardinal .ensures) (c .before .before .before .before .say-year .ensures)
+
+pub say-clock-spec : {M : Type 1} → statement M
+say-clock-spec =
+    tie.close
+    (tie.spec
+    (λ c κs. search needs)
+    (λ c. search needs)
+    (λ c κs. search needs)
+    (λ c. search needs)
+    (λ c. search needs)
+    returns
+    (λ c κs. search needs)
+    (λ c. search needs)
+    (λ c. search needs)
+    returns-2)

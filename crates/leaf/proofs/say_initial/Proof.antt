@@ -1,0 +1,28 @@
+use borrow.Author.Needs.{needs}
+use Rattle.leaf.proofs.say_initial.Statement.{statement}
+use Rattle.leaf.proofs.say_initial.Tie as tie
+use mathlib.Core.List.{[], _∷_}
+use Rattle.sink.specs.Sink.{emitAll}
+use Rattle.numerals.specs.Words.{other, spell, spelled}
+use Rattle.readings.specs.Letters.{letterWord}
+use Rattle.readings.proofs.Said.{said-word}
+use Rattle.leaf.proofs.Laws.{point-initial, letter-initial}
+
+returns : tie.Need-returns
+unfolding spelled emitAll
+returns c = rw (point-initial (c .before .before .before .args .b) (c .if1 .taken))
+
+returns-2 : tie.Need-returns-2
+unfolding spell
+returns-2 c = rw (letter-initial (c .before .before .before .before .before .before .before .before .before .before .before .args .b) (c .before .before .before .before .before .before .before .before .if1 .left)) (said-word (other (letterWord (c .before .before .before .before .before .before .before .before .before .before .before .args .b ∷ []))) _ (c .before .before .before .before .say-letter .ensures))
+
+pub say-initial-spec : {M : Type 1} → statement M
+say-initial-spec =
+    tie.close
+    (tie.spec
+    returns
+    (λ c. search needs)
+    (λ c κs. search needs)
+    (λ c. search needs)
+    (λ c. search needs)
+    returns-2)

@@ -1,0 +1,183 @@
+// The rows that read a name once: all but row 10.
+use lists::DIGIT;
+use lists::EXACT;
+use lists::NOT;
+use lists::after_last;
+use lists::front;
+use lists::part;
+use lists::same;
+use lists::span_of;
+use lists::starts_with;
+use lists::tail;
+use lists::without_back;
+use numerals::number::say_cardinal;
+use numerals::number::say_ordinal;
+use numerals::saying::say;
+use numerals::saying::say_digits;
+use readings::letter::say_letter;
+use readings::letter::say_letters;
+use readings::part::say_real;
+use readings::years::say_year;
+use rows::Entry;
+use rows::Row;
+use rows::Sign;
+use shapes::TimeSplit;
+use shapes::is_comma_int;
+use shapes::is_digits;
+use shapes::is_dotted_abbrev;
+use shapes::is_double;
+use shapes::is_leading_zero_digits;
+use shapes::is_ordinal;
+use shapes::is_time;
+use shapes::split_time_meridiem;
+use shapes::split_unit;
+use sink::Pen;
+use sink::word_lowered;
+use units::unit_index;
+use units::word_number;
+ghost use mathlib.Core.Path.{_≡_};
+ghost use mathlib.Core.List.{_∷_, []};
+ghost use Rattle.sink.specs.Sink.{sink, emitAll};
+ghost use Rattle.numerals.specs.Words.{spelled};
+ghost use Rattle.rows.specs.Rows.{signOf, clock};
+ghost use Rattle.leaf.specs.Walk.{Says, initials, fromUnit, fromLeadingZero, fromMeridiem, fromEmpty};
+
+// An entry's record, and where the pen stands after its words.
+pub struct Said {
+    pub entry: Entry,
+    pub pen: Pen,
+}
+
+pub fn answer(row: Row, pen: Pen) -> Said
+    ensures { λ r. ⌜ (r .entry .row ≡ row) × (r .pen ≡ pen) ⌝ }
+{
+    Said {
+        entry: Entry { row },
+        pen,
+    }
+}
+
+fn sign_of(name: &[u8]) -> Sign
+    ensures { λ r. ⌜ r ≡ signOf (now (name .entry)) ⌝ }
+{
+    if starts_with(name, b'-') {
+        return Sign::Minus;
+    }
+    Sign::Plus
+}
+
+// Says the hour, and the minute unless it is "00".
+fn say_clock(hour: &[u8], minute: &[u8], store: &mut [u8], table: &mut [u8], pen: Pen) -> Pen
+    ensures { λ r. ⌜ sink (now (store .exit)) (now (table .exit)) r ≡ emitAll (spelled (clock (now (hour .entry)) (now (minute .entry)))) (sink (now (store .entry)) (now (table .entry)) pen) ⌝ }
+{
+    let p = say_cardinal(hour, store, table, pen);
+    if same(EXACT, minute, b"00") {
+        return p;
+    }
+    say_year(minute, store, table, p)
+}
+
+// Says the letter b, and nothing of a point.
+fn say_initial(b: u8, store: &mut [u8], table: &mut [u8], pen: Pen) -> Pen
+    ensures { λ r. ⌜ sink (now (store .exit)) (now (table .exit)) r ≡ emitAll (spelled (initials (b ∷ []))) (sink (now (store .entry)) (now (table .entry)) pen) ⌝ }
+{
+    if b == b'.' {
+        return pen;
+    }
+    let c = [b];
+    say_letter(&c, store, table, pen)
+}
+
+// Says one word for each byte that is no point.
+fn say_initials(name: &[u8], store: &mut [u8], table: &mut [u8], pen: Pen) -> Pen
+    ensures { λ r. ⌜ sink (now (store .exit)) (now (table .exit)) r ≡ emitAll (spelled (initials (now (name .entry)))) (sink (now (store .entry)) (now (table .entry)) pen) ⌝ }
+{
+    let mut p = pen;
+    let mut i = 0;
+    while i < name.len() {
+        p = say_initial(name[i], store, table, p);
+        i += 1;
+    }
+    p
+}
+
+// Rows 11 and 12.
+fn from_unit(name: &[u8], store: &mut [u8], table: &mut [u8], pen: Pen) -> Said
+    ensures { λ r. ⌜ Says (fromUnit (now (name .entry))) (sink (now (store .entry)) (now (table .entry)) pen) (sink (now (store .exit)) (now (table .exit)) (r .pen)) (r .entry .row) ⌝ }
+{
+    let unit = split_unit(name);
+    if unit.len() == 0 {
+        return answer(Row::OneWord, word_lowered(store, table, pen, name));
+    }
+    let number = front(name, after_last(DIGIT, 0, name));
+    let p = say_cardinal(number, store, table, pen);
+    let word = word_number(unit_index(unit)) as usize;
+    answer(Row::Unit, say(word, store, table, p))
+}
+
+// The rows from 6 on.
+fn from_leading_zero(name: &[u8], store: &mut [u8], table: &mut [u8], pen: Pen) -> Said
+    ensures { λ r. ⌜ Says (fromLeadingZero (now (name .entry))) (sink (now (store .entry)) (now (table .entry)) pen) (sink (now (store .exit)) (now (table .exit)) (r .pen)) (r .entry .row) ⌝ }
+{
+    if is_leading_zero_digits(name) {
+        return answer(Row::LeadingZero, say_digits(name, store, table, pen));
+    }
+    if is_digits(name) {
+        return answer(Row::Digits, say_cardinal(name, store, table, pen));
+    }
+    if is_double(name) {
+        let p = say_real(name, store, table, pen);
+        return answer(Row::Figure(sign_of(name)), p);
+    }
+    if is_ordinal(name) {
+        let number = without_back(name, 2);
+        return answer(Row::Ordinal, say_ordinal(number, store, table, pen));
+    }
+    from_unit(name, store, table, pen)
+}
+
+// The rows from 5 on.
+fn from_meridiem(name: &[u8], store: &mut [u8], table: &mut [u8], pen: Pen) -> Said
+    ensures { λ r. ⌜ Says (fromMeridiem (now (name .entry))) (sink (now (store .entry)) (now (table .entry)) pen) (sink (now (store .exit)) (now (table .exit)) (r .pen)) (r .entry .row) ⌝ }
+{
+    let split = split_time_meridiem(name);
+    let TimeSplit::At {
+        hour,
+        minute,
+        meridiem,
+    } = split
+    else {
+        return from_leading_zero(name, store, table, pen);
+    };
+    let p = say_clock(
+        front(name, hour),
+        part(name, minute, meridiem),
+        store,
+        table,
+        pen,
+    );
+    let q = say_letters(tail(name, meridiem), store, table, p);
+    answer(Row::Meridiem, q)
+}
+
+// The rows of a name that does not end in %.
+pub fn read_leaf(name: &[u8], store: &mut [u8], table: &mut [u8], pen: Pen) -> Said
+    ensures { λ r. ⌜ Says (fromEmpty (now (name .entry))) (sink (now (store .entry)) (now (table .entry)) pen) (sink (now (store .exit)) (now (table .exit)) (r .pen)) (r .entry .row) ⌝ }
+{
+    if name.len() == 0 {
+        return answer(Row::Empty, pen);
+    }
+    if is_dotted_abbrev(name) {
+        return answer(Row::Dotted, say_initials(name, store, table, pen));
+    }
+    if is_comma_int(name) {
+        return answer(Row::CommaInt, say_cardinal(name, store, table, pen));
+    }
+    if is_time(name) {
+        let at = span_of(NOT, b':', name);
+        let hour = front(name, at);
+        let minute = tail(name, at + 1);
+        return answer(Row::Time, say_clock(hour, minute, store, table, pen));
+    }
+    from_meridiem(name, store, table, pen)
+}

@@ -1,0 +1,47 @@
+-- How signs are counted, and where the pen stands after a name. Assumes nothing.
+use mathlib.Core.Path.{_≡_, sym, ap, _∙_}
+use mathlib.Core.Bool.{true, false}
+use mathlib.Core.List.{List, _++_, append-assoc, append-nil}
+use Prim.Native.Nat.{ℕ, _+_, _-_, _<_}
+use native.Mathlib.Numerals.{add-one}
+use native.Mathlib.Omega.{arith}
+use lib.ListN.{length, take}
+use Rattle.sink.specs.Sink.{Sink, sink, emitAll}
+use Rattle.sink.specs.declared.Pen.{Pen}
+use Rattle.numerals.specs.Words.{spelled}
+use Rattle.rows.specs.Rows.{Reading, by, perCent, read}
+use Rattle.rows.specs.declared.Row.{Row}
+use Rattle.rows.specs.declared.Row.the-variants.{Percent}
+use Rattle.rows.proofs.Percent.{percent-read}
+use Rattle.leaf.specs.Walk.{Says, fromEmpty}
+use Rattle.leaf.proofs.Laws.{leaf-read}
+use Rattle.reader.specs.Signs.{isPercent, perCents, signed}
+
+one-more : (n : ℕ) → perCents (n + 1) ≡ perCent ++ perCents n
+unfolding perCents
+one-more n = rw add-one
+
+-- a sign is said, and one less is left
+pub one-less : (n : ℕ) → 0 < n → perCents n ≡ perCent ++ perCents (n - 1)
+one-less n h = let e : n ≡ n - 1 + 1 = omega arith in ap perCents e ∙ one-more (n - 1)
+
+-- nothing is left to be said
+pub none-left : (n : ℕ) → n ≡ 0 → (σ : Sink) {z : Sink} → emitAll (spelled (perCents n)) σ ≡ z → σ ≡ z
+unfolding perCents spelled emitAll
+none-left n e σ k = rw e at k
+
+pub unsigned : (g : Reading) → g ≡ signed g 0
+unfolding perCents
+unsigned g = λ j. record { row = g .row; words = sym (append-nil (g .words)) j }
+
+-- a name that does not end in % goes through the other rows
+pub sign-missing : (s : List ℕ) (n : ℕ) → isPercent s ≡ false → signed (read s) n ≡ signed (fromEmpty s) n
+sign-missing s n e = ap (λ (g : Reading). signed g n) (leaf-read s e)
+
+-- a name that ends in % is read as what stands before, with one sign more after it
+pub sign-taken : (s : List ℕ) (n : ℕ) → isPercent s ≡ true → signed (read s) n ≡ by Percent (read (take (length s - 1) s) .words ++ perCents (n + 1))
+sign-taken s n e = rw (percent-read s e, one-more n, append-assoc)
+
+-- what is said from the pen that a place stands for
+pub from-pen : (g : Reading) (s t : List ℕ) {p q : Pen} → p ≡ q → {τ : Sink} {r : Row} → Says g (sink s t p) τ r → Says g (sink s t q) τ r
+from-pen g s t e h = rw e at h

@@ -1,0 +1,17 @@
+use mathlib.Core.Path.{refl}
+use mathlib.Core.List.{[], _∷_}
+use Rattle.lists.specs.Bytes.{bytes}
+use Rattle.lexicon.proofs.Laws.{lexicon}
+use Rattle.numerals.specs.Words.{other, spell}
+use Rattle.readings.proofs.Said.{said-word, says-more}
+use borrow.Author.Needs.{needs}
+use Rattle.reader.proofs.say_per_cent.Statement.{statement}
+use Rattle.reader.proofs.say_per_cent.Tie as tie
+
+returns : tie.Need-returns
+unfolding spell lexicon
+returns c = says-more (other (bytes "per") ∷ []) (other (bytes "cent") ∷ []) refl _ (said-word (other (bytes "per")) _ (c .before .before .before .before .before .before .before .before .before .before .before .say .ensures)) (said-word (other (bytes "cent")) _ (c .before .before .before .before .say2 .ensures))
+
+pub say-per-cent-spec : {M : Type 1} → statement M
+say-per-cent-spec =
+    tie.close (tie.spec (λ c κs. search needs) (λ c κs. search needs) (λ c. search needs) (λ c. search needs) returns)

@@ -1,0 +1,34 @@
+use Rattle.reader.proofs.say_per_cents.Statement.{statement}
+use Rattle.reader.proofs.say_per_cents.Tie as tie
+use mathlib.Core.Path.{_≡_, refl, _∙_}
+use Prim.Native.Nat.{_-_}
+use native.Mathlib.Omega.{arith}
+use lib.ListN.{length}
+use borrow.Author.Needs.{needs}
+use Rattle.sink.specs.Sink.{sink, emitAll}
+use Rattle.numerals.specs.Words.{spelled}
+use Rattle.readings.proofs.Said.{says-more}
+use Rattle.rows.specs.Rows.{perCent}
+use Rattle.reader.specs.Signs.{perCents}
+use Rattle.reader.proofs.Laws.{one-less, none-left}
+
+abbrev Inv-loop : tie.InvT-loop
+Inv-loop signs store₀ table₀ p₀ left₀ store table p left = (emitAll (spelled (perCents left)) (sink store table p) ≡ emitAll (spelled (perCents signs)) (sink store₀ table₀ p₀)) × (length store ≡ length store₀) × (length table ≡ length table₀)
+
+abbrev μ-loop : tie.MeasureT-loop
+μ-loop signs store₀ table₀ p₀ left₀ store table p left = left
+
+pub say-per-cents-spec : {M : Type 1} → statement M
+say-per-cents-spec =
+    tie.close
+    (tie.spec
+    Inv-loop
+    μ-loop
+    (λ c. (refl, refl, refl))
+    (λ c κs. search needs)
+    (λ c. search needs)
+    (λ c. search needs)
+    (λ c. (says-more perCent (perCents (c .before .before .before .before .before .before .before .before .loop .left - 1)) (one-less (c .before .before .before .before .before .before .before .before .loop .left) (omega arith)) _ (c .before .before .before .before .say-per-cent .ensures) refl ∙ c .before .before .before .before .before .before .before .before .loop .inv .0, c .before .before .before .before .say-per-cent .kept .0 ∙ c .before .before .before .before .before .before .before .before .loop .inv .1, c .before .before .before .before .say-per-cent .kept .1 .0 ∙ c .before .before .before .before .before .before .before .before .loop .inv .2))
+    (λ c. search needs)
+    (λ c. search needs)
+    (λ c. none-left (c .before .loop .left) (omega arith) _ (c .before .loop .inv .0)))

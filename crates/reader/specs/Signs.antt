@@ -1,0 +1,28 @@
+-- The signs at a name's end, and the pen that the readers hand on. Definitions only; no public promise is made of them.
+use mathlib.Core.Bool.{Bool, not}
+use mathlib.Core.List.{List, [], _++_}
+use Prim.Native.Nat.{ℕ, zero, suc}
+use Prim.Native.Char.{code}
+use lib.Dec.{eqb}
+use lib.ListN.{getD}
+use Rattle.lists.specs.Bytes.{ends}
+use Rattle.sink.specs.declared.Pen.{Pen}
+use Rattle.numerals.specs.Words.{Word}
+use Rattle.rows.specs.Rows.{Reading, by, perCent}
+
+-- a name ends in %
+abbrev pub isPercent : List ℕ → Bool
+isPercent s = ends (code "%") s
+
+-- "per cent" so many times
+unfoldable pub perCents : ℕ → List Word
+perCents zero = []
+perCents (suc n) = perCent ++ perCents n
+
+-- a reading, and so many signs after it, which leave its row
+abbrev pub signed : Reading → ℕ → Reading
+signed g n = by (g .row) (g .words ++ perCents n)
+
+-- the pen that three numbers stand for
+abbrev pub penOf : List ℕ → Pen
+penOf p = record { at = getD p 0 0; words = getD p 1 0; spaced = not (eqb (getD p 2 0) 0) }
