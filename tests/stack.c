@@ -9,7 +9,9 @@
 #include "howhakiru.h"
 
 #define PAINT 0xC3
-#define MOST 4096 /* the header's bound */
+#define MOST 4096             /* the header's bounds: on every call but the two that call entries, */
+#define CALL_MOST 8192        /* on those two, on sheets without a name that ends in %, */
+#define PERCENT_MOST (512 << 10) /* and on all sheets */
 
 typedef hwk_verdict verdict(const uint8_t *s, size_t s_len);
 typedef hwk_words reader(const uint8_t *s, size_t s_len, uint8_t *store, size_t store_len, uint8_t *table, size_t table_len);
@@ -32,7 +34,7 @@ static const char *const names[] = {
 static const char *const repeated[] = {"\xc3\xa9", "7",  "00", "-+",  "777777777777e", ".",
                                        "IM",       "aZ", "(",  "\n", "a ",            "Rack. ( "};
 
-static uint8_t stack[65536], sheet[HWK_TEXT_LIMIT];
+static uint8_t stack[1 << 20], sheet[HWK_TEXT_LIMIT], called[HWK_CALL_MOST(HWK_TEXT_LIMIT)];
 static uint8_t store[HWK_WORDS_STORE_MOST(HWK_TEXT_LIMIT)], table[HWK_WORDS_TABLE_MOST(HWK_TEXT_LIMIT)];
 static const uint8_t *text;
 static size_t text_len, which;
@@ -55,6 +57,12 @@ static void steps(void)
     hwk_state state = hwk_push(hwk_fresh(), text, text_len, text, text_len, text, text_len).state;
     hwk_push(state, text, text_len, text, text_len, text, text_len);
 }
+
+static void is_clear(void) { hwk_is_clear(text, text_len); }
+static void call_sheet(void) { hwk_call_sheet(text, text_len, called, sizeof called); }
+static void call_entry(void) { hwk_call_entry(text, text_len, 0, called, sizeof called); }
+static void measured_sheet(void) { hwk_call_sheet(text, text_len, called, 0); } /* before it is refused */
+static void measured_entry(void) { hwk_call_entry(text, text_len, 0, called, 0); }
 
 /* The bytes that f touches, its way in and out included. */
 static size_t touched(void (*f)(void))
@@ -91,31 +99,54 @@ static size_t most_of_calls(void)
     most = larger(most, touched(n_digits));
     most = larger(most, touched(split_time));
     most = larger(most, touched(split_unit));
+    most = larger(most, touched(is_clear));
     return larger(most, touched(unit_word));
 }
 
-/* On a text of the limit's length, as far as whole repetitions reach. */
-static size_t most_on_long(const char *piece)
+static size_t most_of_entries(void)
+{
+    size_t most = larger(touched(call_sheet), touched(call_entry));
+
+    most = larger(most, touched(measured_sheet));
+    return larger(most, touched(measured_entry));
+}
+
+/* A text of so many bytes at most, as far as whole repetitions reach. */
+static void repeat(const char *piece, size_t most)
 {
     size_t i, len = strlen(piece);
 
-    for (i = 0; i < sizeof sheet; i++) sheet[i] = (uint8_t)piece[i % len];
+    for (i = 0; i < most; i++) sheet[i] = (uint8_t)piece[i % len];
     text = sheet;
-    text_len = sizeof sheet / len * len;
-    return most_of_calls();
+    text_len = most / len * len;
+}
+
+static size_t within(const char *what, size_t bytes, size_t most)
+{
+    bytes -= touched(nothing);
+    printf("header: %s %lu bytes of stack at most\n", what, (unsigned long)bytes);
+    return bytes < most;
 }
 
 int main(void)
 {
-    size_t most = 0, i;
+    size_t most = 0, entries = 0, i;
 
     for (i = 0; i < sizeof names / sizeof names[0]; i++) {
         text = (const uint8_t *)names[i];
         text_len = strlen(names[i]);
         most = larger(most, most_of_calls());
+        entries = larger(entries, most_of_entries());
     }
-    for (i = 0; i < sizeof repeated / sizeof repeated[0]; i++) most = larger(most, most_on_long(repeated[i]));
-    most -= touched(nothing);
-    printf("header: the calls need %lu bytes of stack at most\n", (unsigned long)most);
-    return most < MOST ? 0 : 1;
+    for (i = 0; i < sizeof repeated / sizeof repeated[0]; i++) {
+        repeat(repeated[i], HWK_TEXT_LIMIT);
+        most = larger(most, most_of_calls());
+        entries = larger(entries, most_of_entries());
+        repeat(repeated[i], HWK_NAME_LIMIT);
+        entries = larger(entries, most_of_entries());
+    }
+    repeat("%", HWK_NAME_LIMIT);
+    return !(within("entries without % at their end need", entries, CALL_MOST)
+             & within("an entry of 4,096 % needs", most_of_entries(), PERCENT_MOST)
+             & within("the other calls need", most, MOST));
 }
