@@ -20,6 +20,7 @@ ghost use mathlib.Core.Bool.{false};
 ghost use Prim.Native.Nat.{_<_};
 ghost use lib.Dec.{ltb};
 ghost use lib.ListN.{length};
+ghost use Rattle.admit.specs.Refusals.{number};
 ghost use Rattle.sink.specs.Sink.{top, sink};
 ghost use Rattle.sink.specs.Words.{spacedPen};
 ghost use Rattle.tokens.specs.Tokens.{tokens};
@@ -94,22 +95,22 @@ fn say_sheet(s: &[u8], out: &mut [u8], table: &mut [u8]) -> Walked
 {
     let mut state = State::fresh();
     let mut pen = Pen::spaced();
-    let mut n = 0;
+    let mut tokens = 0;
     let mut at = 0;
     while at < s.len() {
         let t = token_at(s, at);
         if t.prepunctuation == s.len() {
-            return Walked { tokens: n, pen };
+            return Walked { tokens, pen };
         }
         let name = part(s, t.name, t.punctuation);
         let starts = starts_sentence(state, part(s, at, t.prepunctuation), name);
         let said = say_line(starts, name, out, table, pen);
         pen = said.pen;
         state = State::kept(name, part(s, t.punctuation, t.end));
-        n += 1;
+        tokens += 1;
         at = t.end;
     }
-    Walked { tokens: n, pen }
+    Walked { tokens, pen }
 }
 
 // Whether more bytes than a name may have stand together without whitespace. From each place the last whitespace is looked for
@@ -137,14 +138,14 @@ fn has_long_name(s: &[u8]) -> bool
     }
     let mut at = 0;
     while at < s.len() {
-        let t = token_at(s, at);
-        if t.prepunctuation == s.len() {
+        let places = token_at(s, at);
+        if places.prepunctuation == s.len() {
             return false;
         }
-        if NAME_BYTES < minus(t.punctuation, t.name) {
+        if NAME_BYTES < minus(places.punctuation, places.name) {
             return true;
         }
-        at = t.end;
+        at = places.end;
     }
     false
 }
@@ -159,8 +160,15 @@ fn is_sheet_short(s: &[u8], room: usize) -> bool
     }
     let mut no_out = [0u8; 0];
     let mut no_table = [0u8; 0];
-    let measured = say_sheet(s, &mut no_out, &mut no_table);
-    room < measured.pen.at
+    let lines = say_sheet(s, &mut no_out, &mut no_table);
+    room < lines.pen.at
+}
+
+fn number_of(why: Refusal) -> u8
+    ensures { λ r. ⌜ r ≡ number why ⌝ }
+{
+    let answer = Answer::Refused(why);
+    answer.number()
 }
 
 fn sheet_refused(refusal: u8) -> CalledSheet
@@ -178,17 +186,15 @@ fn sheet_refused(refusal: u8) -> CalledSheet
 pub fn call_sheet(s: &[u8], out: &mut [u8]) -> CalledSheet
     ensures { λ r. ⌜ asSheet r (now (out .exit)) ≡ sheetCall (now (s .entry)) (now (out .entry)) ⌝ }
 {
-    let refusal = refusal_of(s);
-    if refusal != 0 {
-        return sheet_refused(refusal);
+    let due = refusal_of(s);
+    if due != 0 {
+        return sheet_refused(due);
     }
     if has_long_name(s) {
-        let answer = Answer::Refused(Refusal::NameTooLong);
-        return sheet_refused(answer.number());
+        return sheet_refused(number_of(Refusal::NameTooLong));
     }
     if is_sheet_short(s, out.len()) {
-        let answer = Answer::Refused(Refusal::BufferTooShort);
-        return sheet_refused(answer.number());
+        return sheet_refused(number_of(Refusal::BufferTooShort));
     }
     let mut no_table = [0u8; 0];
     let written = say_sheet(s, out, &mut no_table);
@@ -230,22 +236,22 @@ fn find_entry(s: &[u8], k: usize) -> Found
     let mut n = 0;
     let mut at = 0;
     while at < s.len() {
-        let t = token_at(s, at);
-        if t.prepunctuation == s.len() {
+        let token = token_at(s, at);
+        if token.prepunctuation == s.len() {
             return nowhere();
         }
-        let name = part(s, t.name, t.punctuation);
+        let name = part(s, token.name, token.punctuation);
         if n == k {
             return Found {
                 found: true,
-                starts: starts_sentence(state, part(s, at, t.prepunctuation), name),
-                name: t.name,
-                end: t.punctuation,
+                starts: starts_sentence(state, part(s, at, token.prepunctuation), name),
+                name: token.name,
+                end: token.punctuation,
             };
         }
-        state = State::kept(name, part(s, t.punctuation, t.end));
+        state = State::kept(name, part(s, token.punctuation, token.end));
         n += 1;
-        at = t.end;
+        at = token.end;
     }
     nowhere()
 }
@@ -260,8 +266,8 @@ fn is_line_short(starts: bool, name: &[u8], room: usize) -> bool
     }
     let mut no_out = [0u8; 0];
     let mut no_table = [0u8; 0];
-    let measured = say_line(starts, name, &mut no_out, &mut no_table, Pen::spaced());
-    room < measured.pen.at
+    let line = say_line(starts, name, &mut no_out, &mut no_table, Pen::spaced());
+    room < line.pen.at
 }
 
 // Calls an entry of this name.
@@ -269,21 +275,19 @@ fn call_name(starts: bool, name: &[u8], out: &mut [u8]) -> CalledEntry
     ensures { λ r. ⌜ asEntry r (now (out .exit)) ≡ nameCall (named starts (now (name .entry))) (now (out .entry)) ⌝ }
 {
     if NAME_BYTES < name.len() {
-        let answer = Answer::Refused(Refusal::NameTooLong);
-        return entry_refused(answer.number());
+        return entry_refused(number_of(Refusal::NameTooLong));
     }
     if is_line_short(starts, name, out.len()) {
-        let answer = Answer::Refused(Refusal::BufferTooShort);
-        return entry_refused(answer.number());
+        return entry_refused(number_of(Refusal::BufferTooShort));
     }
     let mut no_table = [0u8; 0];
-    let written = say_line(starts, name, out, &mut no_table, Pen::spaced());
-    let entry = written.entry;
+    let called = say_line(starts, name, out, &mut no_table, Pen::spaced());
+    let entry = called.entry;
     CalledEntry {
         refusal: 0,
         entry,
-        words: written.pen.words,
-        bytes: written.pen.at,
+        words: called.pen.words,
+        bytes: called.pen.at,
     }
 }
 
@@ -297,8 +301,7 @@ pub fn call_entry(s: &[u8], k: usize, out: &mut [u8]) -> CalledEntry
     }
     let found = find_entry(s, k);
     if !found.found {
-        let answer = Answer::Refused(Refusal::NoSuchEntry);
-        return entry_refused(answer.number());
+        return entry_refused(number_of(Refusal::NoSuchEntry));
     }
     call_name(found.starts, part(s, found.name, found.end), out)
 }

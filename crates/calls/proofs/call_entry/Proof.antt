@@ -19,7 +19,7 @@ call-entry-spec =
     (λ c κs. search needs)
     (λ c κs. search needs)
     (λ c κs. search needs)
-    (λ c. entry-none (c .before .before .before .before .before .before .before .before .before .args .s .now) (c .before .before .before .before .before .before .before .before .before .args .out .now) (c .before .before .before .before .before .before .refusal-of .ensures) (c .before .before .before .before .before .before .before .before .before .args .k) (c .before .before .before .before .before .if1 .left) (sym (c .before .before .before .before .find-entry .ensures .there) ∙ not-true _ (c .before .before .if2 .taken)) (c .entry-refused2 .ensures ∙ ap refusedEntry (c .before .number .ensures)))
+    (λ c. entry-none (c .before .before .before .before .before .before .before .before .before .args .s .now) (c .before .before .before .before .before .before .before .before .before .args .out .now) (c .before .before .before .before .before .before .refusal-of .ensures) (c .before .before .before .before .before .before .before .before .before .args .k) (c .before .before .before .before .before .if1 .left) (sym (c .before .before .before .before .find-entry .ensures .there) ∙ not-true _ (c .before .before .if2 .taken)) (c .entry-refused2 .ensures ∙ ap refusedEntry (c .before .number-of .ensures)))
     (λ c κs. search needs)
     (λ c κs. search needs)
     (λ c. search needs)

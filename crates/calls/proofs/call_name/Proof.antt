@@ -12,11 +12,11 @@ call-name-spec =
     (tie.spec
     (λ c κs. search needs)
     (λ c κs. search needs)
-    (λ c. name-long (named (c .before .before .before .before .before .args .starts) (c .before .before .before .before .before .args .name .now)) (c .before .before .before .before .before .args .out .now) (c .before .before .if1 .taken) (c .entry-refused .ensures ∙ ap refusedEntry (c .before .number .ensures)))
+    (λ c. name-long (named (c .before .before .before .before .before .args .starts) (c .before .before .before .before .before .args .name .now)) (c .before .before .before .before .before .args .out .now) (c .before .before .if1 .taken) (c .entry-refused .ensures ∙ ap refusedEntry (c .before .number-of .ensures)))
     (λ c κs. search needs)
     (λ c κs. search needs)
     (λ c κs. search needs)
-    (λ c. line-short (named (c .before .before .before .before .before .before .before .args .starts) (c .before .before .before .before .before .before .before .args .name .now)) (c .before .before .before .before .before .before .before .args .out .now) (omega arith) (sym (c .before .before .before .is-line-short .ensures) ∙ c .before .before .if2 .taken) (c .entry-refused2 .ensures ∙ ap refusedEntry (c .before .number2 .ensures)))
+    (λ c. line-short (named (c .before .before .before .before .before .before .before .args .starts) (c .before .before .before .before .before .before .before .args .name .now)) (c .before .before .before .before .before .before .before .args .out .now) (omega arith) (sym (c .before .before .before .is-line-short .ensures) ∙ c .before .before .if2 .taken) (c .entry-refused2 .ensures ∙ ap refusedEntry (c .before .number-of2 .ensures)))
     (λ c. search needs)
     (λ c κs. search needs)
     (λ c κs. search needs)
