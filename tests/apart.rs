@@ -7,6 +7,7 @@ use crate::clear::{self, UNITS};
 use crate::comparison::{Comparison, Lent};
 use crate::exhaustive::each_text;
 use crate::random::Random;
+use crate::rows::call_most;
 use crate::tokens::Tokenized;
 use crate::voice;
 
@@ -124,7 +125,7 @@ fn sheet_of(random: &mut Random, names: &[String]) -> String {
 impl Comparison {
     /// The call sheet, with room for it.
     fn sheet_of(&mut self, lent: Lent) -> Vec<u8> {
-        let mut out = vec![0; 200 + 40 * lent.text.len()];
+        let mut out = vec![0; call_most(lent.text.len())];
         // SAFETY: the text and the buffer live through the call, and stand apart.
         let called = unsafe { voice::hwk_call_sheet(lent.start, lent.text.len(), out.as_mut_ptr(), out.len()) };
         assert_eq!(called.refusal, 0, "a sheet of clear entries with room");

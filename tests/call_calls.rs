@@ -5,7 +5,7 @@ use std::ptr::null_mut;
 use crate::answers;
 use crate::clear;
 use crate::comparison::{shown, Comparison, Lent};
-use crate::rows::Called;
+use crate::rows::{call_most, Called};
 use crate::voice;
 
 /// How many there are: the whole sheet, one entry, the verdict.
@@ -72,6 +72,9 @@ impl Comparison {
     /// The exact buffer, and the one whose turn it is.
     fn whole_by_turn(&mut self, lent: Lent, called: &Called) {
         let sheet = called.sheet();
+        if sheet.len() > call_most(lent.text.len()) {
+            self.differ(lent, format_args!("the room that suffices for hwk_call_sheet"), &"the header's", &sheet.len());
+        }
         self.whole(lent, called, &sheet, sheet.len());
         self.turn += 1;
         let other = sheet.len().saturating_add_signed(NEAR[self.turn % NEAR.len()]);

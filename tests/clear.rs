@@ -102,9 +102,14 @@ fn is_word(name: &str) -> bool {
     name.len() >= 2 && name.chars().all(|c| ('a'..='z').contains(&c)) && !BARRED.contains(&name)
 }
 
-/// Whether every one-word answer of the Rust's two functions is barred, on all short numbers and some long ones.
-pub fn check_barred() {
+/// Whether every one-word answer of the Rust's two functions is barred, on all short numbers and some long ones, and the units are
+/// the first of their words in the Rust's table.
+pub fn check_tables() {
     use reference::numbers::{cardinal, ordinal};
+    use reference::patterns::UNIT_ABBREVIATIONS;
+    let is_first = |place: usize| UNIT_ABBREVIATIONS[..place].iter().all(|(_, word)| *word != UNIT_ABBREVIATIONS[place].1);
+    let first = (0..UNIT_ABBREVIATIONS.len()).filter(|&place| is_first(place)).map(|place| UNIT_ABBREVIATIONS[place].0);
+    assert!(first.eq(UNITS.iter().copied()), "the first abbreviation of each unit word");
     let numbers = (0..20_000_u64).chain((4..=13).flat_map(|power| [10_u64.pow(power), 7 * 10_u64.pow(power)]));
     for number in numbers {
         for digits in [number.to_string(), format!("0{number}"), format!("000{number}")] {

@@ -141,7 +141,7 @@ fn tokens(comparison: &mut Comparison, long: bool) {
 
 /// The verdict on clear names among them, and demand 3 on pairs.
 fn calls(comparison: &mut Comparison, long: bool) {
-    clear::check_barred();
+    clear::check_tables();
     call_texts::named(comparison);
     call_texts::one_byte_changed(comparison);
     call_texts::pairs(comparison);

@@ -9,6 +9,11 @@ pub const NO_SUCH_ENTRY: u8 = 3;
 pub const NAME_TOO_LONG: u8 = 4;
 pub const NAME_LIMIT: usize = 4_096;
 
+/// HWK_CALL_MOST of the header.
+pub fn call_most(len: usize) -> usize {
+    24 * len + 24
+}
+
 #[repr(C)]
 #[derive(Clone, Copy, Debug, Default, PartialEq, Eq)]
 pub struct CalledEntry {

@@ -2,6 +2,7 @@
 use mathlib.Core.Path.{_≡_, refl}
 use mathlib.Core.Bool.{Bool, true, false, _||_, or-true}
 use mathlib.Core.List.{List}
+use mathlib.Core.Logic.{_↔_}
 use Prim.Native.Nat.{ℕ}
 use Rattle.clear.specs.Clear.{Clear, is-number, is-percent, is-time, is-meridiem, is-ordinal, is-unit, is-initials, is-word}
 use Rattle.clear.specs.Test.{isNumberClear, isPercentClear, isTimeClear, isMeridiemClear, isOrdinalClear, isUnitClear, isInitialsClear, isWordClear, isClear}
@@ -39,3 +40,7 @@ test-clear s (is-ordinal t h) = rw (ordinal-test t h, or-true)
 test-clear s (is-unit t k h l w) = rw (unit-test t k h l w, or-true)
 test-clear s (is-initials c d cs h) = rw (initials-test c d cs h, or-true)
 test-clear s (is-word t h a n c o) = rw (word-test t h a n, or-true)
+
+-- the test passes exactly the clear names
+pub clear-tested : (s : List ℕ) → (isClear s ≡ true) ↔ Clear s
+clear-tested s = (clear-test s, test-clear s)

@@ -1,4 +1,5 @@
--- Whether a name is clear, as a test on its bytes. Definitions only; `clear-test` in proofs/ says that it is the definition by kinds.
+-- Whether a name is clear, as a test on its bytes. Definitions only; `clear-tested` in proofs/Tested.antt says
+-- that it passes exactly the clear names of the definition by kinds.
 use mathlib.Core.Bool.{Bool, cond, not, _&&_, _||_}
 use mathlib.Core.List.{List}
 use Prim.Native.Nat.{ℕ, _-_}

@@ -3,7 +3,7 @@ use mathlib.Core.Path.{_≡_, refl, sym, ap, _∙_}
 use mathlib.Core.Bool.{Bool, true, false}
 use mathlib.Core.List.{List, [], _∷_, map, cons-eq-cons}
 use mathlib.Core.Logic.{_↔_}
-use Prim.Native.Nat.{ℕ, suc, _≤_}
+use Prim.Native.Nat.{ℕ, zero, suc, _≤_}
 use native.Mathlib.Omega.{arith}
 use lib.ListN.{length, drop, length-map}
 use lib.Seq.{take-at, ext-getD}
@@ -16,7 +16,8 @@ use Rattle.sentences.specs.Calls.{flags}
 use Rattle.sentences.proofs.Marking.{starts-length}
 use Rattle.numerals.proofs.Every.{Every}
 use Rattle.sheets.specs.Sheet.{SheetEntry, entriesOf, entries, lineOf, callSheet, countWords}
-use Rattle.sheets.specs.Calls.{sheetCall, Accepted}
+use Rattle.admit.specs.Refusals.{numberDue, call}
+use Rattle.sheets.specs.Calls.{sheetDue, SheetGiven, sheetCall, Accepted}
 use Rattle.hearing.specs.Sheets.{names, AllClear, SameEntries, written, hearSheet}
 use Rattle.hearing.proofs.Told.{Heeded}
 use Rattle.hearing.proofs.Lines.{sheet-heard}
@@ -93,6 +94,15 @@ told-apart s t a b p q = (
   λ e. entries-told s t (sym (sheet-heard (entries s) (entries-heeded _ _ p)) ∙ ap hearSheet e ∙ sheet-heard (entries t) (entries-heeded _ _ q)),
   λ h. ap (λ (es : List SheetEntry). storeOf (map lineOf es)) (entries-from s t h),
 )
+
+-- "A sheet is accepted when calling it whole, with room for the result, isn't held back."
+pub accepted-call : (s old : List ℕ) → length (callSheet s) ≤ length old → (sheetCall s old .refusal ≡ 0) ↔ Accepted s
+unfolding sheetCall
+accepted-call s old h = rw (le-ltb (length old) (length (callSheet s)) h) (number-of (numberDue (sheetDue s false)) _ _)
+  where
+    number-of : (n : ℕ) (x y : SheetGiven) → (call x n y .refusal ≡ 0) ↔ (n ≡ 0)
+    number-of zero x y = (λ e. e, λ e. e)
+    number-of (suc n) x y = (λ e. e, λ e. e)
 
 -- what the call of an accepted sheet answers and leaves in a buffer with room for the result
 pub call-written : (s old : List ℕ) → Accepted s → length (callSheet s) ≤ length old
