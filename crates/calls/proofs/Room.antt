@@ -31,7 +31,9 @@ use Rattle.numerals.specs.Cardinal.{cardinal}
 use Rattle.numerals.proofs.Digits.{spelled-append}
 use Rattle.numerals.proofs.Room.{Room, room-counts, cardinal-room, digits-room, ordinal-room}
 use Rattle.readings.specs.Letters.{letters}
-use Rattle.readings.proofs.Room.{year-room, real-room, letters-room}
+use Rattle.years.proofs.Room.{year-room}
+use Rattle.reals.proofs.Room.{real-room}
+use Rattle.readings.proofs.Room.{letters-room}
 use Rattle.rows.specs.Rows.{Reading, by, perCent, clock, hourOf, minuteOf, clockLetters, readStep, read}
 use Rattle.rows.specs.declared.Row.the-variants.{NoRow}
 use Rattle.rows.proofs.Laws.{ends-some, shorter}

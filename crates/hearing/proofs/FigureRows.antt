@@ -15,8 +15,8 @@ use Rattle.lists.proofs.Scan.{all-append, span-append}
 use Rattle.shapes.specs.Shapes.{isDigits, isLeadingZeroDigits, isDottedAbbrev, isCommaInt, isTime, stripSign, isExponent, isUnsigned, isDouble}
 use Rattle.shapes.specs.Times.{isMeridiemTime}
 use Rattle.numerals.specs.Cardinal.{cardinal, digits}
-use Rattle.readings.specs.Real.{real}
-use Rattle.readings.proofs.RealLaws.{starts-cons}
+use Rattle.reals.specs.Real.{real}
+use Rattle.reals.proofs.RealLaws.{starts-cons}
 use Rattle.rows.specs.Rows.{readStep, read}
 use Rattle.rows.proofs.Laws.{read-eq}
 use Rattle.rows.proofs.Taken.{untaken, lacks, doubleByte, dotted-first, comma-needed, colon-needed, meridiem-last, double-bytes}

@@ -14,8 +14,8 @@ use Rattle.lists.proofs.Scan.{all-append, all-span, all-within, span-before}
 use Rattle.shapes.specs.Shapes.{isDigits}
 use Rattle.numerals.specs.Words.{Word, other}
 use Rattle.numerals.specs.Cardinal.{cardinal, digits}
-use Rattle.readings.specs.Real.{pointAt, eAt, pointed, realStep, real}
-use Rattle.readings.proofs.RealLaws.{starts-cons, real-eq, real-plain}
+use Rattle.reals.specs.Real.{pointAt, eAt, pointed, realStep, real}
+use Rattle.reals.proofs.RealLaws.{starts-cons, real-eq, real-plain}
 use Rattle.hearing.proofs.Shown.{digits-all, plain-digits}
 use Rattle.hearing.proofs.Suffixed.{apart}
 use Rattle.clear.specs.Clear.{plain, Minus, no-minus, a-minus, Fraction, no-point, a-point, ExponentSign, no-sign, plus-sign, minus-sign, Exponent, no-exponent, an-exponent}

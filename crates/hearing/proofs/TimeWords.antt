@@ -20,9 +20,9 @@ use Rattle.numerals.specs.Cardinal.{clean, pair, cardinalOf, cardinal, digits}
 use Rattle.numerals.proofs.Digits.{spelled-append}
 use Rattle.numerals.proofs.Cardinal.{cardinal-2}
 use Rattle.numerals.proofs.Every.{Every, every-append, every-map, every-imply}
-use Rattle.readings.specs.Year.{yearOf, year}
+use Rattle.years.specs.Year.{yearOf, year}
 use Rattle.readings.specs.Letters.{chars, letterWord, letters}
-use Rattle.readings.proofs.YearLaws.{year-two}
+use Rattle.years.proofs.YearLaws.{year-two}
 use Rattle.rows.specs.Rows.{clock}
 use Rattle.clear.specs.Clear.{isHour, isMinute, HalfDay, am, pm, listed}
 use Rattle.hearing.specs.Hear.{counted, vocabulary, know, knowIn, known, firstWord, lastWord, isLetterWord, allSmall, anyLate, timeLike, hearTime, hear}

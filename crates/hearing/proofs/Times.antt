@@ -14,7 +14,7 @@ use Rattle.shapes.specs.Shapes.{isDigits, isNDigits}
 use Rattle.numerals.specs.Words.{Word}
 use Rattle.numerals.specs.Cardinal.{digitValue, clean, pair, join, byScale, cardinalStep, cardinalFew, cardinalOf, cardinal}
 use Rattle.numerals.specs.Value.{decimalFrom, decimal}
-use Rattle.readings.specs.Year.{yearStep, yearOf, year}
+use Rattle.years.specs.Year.{yearStep, yearOf, year}
 use Rattle.rows.specs.Rows.{clock}
 use Rattle.clear.specs.Clear.{plain, isHour, isMinute}
 use Rattle.numerals.proofs.Forms.{Digits, clean-digits}

@@ -15,7 +15,7 @@ use Rattle.sink.specs.Sink.{Sink, emitAll}
 use Rattle.numerals.specs.Words.{Word, other, spelled}
 use Rattle.numerals.specs.Cardinal.{cardinal, digits}
 use Rattle.numerals.specs.Ordinal.{ordinal}
-use Rattle.readings.specs.Real.{real}
+use Rattle.reals.specs.Real.{real}
 use Rattle.readings.specs.Letters.{letters, letterWord}
 use Rattle.rows.specs.Rows.{Reading, by, clock, hourOf, minuteOf, clockLetters, signOf}
 use Rattle.rows.specs.declared.Row.{Row}

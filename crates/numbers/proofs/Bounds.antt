@@ -11,7 +11,9 @@ use Rattle.sink.specs.Words.{storeOf, shortFor}
 use Rattle.sink.proofs.Finish.{long-enough}
 use Rattle.numerals.specs.Words.{Word, spelled}
 use Rattle.numerals.proofs.Room.{Room, room-counts, cardinal-room, digits-room, ordinal-room}
-use Rattle.readings.proofs.Room.{year-room, real-room, letters-room}
+use Rattle.years.proofs.Room.{year-room}
+use Rattle.reals.proofs.Room.{real-room}
+use Rattle.readings.proofs.Room.{letters-room}
 use Rattle.numbers.specs.Calls.{wordsBy}
 use Rattle.numbers.specs.declared.Reader.{Reader}
 use Rattle.numbers.specs.declared.Reader.the-variants.{Cardinal, Ordinal, Year, Digits, Real, Letters}

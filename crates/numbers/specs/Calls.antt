@@ -5,8 +5,8 @@ use Rattle.admit.specs.Refusals.{textLimit, textRefusal, Call, call}
 use Rattle.numerals.specs.Words.{Word}
 use Rattle.numerals.specs.Cardinal.{cardinal, digits}
 use Rattle.numerals.specs.Ordinal.{ordinal}
-use Rattle.readings.specs.Year.{year}
-use Rattle.readings.specs.Real.{real}
+use Rattle.years.specs.Year.{year}
+use Rattle.reals.specs.Real.{real}
 use Rattle.readings.specs.Letters.{letters}
 use Rattle.readings.specs.Roman.{romanValue}
 use Rattle.numbers.specs.declared.Reader.{Reader}

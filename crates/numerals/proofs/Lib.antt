@@ -6,3 +6,4 @@ pub mod Forms
 pub mod Flushing
 pub mod Value
 pub mod Room
+pub mod Said

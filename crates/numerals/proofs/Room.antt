@@ -3,19 +3,20 @@ use mathlib.Core.Path.{_≡_}
 use mathlib.Core.List.{List, [], _∷_, _++_, map}
 use Prim.Native.Nat.{ℕ, zero, suc, _+_, _-_, _*_, _≤_, _<_}
 use Prim.Native.Char.{code}
+use Prim.Native.String.{String}
 use native.Mathlib.Omega.{arith}
 use lib.Dec.{leb, eqb}
 use lib.ListN.{length, take, drop, length-append, length-drop, length-map}
 use lib.Seq.{length-take-le}
 use borrow.Author.Tests.{leb-false}
-use Rattle.lists.specs.Bytes.{keep}
+use Rattle.lists.specs.Bytes.{bytes, keep}
 use Rattle.lists.specs.Classes.{digit, except}
 use Rattle.lists.proofs.Recursion.{recur-induct, cond-elim}
 use Rattle.lists.proofs.Scan.{keep-le}
 use Rattle.lexicon.specs.Lexicon.{onesAt, teensAt, tensAt, scalesAt}
 use Rattle.lexicon.proofs.Laws.{word-short}
 use Rattle.sink.specs.Words.{storeOf}
-use Rattle.numerals.specs.Words.{Word, one, hundred, scale, spell, spelled}
+use Rattle.numerals.specs.Words.{Word, one, hundred, scale, other, spell, spelled}
 use Rattle.numerals.specs.Cardinal.{digitValue, clean, pair, scaleFor, join, splitAt, byScale, cardinalStep, cardinalFew, cardinalOf, cardinal, digits}
 use Rattle.numerals.specs.Ordinal.{orZero, onLast, ordinal}
 use Rattle.numerals.specs.Walk.{numberOf, ordinalNumber}
@@ -145,3 +146,11 @@ unfolding ordinal cardinal
 ordinal-room s =
     let t = keep (except (code ",")) s in
     room-more (zero-room (cardinalOf (clean t)) (cardinal-formed (clean t) (clean-digits t))) (omega (arith, cardinal-room t .count, keep-le (except (code ",")) s))
+
+-- what a step makes of texts that it reads again
+abbrev pub Steps : ((List ℕ → List Word) → List ℕ → List Word) → Type 0
+Steps step = (f : List ℕ → List Word) (s : List ℕ) → ((t : List ℕ) → length t < length s → Room (2 * length t) (f t)) → Room (2 * length s) (step f s)
+
+pub other-room : (w : String) → length (bytes w) ≤ 11 → Room 1 (other (bytes w) ∷ [])
+unfolding spell
+other-room w h = room-cons h room-none

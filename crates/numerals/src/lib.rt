@@ -3,3 +3,4 @@ pub mod few;
 pub mod held;
 pub mod number;
 pub mod saying;
+pub mod turn;

@@ -7,8 +7,8 @@ use Rattle.lexicon.proofs.Laws.{lexicon}
 use Rattle.numerals.specs.Words.{spell, spelled}
 use Rattle.numerals.specs.Cardinal.{clean, pair, join, byScale, cardinalStep, cardinalFew, cardinalOf, cardinal, digits}
 use Rattle.numerals.specs.Ordinal.{formIn, ordinalForm, orZero, onLast, ordinal}
-use Rattle.readings.specs.Year.{yearStep, yearOf, year}
-use Rattle.readings.specs.Real.{pointed, realStep, real}
+use Rattle.years.specs.Year.{yearStep, yearOf, year}
+use Rattle.reals.specs.Real.{pointed, realStep, real}
 use Rattle.readings.specs.Roman.{numeral, larger, added, taken, romanValue}
 use Rattle.tokens.specs.Tokens.{cut, tokensStep, tokens}
 use Rattle.pieces.specs.Pieces.{pieces, sameTexts, holds, allHold}

@@ -9,8 +9,8 @@ use Rattle.lists.specs.Bytes.{bytes, same, split, filled}
 use Rattle.numerals.specs.Words.{Word, spelled}
 use Rattle.numerals.specs.Cardinal.{cardinal}
 use Rattle.numerals.specs.Ordinal.{ordinal}
-use Rattle.readings.specs.Year.{year}
-use Rattle.readings.specs.Real.{real}
+use Rattle.years.specs.Year.{year}
+use Rattle.reals.specs.Real.{real}
 use Rattle.readings.specs.Roman.{romanValue}
 use Rattle.tokens.specs.Tokens.{tokens, parts}
 

@@ -1,6 +1,3 @@
-// Readings that walk along a text: years, real numbers, letters; and the value of a roman numeral.
+// Letters, a word a character; and the value of a roman numeral.
 pub mod letter;
-pub mod part;
 pub mod roman;
-pub mod turn;
-pub mod years;

@@ -14,8 +14,8 @@ use Rattle.shapes.specs.Times.{TimeParts, parts, none, isMeridiemTime, timePart
 use Rattle.numerals.specs.Words.{Word, other}
 use Rattle.numerals.specs.Cardinal.{cardinal, digits}
 use Rattle.numerals.specs.Ordinal.{ordinal}
-use Rattle.readings.specs.Year.{year}
-use Rattle.readings.specs.Real.{real}
+use Rattle.years.specs.Year.{year}
+use Rattle.reals.specs.Real.{real}
 use Rattle.readings.specs.Letters.{letters}
 use Rattle.rows.specs.declared.Sign.{Sign}
 use Rattle.rows.specs.declared.Sign.the-variants.{Plus, Minus}

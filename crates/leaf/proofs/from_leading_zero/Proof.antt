@@ -3,7 +3,7 @@ use lib.ListN.{length, take}
 use Prim.Native.Nat.{_-_}
 use Rattle.numerals.specs.Cardinal.{cardinal, digits}
 use Rattle.numerals.specs.Ordinal.{ordinal}
-use Rattle.readings.specs.Real.{real}
+use Rattle.reals.specs.Real.{real}
 use Rattle.rows.specs.Rows.{signOf}
 use Rattle.rows.specs.declared.Row.the-variants.{LeadingZero, Digits, Figure, Ordinal}
 use Rattle.leaf.specs.Walk.{fromLeadingZero}

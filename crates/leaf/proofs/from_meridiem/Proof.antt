@@ -1,7 +1,7 @@
 use mathlib.Core.Path.{ap}
 use Rattle.rows.specs.Rows.{clockLetters}
 use Rattle.shapes.specs.Times.{timeParts}
-use Rattle.readings.proofs.Said.{says-more}
+use Rattle.numerals.proofs.Said.{says-more}
 use Rattle.rows.specs.declared.Row.the-variants.{Meridiem}
 use Rattle.leaf.specs.Walk.{fromMeridiem}
 use Rattle.leaf.proofs.Laws.{says-row, says-same, split-none, split-some, split-parts}

@@ -7,7 +7,7 @@ use lib.ListN.{take}
 use Rattle.lists.specs.Bytes.{lower}
 use Rattle.numerals.specs.Words.{other, spell}
 use Rattle.numerals.specs.Cardinal.{cardinal}
-use Rattle.readings.proofs.Said.{said-word, says-more}
+use Rattle.numerals.proofs.Said.{said-word, says-more}
 use Rattle.units.specs.Units.{unitWord}
 use Rattle.shapes.specs.Shapes.{unitAt, unitPart}
 use Rattle.leaf.specs.Walk.{fromUnit}

@@ -6,8 +6,8 @@ use mathlib.Core.List.{[]}
 use Rattle.sink.specs.Sink.{emitAll}
 use Rattle.numerals.specs.Words.{spelled}
 use Rattle.numerals.specs.Cardinal.{cardinal}
-use Rattle.readings.specs.Year.{year}
-use Rattle.readings.proofs.Said.{says-more}
+use Rattle.years.specs.Year.{year}
+use Rattle.numerals.proofs.Said.{says-more}
 use Rattle.rows.specs.Rows.{clock}
 
 returns : tie.Need-returns

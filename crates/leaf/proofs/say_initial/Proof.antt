@@ -5,7 +5,7 @@ use mathlib.Core.List.{[], _∷_}
 use Rattle.sink.specs.Sink.{emitAll}
 use Rattle.numerals.specs.Words.{other, spell, spelled}
 use Rattle.readings.specs.Letters.{letterWord}
-use Rattle.readings.proofs.Said.{said-word}
+use Rattle.numerals.proofs.Said.{said-word}
 use Rattle.leaf.proofs.Laws.{point-initial, letter-initial}
 
 returns : tie.Need-returns

@@ -1,7 +1,7 @@
 use mathlib.Core.Path.{refl, ap, _∙_}
 use Rattle.sink.specs.Sink.{sink}
 use Rattle.sink.specs.declared.Pen.{Pen}
-use Rattle.readings.proofs.Said.{says-more}
+use Rattle.numerals.proofs.Said.{says-more}
 use Rattle.leaf.specs.Walk.{fromEmpty}
 use Rattle.reader.specs.Signs.{perCents}
 use borrow.Author.Needs.{needs}

@@ -3,7 +3,7 @@ use mathlib.Core.List.{[], _∷_}
 use Rattle.lists.specs.Bytes.{bytes}
 use Rattle.lexicon.proofs.Laws.{lexicon}
 use Rattle.numerals.specs.Words.{other, spell}
-use Rattle.readings.proofs.Said.{said-word, says-more}
+use Rattle.numerals.proofs.Said.{said-word, says-more}
 use borrow.Author.Needs.{needs}
 use Rattle.reader.proofs.say_per_cent.Statement.{statement}
 use Rattle.reader.proofs.say_per_cent.Tie as tie

@@ -7,7 +7,7 @@ use lib.ListN.{length}
 use borrow.Author.Needs.{needs}
 use Rattle.sink.specs.Sink.{sink, emitAll}
 use Rattle.numerals.specs.Words.{spelled}
-use Rattle.readings.proofs.Said.{says-more}
+use Rattle.numerals.proofs.Said.{says-more}
 use Rattle.rows.specs.Rows.{perCent}
 use Rattle.reader.specs.Signs.{perCents}
 use Rattle.reader.proofs.Laws.{one-less, none-left}

@@ -1,0 +1,3 @@
+pub mod RealLaws
+pub mod PartLaws
+pub mod Room

@@ -1,0 +1,2 @@
+pub mod YearLaws
+pub mod Room

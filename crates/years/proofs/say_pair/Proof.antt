@@ -1,0 +1,10 @@
+use mathlib.Core.Path.{refl}
+use mathlib.Core.List.{[], _∷_}
+use Rattle.numerals.proofs.Cardinal.{cardinal-2}
+use borrow.Author.Needs.{needs}
+use Rattle.years.proofs.say_pair.Statement.{statement}
+use Rattle.years.proofs.say_pair.Tie as tie
+
+pub say-pair-spec : {M : Type 1} → statement M
+say-pair-spec =
+    tie.close (tie.spec (λ c. search needs) (λ c κs. search needs) (λ c. search needs) (λ c. search needs) (λ c. rw (cardinal-2 (c .before .before .before .before .before .before .before .before .before .before .args .a ∷ c .before .before .before .before .before .before .before .before .before .before .args .b ∷ []) refl) at (c .before .before .before .before .say-few .ensures)))

@@ -1,0 +1,52 @@
+use mathlib.Core.Path.{_≡_, refl, sym, ap, _∙_}
+use Prim.Native.Nat.{_≤_, zero-le}
+use native.Mathlib.Omega.{arith}
+use lib.ListN.{length, drop, length-drop}
+use Rattle.sink.specs.Sink.{sink, emitAll}
+use Rattle.sink.proofs.Walks.{turn}
+use Rattle.numerals.specs.Words.{spelled}
+use Rattle.numerals.specs.Cardinal.{clean}
+use Rattle.years.specs.Year.{year}
+use Rattle.years.proofs.YearLaws.{clean-length, left-after, year-at, year-last}
+use borrow.Author.Needs.{needs}
+use Rattle.years.proofs.say_year.Statement.{statement}
+use Rattle.years.proofs.say_year.Tie as tie
+
+abbrev Inv-loop : tie.InvT-loop
+Inv-loop s store₀ table₀ p₀ i₀ left₀ store table p i left = (i ≤ length s) × (left ≡ length (clean (drop i s))) × (emitAll (spelled (year (drop i s))) (sink store table p) ≡ emitAll (spelled (year s)) (sink store₀ table₀ p₀)) × (length store ≡ length store₀) × (length table ≡ length table₀)
+
+abbrev μ-loop : tie.MeasureT-loop
+μ-loop s store₀ table₀ p₀ i₀ left₀ store table p i left = left
+
+pub say-year-spec : {M : Type 1} → statement M
+say-year-spec =
+    tie.close
+    (tie.spec
+    Inv-loop
+    μ-loop
+    (λ c κs. search needs)
+    (λ c. (zero-le, c .count-of .ensures ∙ sym (clean-length (c .before .before .before .before .args .s .now)), refl, refl, refl))
+    (λ c κs. search needs)
+    (λ c κs. search needs)
+    (λ c. omega (arith, c .before .before .before .before .before .before .say-lead .ensures .2, ap length (c .before .before .before .before .before .before .before .before .before .tail .ensures), length-drop (c .before .before .before .before .before .before .before .before .before .before .before .loop .i) (c .before .before .before .before .before .before .before .before .before .before .before .before .before .before .before .before .args .s .now)))
+    (λ c. search needs)
+    (λ c. search needs)
+    (λ c. search needs)
+    (λ c.
+    let l = c .before .before .before .before .before .before .before .before .before .before .before .loop in
+    let s = c .before .before .before .before .before .before .before .before .before .before .before .before .before .before .before .before .args .s .now in
+    let e = rw (c .before .before .before .before .before .before .before .before .before .tail .ensures) at (c .before .before .before .before .before .before .say-lead .ensures) in
+    (omega (arith, e .2, length-drop (l .i) s), left-after s (l .i) _ _ (l .inv .1) (e .1), turn (λ t. spelled (year t)) s (l .i) _ _ (year-at s (l .i) _ _ (l .inv .1) (e .1) (omega arith)) (sink (l .store) (l .table) (l .p)) (e .0) (l .inv .2), search needs, search needs))
+    (λ c κs. search needs)
+    (λ c κs. search needs)
+    (λ c. search needs)
+    (λ c κs. search needs)
+    (λ c κs.
+    let l = c .before .before .before .before .before .before .before .before .loop in
+    year-last _ (l .left) (l .inv .1) (omega arith) _ (rw (c .before .before .before .before .before .before .tail2 .ensures) at (c .before .before .before .before .before .find-few .ensures)) (c .before .before .front .ensures) .0)
+    (λ c. search needs)
+    (λ c. search needs)
+    (λ c.
+    let l = c .before .before .before .before .before .before .before .before .before .before .before .before .before .loop in
+    let q = year-last _ (l .left) (l .inv .1) (omega arith) _ (rw (c .before .before .before .before .before .before .before .before .before .before .before .tail2 .ensures) at (c .before .before .before .before .before .before .before .before .before .before .find-few .ensures)) (c .before .before .before .before .before .before .before .front .ensures) in
+    (rw (q .1) at (c .before .before .before .before .say-last .ensures)) ∙ l .inv .2))
