@@ -12,11 +12,21 @@ use Rattle.lists.specs.Bytes.{all, has, starts, ends}
 use Rattle.lists.specs.Classes.{digit, digitOrComma}
 use Rattle.shapes.specs.Shapes.{isDottedAbbrev, isCommaInt, isTime, isLeadingZeroDigits, isDigits, isDouble, isOrdinal}
 use Rattle.shapes.specs.Times.{isMeridiemTime}
-use Rattle.shapes.proofs.Laws.{digits-all}
 use Rattle.rows.specs.Rows.{by, perCent, readStep, read}
 use Rattle.rows.specs.declared.Row.the-variants.{Percent}
-use Rattle.rows.proofs.Laws.{ends-some, ends-has, read-eq}
-use Rattle.rows.proofs.Taken.{outside, dottedByte, timeByte, meridiemByte, doubleByte, ordinalByte, dotted-bytes, comma-bytes, time-bytes, meridiem-bytes, double-bytes, ordinal-bytes}
+use Rattle.rows.proofs.Laws.{ends-some, read-eq}
+use Rattle.rows.proofs.Taken.{untaken, lacks, dottedByte, timeByte, meridiemByte, doubleByte, ordinalByte, dotted-bytes, comma-bytes, time-bytes, meridiem-bytes, digits-all, double-bytes, ordinal-bytes}
+
+has-at : (c : ℕ) (s : List ℕ) (i : ℕ) → i < length s → getD s i 0 ≡ c → has c s ≡ true
+unfolding has
+has-at c [] i h e = absurd (omega arith)
+has-at c (b ∷ s) zero h e = rw (eq-eqb b c e)
+has-at c (b ∷ s) (suc i) h e = rw (has-at c s i (omega arith) e, or-true (eqb b c))
+
+-- a text has the byte that it ends in
+ends-has : (c : ℕ) (s : List ℕ) → ends c s ≡ true → has c s ≡ true
+ends-has c s e =
+    has-at c s (length s - 1) (omega (arith, ends-some c s e)) (eqb-true (getD s (length s - 1) 0) c (and-eq-true-iff (not (eqb (length s) 0)) (eqb (getD s (length s - 1) 0) c) .0 e .1))
 
 -- the name meets none of the tests of rows 1 to 9
 pub record Untaken (s : List ℕ) : Type 0 where
@@ -33,19 +43,19 @@ pub record Untaken (s : List ℕ) : Type 0 where
 pub percent-untaken : (s : List ℕ) → ends (code "%") s ≡ true → Untaken s
 percent-untaken s e = record {
   empty = ne-eqb (length s) 0 (λ z. omega (arith, ends-some (code "%") s e));
-  dotted = other dottedByte (isDottedAbbrev s) refl (dotted-bytes s);
-  comma = other digitOrComma (isCommaInt s) refl (comma-bytes s);
-  time = other timeByte (isTime s) refl (time-bytes s);
-  meridiem = other meridiemByte (isMeridiemTime s) refl (meridiem-bytes s);
-  leading = other digit (isLeadingZeroDigits s) refl (λ h. digits-all s (and-eq-true-iff (ltb 1 (length s) && starts (code "0") s) (isDigits s) .0 h .1));
-  digits = other digit (isDigits s) refl (digits-all s);
-  double = other doubleByte (isDouble s) refl (double-bytes s);
-  ordinal = other ordinalByte (isOrdinal s) refl (ordinal-bytes s);
+  dotted = outside dottedByte (isDottedAbbrev s) refl (dotted-bytes s);
+  comma = outside digitOrComma (isCommaInt s) refl (comma-bytes s);
+  time = outside timeByte (isTime s) refl (time-bytes s);
+  meridiem = outside meridiemByte (isMeridiemTime s) refl (meridiem-bytes s);
+  leading = outside digit (isLeadingZeroDigits s) refl (λ h. digits-all s (and-eq-true-iff (ltb 1 (length s) && starts (code "0") s) (isDigits s) .0 h .1));
+  digits = outside digit (isDigits s) refl (digits-all s);
+  double = outside doubleByte (isDouble s) refl (double-bytes s);
+  ordinal = outside ordinalByte (isOrdinal s) refl (ordinal-bytes s);
 }
   where
-    -- a shape whose bytes are of a class without %
-    other : (p : ℕ → Bool) (shape : Bool) → p (code "%") ≡ false → (shape ≡ true → all p s ≡ true) → shape ≡ false
-    other p shape q = outside p (code "%") s q shape (ends-has (code "%") s e)
+    -- a shape whose bytes are of a class without % does not take the name
+    outside : (p : ℕ → Bool) (shape : Bool) → p (code "%") ≡ false → (shape ≡ true → all p s ≡ true) → shape ≡ false
+    outside p shape q f = untaken shape (λ h. false≢true (sym (lacks p (code "%") s q (ends-has (code "%") s e)) ∙ f h))
 
 -- so row 10 reads it
 pub percent-read : (s : List ℕ) → ends (code "%") s ≡ true → read s ≡ by Percent (read (take (length s - 1) s) .words ++ perCent)

@@ -11,11 +11,11 @@ use lib.Seq.{getD-drop}
 use borrow.Author.Tests.{eqb-true, ltb-true, ltb-false, leb-true, not-false}
 use Rattle.lists.specs.Bytes.{bytes, all, span, has, split, onto, allParts, sameBy, capital, small, lower, starts, ends, stripSuffix, endsBy}
 use Rattle.lists.specs.Classes.{digit, letter, digitOrComma, colonNorPoint, except}
-use Rattle.lists.proofs.Scan.{all-more, all-joined, all-within, span-all, span-fails}
+use Rattle.lists.proofs.Scan.{all-append, all-more, all-within, span-all, span-fails}
 use Rattle.lists.proofs.Parts.{parts-fail, has-span}
 use Rattle.shapes.specs.Shapes.{isDigits, isNDigits, isAlpha, isOneLetter, stripSign, isExponent, isUnsigned, isCommaGroups, isHourMinute, isOrdinalSuffix, splitOnce, startsChar, isDottedAbbrev, isCommaInt, isTime, isDouble, isOrdinal}
 use Rattle.shapes.specs.Times.{endsInMeridiem, separatorAt, timeOf, isMeridiemTime}
-use Rattle.shapes.proofs.Laws.{digits-all, comma-none}
+use Rattle.shapes.proofs.Laws.{comma-none}
 use Rattle.rows.proofs.Laws.{ends-some}
 
 -- a test that can't be met fails
@@ -24,7 +24,7 @@ untaken true h = absurd (h refl)
 untaken false h = refl
 
 -- a text with a byte that is outside a class is not all of that class
-lacks : (p : ℕ → Bool) (c : ℕ) (s : List ℕ) → p c ≡ false → has c s ≡ true → all p s ≡ false
+pub lacks : (p : ℕ → Bool) (c : ℕ) (s : List ℕ) → p c ≡ false → has c s ≡ true → all p s ≡ false
 unfolding has all
 lacks p c [] h k = absurd (false≢true k)
 lacks p c (b ∷ s) h k = go (eqb b c) refl k (lacks p c s h)
@@ -32,15 +32,6 @@ lacks p c (b ∷ s) h k = go (eqb b c) refl k (lacks p c s h)
     go : (t : Bool) → eqb b c ≡ t → (t || has c s) ≡ true → (has c s ≡ true → all p s ≡ false) → (p b && all p s) ≡ false
     go true e k i = rw (eqb-true b c e, h)
     go false e k i = rw (i k) (and-false (p b))
-
-module _ (p : ℕ → Bool) (c : ℕ) (s : List ℕ) (n : p c ≡ false) (shape : Bool) where
-  -- a shape of one class does not take a name with a byte outside it
-  pub outside : has c s ≡ true → (shape ≡ true → all p s ≡ true) → shape ≡ false
-  outside h f = untaken shape (λ e. false≢true (sym (lacks p c s n h) ∙ f e))
-
-  -- nor does a shape that needs such a byte take a name of the class
-  pub needs : all p s ≡ true → (shape ≡ true → has c s ≡ true) → shape ≡ false
-  needs h f = untaken shape (λ e. false≢true (sym (lacks p c s n (f e)) ∙ h))
 
 -- the bytes of each shape's names
 abbrev pub dottedByte : ℕ → Bool
@@ -71,9 +62,12 @@ or-elim true b f g h = f refl
 or-elim false b f g h = g h
 
 module _ (p : ℕ → Bool) where
+  all-joined : (n : ℕ) (s : List ℕ) → all p (take n s) ≡ true → all p (drop n s) ≡ true → all p s ≡ true
+  all-joined n s h k = ap (all p) (sym (take-append-drop n s)) ∙ all-append p (take n s) (drop n s) ∙ rw (h, k)
+
   -- the text around one of its bytes
   all-around : (s : List ℕ) (n : ℕ) → n < length s → all p (take n s) ≡ true → p (getD s n 0) ≡ true → all p (drop (n + 1) s) ≡ true → all p s ≡ true
-  all-around s n l h e k = all-joined p n s h (all-more p s n l ∙ rw (e, k))
+  all-around s n l h e k = all-joined n s h (all-more p s n l ∙ rw (e, k))
 
   all-suffixed : (c : ℕ) (s : List ℕ) → p c ≡ true → all p (stripSuffix c s) ≡ true → all p s ≡ true
   unfolding all
@@ -117,6 +111,10 @@ parts-first p c s h = go (p (take (span (except c) s) s)) refl
     go : (t : Bool) → p (take (span (except c) s) s) ≡ t → p (take (span (except c) s) s) ≡ true
     go true e = e
     go false e = absurd (false≢true (sym (parts-fail p c s e) ∙ h))
+
+pub digits-all : (s : List ℕ) → isDigits s ≡ true → all digit s ≡ true
+unfolding isDigits
+digits-all s h = and-eq-true-iff (not (eqb (length s) 0)) (all digit s) .0 h .1
 
 -- ---- dotted abbreviations
 
@@ -271,7 +269,7 @@ meridiem-last s h = meridiem-end s (meridiem-parts s h .0) .1
 
 -- ---- figures
 
-pub digit-double : (b : ℕ) → digit b ≡ true → doubleByte b ≡ true
+digit-double : (b : ℕ) → digit b ≡ true → doubleByte b ≡ true
 digit-double b h = rw h
 
 double-either : (c d : ℕ) (s : List ℕ) → doubleByte c ≡ true → doubleByte d ≡ true → all doubleByte (drop 1 s) ≡ true → (starts c s || starts d s) ≡ true → all doubleByte s ≡ true
