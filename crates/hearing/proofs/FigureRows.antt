@@ -19,11 +19,13 @@ use Rattle.reals.specs.Real.{real}
 use Rattle.reals.proofs.RealLaws.{starts-cons}
 use Rattle.rows.specs.Rows.{readStep, read}
 use Rattle.rows.proofs.Laws.{read-eq}
-use Rattle.rows.proofs.Taken.{untaken, lacks, doubleByte, dotted-first, comma-needed, colon-needed, meridiem-last, double-bytes}
+use Rattle.rows.proofs.Taken.{untaken, lacks, doubleByte, dotted-first, comma-needed, colon-needed, meridiem-last, double-bytes, digits-all}
 use Rattle.clear.specs.Clear.{plain, Minus, no-minus, a-minus, Fraction, no-point, a-point, ExponentSign, no-sign, plus-sign, minus-sign, Exponent, no-exponent, an-exponent}
-use Rattle.hearing.proofs.Shown.{digits-all, digits-some, plain-digits}
+use Rattle.clear.proofs.Figures.{plain-digits}
+use Rattle.hearing.proofs.Shown.{digits-some}
 use Rattle.hearing.proofs.Suffixed.{all-at, digit-no-letter}
-use Rattle.hearing.proofs.Real.{digits-start, digits-alone, real-digits, minusWords, fractionWords, exponentWords, real-figure}
+use Rattle.clear.proofs.Cuts.{starts-digits}
+use Rattle.hearing.proofs.Real.{digits-alone, real-digits, minusWords, fractionWords, exponentWords, real-figure}
 
 -- ---- rows 1 to 5 take no such name
 
@@ -99,7 +101,7 @@ unsigned-is a h {x = x} (a-point f k) e =
     rw (digits-span a (code "." ∷ (f ++ x)) h refl, drop-append-seam a (code "." ∷ (f ++ x)), starts-cons (code ".") (code ".") (f ++ x), digits-span f x k (exponent-start e .0), drop-append-seam f x, ne-eqb (length a) 0 (λ o. omega (arith, digits-some a h))) (exponent-is e)
 
 figure-double : {m f x : List ℕ} → Minus m → (a : List ℕ) → isDigits a ≡ true → Fraction f → Exponent x → isDouble (m ++ (a ++ (f ++ x))) ≡ true
-figure-double {f = f} {x = x} no-minus a h t e = rw (digits-start (code "-") a (f ++ x) refl h) (unsigned-is a h t e)
+figure-double {f = f} {x = x} no-minus a h t e = rw (starts-digits (code "-") a (f ++ x) refl h) (unsigned-is a h t e)
 figure-double {f = f} {x = x} a-minus a h t e = rw (starts-cons (code "-") (code "-") (a ++ (f ++ x))) (unsigned-is a h t e)
 
 -- ---- what numbers are read as

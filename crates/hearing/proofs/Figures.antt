@@ -2,11 +2,11 @@
 use mathlib.Core.Path.{_≡_, refl, ap, _∙_}
 use mathlib.Core.Bool.{Bool, true, false, not, _&&_, _||_, and-eq-true-iff}
 use mathlib.Core.List.{List, [], _∷_, _++_, map, append-nil}
-use Prim.Native.Nat.{ℕ, zero, suc, _+_, _-_, _<_}
+use Prim.Native.Nat.{ℕ, _-_, _<_}
 use Prim.Native.Char.{code}
 use native.Mathlib.Omega.{arith}
 use lib.Dec.{ltb}
-use lib.ListN.{length, take, getD, length-append, length-map, List·getD-append}
+use lib.ListN.{length, take, length-append, length-map, List·getD-append}
 use lib.Seq.{getD-at, take-at, append-snoc}
 use borrow.Author.Tests.{ne-eqb, not-true, not-false}
 use Rattle.lists.specs.Bytes.{bytes, all, same, sameBy, starts, ends}
@@ -24,7 +24,7 @@ use Rattle.hearing.specs.Hear.{know, known, firstWord, lastWord, smallVa
 use Rattle.hearing.proofs.Told.{solid, Heeded}
 use Rattle.hearing.proofs.Shown.{digits-some, clean-length}
 use Rattle.hearing.proofs.Numerals.{Numeral, numeral-test, cardinal-numerals, digits-numerals, every-known, plain-some, hear-plain, hear-leading}
-use Rattle.hearing.proofs.Dispatch.{last-word, but-last, not-lone, numeral-no-letter, heeded}
+use Rattle.hearing.proofs.Dispatch.{every-at, last-word, but-last, not-lone, numeral-no-letter, heeded}
 use Rattle.hearing.proofs.Real.{minusWords}
 use Rattle.hearing.proofs.Figure.{Fine, plainEnd, dictionary, numeral-fine, minus-is, Tail, none, part, front-heard, tail-fine, plain-part, figure-tail}
 use Rattle.hearing.proofs.FigureRows.{figure-read, leading-read}
@@ -111,11 +111,6 @@ number-spoken n (is-digits s h) = go (isLeadingZeroDigits s) refl
     go false e = let k : plain s ≡ true = rw (e, h) in rw (append-nil s) at (figure-spoken no-minus s k no-point no-exponent)
 
 -- ---- how `hear` goes by these words
-
-every-at : {A : Type 0} (P : A → Type 0) (s : List A) (i : ℕ) (d : A) → i < length s → Every P s → P (getD s i d)
-every-at P [] i d l h = absurd (omega arith)
-every-at P (a ∷ s) zero d l h = h .0
-every-at P (a ∷ s) (suc i) d l h = every-at P s i d (omega arith) (h .1)
 
 module _ {s : List ℕ} {ws : List Word} (o : Spoken s ws) where
   fine-known : known (spelled ws) ≡ ws

@@ -2,7 +2,7 @@
 use mathlib.Core.Path.{_≡_, refl, ap, ap₂, _∙_}
 use mathlib.Core.Bool.{Bool, true, false, not, cond, _&&_, and-eq-true-iff}
 use mathlib.Core.List.{List, [], _∷_, _++_, map, append-assoc, append-nil}
-use Prim.Native.Nat.{ℕ, _+_, _-_}
+use Prim.Native.Nat.{ℕ, _-_}
 use Prim.Native.Char.{code}
 use native.Mathlib.Omega.{arith}
 use lib.Dec.{eqb}

@@ -26,7 +26,8 @@ use Rattle.numerals.proofs.Forms.{Digits, clean-digits}
 use Rattle.numerals.proofs.Value.{cardinal-names}
 use Rattle.clear.specs.Clear.{plain}
 use Rattle.hearing.specs.Hear.{counted, vocabulary, knowIn, know, known, shown, digitOf, isOne, twoOnes, hearDigits}
-use Rattle.hearing.proofs.Shown.{plain-digits, plain-values, shown-plain, clean-length, inked-clean}
+use Rattle.clear.proofs.Figures.{plain-digits}
+use Rattle.hearing.proofs.Shown.{plain-values, shown-plain, clean-length, inked-clean}
 
 -- a word that numbers are read with
 abbrev pub Numeral : Word → Type 0

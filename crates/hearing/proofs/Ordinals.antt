@@ -31,8 +31,9 @@ use Rattle.rows.specs.Rows.{read}
 use Rattle.clear.specs.Clear.{plain, suffix, tableWords, listed}
 use Rattle.hearing.specs.Hear.{counted, vocabulary, isLone, cardinalWord}
 use Rattle.hearing.proofs.Told.{Heeded}
-use Rattle.rows.proofs.Taken.{doubleByte}
-use Rattle.hearing.proofs.Shown.{plain-digits, digits-all, digits-some}
+use Rattle.rows.proofs.Taken.{doubleByte, digits-all}
+use Rattle.clear.proofs.Figures.{plain-digits}
+use Rattle.hearing.proofs.Shown.{digits-some}
 use Rattle.hearing.proofs.Numerals.{Numeral, numeral-test, cardinal-numerals, plain-some, zero-named, many-length, hear-plain}
 use Rattle.hearing.proofs.Suffixed.{all-at, read-ordinal}
 use Rattle.hearing.proofs.Dispatch.{lateWord, not-lone, numerals-known, hear-ordinal, heeded-late}

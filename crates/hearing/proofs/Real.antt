@@ -1,8 +1,8 @@
 -- The words of a figure: what `real` says of its parts. Assumes nothing.
 use mathlib.Core.Path.{_≡_, refl, sym, ap, _∙_}
-use mathlib.Core.Bool.{true, false, false≢true, and-eq-true-iff}
+use mathlib.Core.Bool.{true, false}
 use mathlib.Core.List.{List, [], _∷_, _++_, append-nil, append-assoc}
-use Prim.Native.Nat.{ℕ, _+_}
+use Prim.Native.Nat.{ℕ}
 use Prim.Native.Char.{code}
 use native.Mathlib.Omega.{arith}
 use lib.ListN.{length, length-append}
@@ -16,20 +16,16 @@ use Rattle.numerals.specs.Words.{Word, other}
 use Rattle.numerals.specs.Cardinal.{cardinal, digits}
 use Rattle.reals.specs.Real.{pointAt, eAt, pointed, realStep, real}
 use Rattle.reals.proofs.RealLaws.{starts-cons, real-eq, real-plain}
-use Rattle.hearing.proofs.Shown.{digits-all, plain-digits}
+use Rattle.rows.proofs.Taken.{digits-all}
+use Rattle.clear.proofs.Figures.{plain-digits}
+use Rattle.clear.proofs.Cuts.{starts-digits}
 use Rattle.hearing.proofs.Suffixed.{apart}
-use Rattle.clear.specs.Clear.{plain, Minus, no-minus, a-minus, Fraction, no-point, a-point, ExponentSign, no-sign, plus-sign, minus-sign, Exponent, no-exponent, an-exponent}
+use Rattle.clear.specs.Clear.{Minus, no-minus, a-minus, Fraction, no-point, a-point, ExponentSign, no-sign, plus-sign, minus-sign, Exponent, no-exponent, an-exponent}
 
 -- ---- digits
 
--- a text that starts with digits starts with no other byte
-pub digits-start : (c : ℕ) (s r : List ℕ) → digit c ≡ false → isDigits s ≡ true → starts c (s ++ r) ≡ false
-unfolding isDigits all
-digits-start c [] r n h = absurd (false≢true h)
-digits-start c (b ∷ s) r n h = starts-cons c b (s ++ r) ∙ apart digit c b n (and-eq-true-iff (digit b) (all digit s) .0 (digits-all (b ∷ s) h) .0)
-
 pub digits-alone : (c : ℕ) (s : List ℕ) → digit c ≡ false → isDigits s ≡ true → starts c s ≡ false
-digits-alone c s n h = rw (append-nil s) at (digits-start c s [] n h)
+digits-alone c s n h = rw (append-nil s) at (starts-digits c s [] n h)
 
 -- digits are within each class that the other bytes of figures mark off
 digits-but : (c : ℕ) (s : List ℕ) → digit c ≡ false → all digit s ≡ true → all (except c) s ≡ true
@@ -115,7 +111,7 @@ module _ (a : List ℕ) (h : isDigits a ≡ true) where
   -- digits and a fraction, alone or before an exponent
   module _ {f : List ℕ} (t : Fraction f) where
     start : (c : ℕ) → digit c ≡ false → starts c (a ++ f) ≡ false
-    start c n = digits-start c a f n h
+    start c n = starts-digits c a f n h
 
     notE-all : all notE (a ++ f) ≡ true
     notE-all = all-append notE a f ∙ rw (digits-notE a (digits-all a h)) (fraction-notE t)
@@ -126,7 +122,7 @@ module _ (a : List ℕ) (h : isDigits a ≡ true) where
     real-exponent : {x : List ℕ} (e : Exponent x) → real (a ++ (f ++ x)) ≡ cardinal a ++ (fractionWords t ++ exponentWords e)
     real-exponent no-exponent = rw (append-nil f, append-nil (fractionWords t)) real-fraction
     real-exponent (an-exponent g x s k) =
-        let whole : (c : ℕ) → digit c ≡ false → starts c ((a ++ f) ++ (bytes "e" ++ (g ++ x))) ≡ false = λ c n. rw (append-assoc a f (bytes "e" ++ (g ++ x))) (digits-start c a (f ++ (bytes "e" ++ (g ++ x))) n h) in
+        let whole : (c : ℕ) → digit c ≡ false → starts c ((a ++ f) ++ (bytes "e" ++ (g ++ x))) ≡ false = λ c n. rw (append-assoc a f (bytes "e" ++ (g ++ x))) (starts-digits c a (f ++ (bytes "e" ++ (g ++ x))) n h) in
         ap real (sym (append-assoc a f (bytes "e" ++ (g ++ x))))
         ∙ real-e (a ++ f) (start (code "-") refl) (start (code "+") refl) notE-all (g ++ x) (whole (code "-") refl) (whole (code "+") refl)
         ∙ rw (real-fraction, real-sign s x, real-digits x (plain-digits x k)) (append-assoc (cardinal a) (fractionWords t) (other (bytes "e") ∷ (signWords s ++ cardinal x)))

@@ -16,6 +16,8 @@ use Rattle.numerals.specs.Cardinal.{clean, digitValue}
 use Rattle.numerals.specs.Value.{decimalFrom, decimal}
 use Rattle.numerals.proofs.Forms.{Digits}
 use Rattle.clear.specs.Clear.{plain}
+use Rattle.rows.proofs.Taken.{digits-all}
+use Rattle.clear.proofs.Figures.{plain-digits}
 use Rattle.hearing.specs.Hear.{inked, shown}
 
 -- ---- bytes and values
@@ -38,10 +40,6 @@ inked-values (b ∷ s) h =
     let e = digit-least b (k .0) in
     ap₂ (λ (x : ℕ) (r : List ℕ). x ∷ r) (omega arith) (inked-values s (k .1))
 
-pub digits-all : (s : List ℕ) → isDigits s ≡ true → all digit s ≡ true
-unfolding isDigits
-digits-all s h = and-eq-true-iff (not (eqb (length s) 0)) (all digit s) .0 h .1
-
 pub digits-some : (s : List ℕ) → isDigits s ≡ true → 0 < length s
 unfolding isDigits
 digits-some s h = let n = eqb-false (length s) 0 (not-true (eqb (length s) 0) (and-eq-true-iff (not (eqb (length s) 0)) (all digit s) .0 h .0)) in omega arith
@@ -53,9 +51,6 @@ pub clean-length : (s : List ℕ) → isDigits s ≡ true → length (clean s) �
 clean-length s h = ap length (clean-all s (digits-all s h)) ∙ length-map s digitValue
 
 -- ---- plain digits
-
-pub plain-digits : (s : List ℕ) → plain s ≡ true → isDigits s ≡ true
-plain-digits s h = and-eq-true-iff (isDigits s) (not (isLeadingZeroDigits s)) .0 h .0
 
 plain-first : (b : ℕ) (r : List ℕ) → plain (b ∷ r) ≡ true → 0 < length r → b ≡ code "0" → ⊥
 plain-first b r h l e =

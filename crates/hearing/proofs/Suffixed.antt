@@ -19,8 +19,8 @@ use Rattle.numerals.specs.Cardinal.{cardinal}
 use Rattle.numerals.specs.Ordinal.{ordinal}
 use Rattle.rows.specs.Rows.{read, readStep}
 use Rattle.rows.proofs.Laws.{read-eq}
-use Rattle.hearing.proofs.Shown.{digits-all, digits-some}
-use Rattle.rows.proofs.Taken.{untaken, lacks, doubleByte, dotted-first, comma-needed, colon-needed, double-bytes}
+use Rattle.hearing.proofs.Shown.{digits-some}
+use Rattle.rows.proofs.Taken.{untaken, lacks, doubleByte, dotted-first, comma-needed, colon-needed, double-bytes, digits-all}
 
 -- ---- a text by its parts
 

@@ -21,10 +21,12 @@ use Rattle.readings.specs.Letters.{chars, letterWord, letters}
 use Rattle.rows.specs.Rows.{by, clock, clockLetters, readStep, read}
 use Rattle.rows.specs.declared.Row.the-variants.{Time, Meridiem}
 use Rattle.rows.proofs.Laws.{read-eq}
-use Rattle.rows.proofs.Taken.{untaken, lacks, dottedByte, timeByte, dotted-bytes, comma-bytes, time-bytes}
+use Rattle.rows.proofs.Taken.{untaken, lacks, dottedByte, timeByte, dotted-bytes, comma-bytes, time-bytes, digits-all}
 use Rattle.clear.specs.Clear.{isHour, isMinute, HalfDay, am, pm}
 use Rattle.hearing.proofs.Told.{solid, Heeded}
-use Rattle.hearing.proofs.Shown.{digits-all, digits-some, plain-digits}
+use Rattle.clear.proofs.Figures.{plain-digits}
+use Rattle.hearing.proofs.Shown.{digits-some}
+use Rattle.hearing.proofs.Suffixed.{apart}
 use Rattle.hearing.proofs.Dispatch.{heeded}
 use Rattle.hearing.proofs.Times.{hour-parts}
 use Rattle.hearing.proofs.TimeWords.{time-told, meridiem-told, clock-solid}
@@ -49,10 +51,6 @@ hour-minute h m p q =
 colon-at : (p : ℕ → Bool) → p (code ":") ≡ false → ((b : ℕ) → digit b ≡ true → p b ≡ true) → (h t : List ℕ) → isHour h ≡ true → span p (h ++ (bytes ":" ++ t)) ≡ length h
 colon-at p c f h t k =
     span-before p h (code ":") t c ∙ all-span p h (all-within digit p f h (digits-all h (plain-digits h (hour-parts h k .0))))
-
--- a byte outside a class is none of it
-apart : (p : ℕ → Bool) (c b : ℕ) → p c ≡ false → p b ≡ true → eqb b c ≡ false
-apart p c b h k = ne-eqb b c (λ e. false≢true (sym h ∙ ap p (sym e) ∙ k))
 
 no-colon : (b : ℕ) → digit b ≡ true → except (code ":") b ≡ true
 no-colon b h = rw (apart digit (code ":") b refl h)

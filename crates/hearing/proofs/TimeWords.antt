@@ -3,7 +3,7 @@ use mathlib.Core.Path.{_≡_, refl, sym, ap, _∙_}
 use mathlib.Core.Bool.{Bool, true, false, cond, not, and-eq-true-iff, false≢true}
 use mathlib.Core.List.{List, [], _∷_, _++_, map, append-assoc}
 use mathlib.Core.Logic.{_⊎_, inl, inr, ⊎-elim}
-use Prim.Native.Nat.{ℕ, zero, suc, _+_, _-_, _≤_, _<_}
+use Prim.Native.Nat.{ℕ, _+_, _-_, _≤_, _<_}
 use Prim.Native.Char.{code}
 use native.Mathlib.Omega.{arith}
 use lib.Dec.{eqb}
@@ -29,7 +29,7 @@ use Rattle.hearing.specs.Hear.{counted, vocabulary, know, knowIn, known,
 use Rattle.hearing.proofs.Told.{solid}
 use Rattle.hearing.proofs.Shown.{clean-length}
 use Rattle.hearing.proofs.Numerals.{Numeral, allWords, numeral-test, cardinal-numerals, digits-numerals, numeral-known, every-known, plain-some}
-use Rattle.hearing.proofs.Dispatch.{not-lone, but-last}
+use Rattle.hearing.proofs.Dispatch.{every-at, not-lone, but-last}
 use Rattle.hearing.proofs.Times.{hour-parts, minute-parts, time-like, time-heard}
 
 abbrev oh : Word
@@ -54,11 +54,6 @@ two-digits (a ∷ b ∷ []) h p q =
     (λ f. let z : Numeral (one 0) = rw (eqb-true a 0 e) at (p .0) in (inl z, (inl z, tt)))
     (λ f. (inr refl, (inl (p .1 .0), tt))))
     (λ e. every-imply Numeral TimeWord (λ w n. inl n) (pair a b) (rw (cardinal-2 (a ∷ b ∷ []) refl) at q)))
-
-every-at : {A : Type 0} (P : A → Type 0) (s : List A) (i : ℕ) (d : A) → i < length s → Every P s → P (getD s i d)
-every-at P [] i d l h = absurd (omega arith)
-every-at P (a ∷ s) zero d l h = h .0
-every-at P (a ∷ s) (suc i) d l h = every-at P s i d (omega arith) (h .1)
 
 spelled-length : (ws : List Word) → length (spelled ws) ≡ length ws
 unfolding spelled

@@ -19,7 +19,9 @@ use Rattle.rows.specs.Rows.{clock}
 use Rattle.clear.specs.Clear.{plain, isHour, isMinute}
 use Rattle.numerals.proofs.Forms.{Digits, clean-digits}
 use Rattle.hearing.specs.Hear.{inked, shown, digitOf, isOne, smallValue, allSmall, anyLate, timeLike, hearMinute, hearTime, timeText}
-use Rattle.hearing.proofs.Shown.{clean-all, digits-all, inked-clean, clean-length, plain-digits, plain-values, shown-plain}
+use Rattle.rows.proofs.Taken.{digits-all}
+use Rattle.clear.proofs.Figures.{plain-digits}
+use Rattle.hearing.proofs.Shown.{clean-all, inked-clean, clean-length, plain-values, shown-plain}
 
 -- a test that passes at each number below n passes at one of them
 pub tested : (f : ℕ → Bool) (n : ℕ) → upto f n ≡ true → (k : ℕ) → k < n → f k ≡ true

@@ -6,7 +6,7 @@ use Prim.Native.Nat.{ℕ}
 use Prim.Native.Char.{code}
 use lib.Dec.{eqb}
 use Rattle.lists.specs.Bytes.{all}
-use Rattle.numerals.specs.Words.{Word, spelled}
+use Rattle.numerals.specs.Words.{spelled}
 use Rattle.numerals.proofs.Every.{Every}
 use Rattle.rows.specs.Rows.{read}
 use Rattle.hearing.specs.Hear.{hear}

@@ -19,8 +19,9 @@ use Rattle.numerals.specs.Cardinal.{cardinal}
 use Rattle.rows.specs.Rows.{read}
 use Rattle.clear.specs.Clear.{plain}
 use Rattle.hearing.proofs.Told.{Heeded}
-use Rattle.rows.proofs.Taken.{doubleByte}
-use Rattle.hearing.proofs.Shown.{plain-digits, digits-all, digits-some}
+use Rattle.rows.proofs.Taken.{doubleByte, digits-all}
+use Rattle.clear.proofs.Figures.{plain-digits}
+use Rattle.hearing.proofs.Shown.{digits-some}
 use Rattle.hearing.proofs.Numerals.{cardinal-numerals, hear-plain}
 use Rattle.hearing.proofs.Suffixed.{read-unit}
 use Rattle.hearing.proofs.Dispatch.{lateWord, plain-not-lone, hear-unit, heeded-late}

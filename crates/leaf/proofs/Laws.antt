@@ -1,17 +1,16 @@
 -- What the readers of a leaf's rows answer. Assumes nothing.
 use mathlib.Core.Path.{_≡_, refl, sym, ap, _∙_}
-use mathlib.Core.Bool.{Bool, true, false, cond, not, _&&_, and-false, and-eq-true-iff, or-false, false≢true}
+use mathlib.Core.Bool.{Bool, true, false, cond, not, _&&_, and-eq-true-iff, or-false}
 use mathlib.Core.List.{List, [], _∷_, _++_, map}
 use Prim.Native.Nat.{ℕ, _+_, _-_, _<_}
 use Prim.Native.Char.{code}
-use native.Mathlib.Omega.{arith}
-use lib.Dec.{eqb, leb}
+use lib.Dec.{eqb}
 use lib.ListN.{length, take, drop, getD}
 use lib.Seq.{drop-cons}
 use native.Mathlib.Numerals.{add-one}
-use borrow.Author.Tests.{ltb-true, leb-true, eq-eqb, ne-eqb, lt-leb, not-true}
+use borrow.Author.Tests.{ltb-true, eq-eqb, ne-eqb, not-true}
 use Rattle.lists.specs.Bytes.{keep, all, ends}
-use Rattle.lists.specs.Classes.{except, letter, continuation, digitOrComma}
+use Rattle.lists.specs.Classes.{except, letter, digitOrComma}
 use Rattle.units.specs.Units.{unitIndex, isUnit, unitWord, wordNumbers, unitAbbreviations}
 use Rattle.lists.proofs.Recursion.{cond-elim}
 use Rattle.units.proofs.Laws.{word-row, rows}
@@ -24,7 +23,8 @@ use Rattle.lexicon.specs.Lexicon.{wordOf}
 use Rattle.sink.specs.Sink.{Sink, emitAll}
 use Rattle.numerals.specs.Words.{Word, other, spelled}
 use Rattle.numerals.proofs.Digits.{spelled-append}
-use Rattle.readings.specs.Letters.{letterWord, letters, chars}
+use Rattle.readings.specs.Letters.{letterWord, letters}
+use Rattle.rows.proofs.Dotted.{letter-chars}
 use Rattle.rows.proofs.Taken.{untaken, dottedByte, dotted-bytes}
 use Rattle.rows.specs.Rows.{Reading, by, readStep, read}
 use Rattle.rows.proofs.Laws.{read-eq}
@@ -117,24 +117,6 @@ point-initial b e = rw (eq-eqb b (code ".") e)
 pub letter-initial : (b : ℕ) → (b ≡ code "." → ⊥) → initials (b ∷ []) ≡ other (letterWord (b ∷ [])) ∷ []
 unfolding initials keep
 letter-initial b n = rw (ne-eqb b (code ".") n)
-
--- a text of letters has a character a byte
-letter-alone : (b : ℕ) → letter b ≡ true → continuation b ≡ false
-letter-alone b e = untaken (continuation b) (λ k.
-    let h = leb-true 0x80 b (and-eq-true-iff (leb 0x80 b) (leb b 0xBF) .0 k .0) in
-    false≢true (rw (lt-leb b (code "Z") (omega arith), lt-leb b (code "z") (omega arith), and-false (leb (code "A") b), and-false (leb (code "a") b)) at e))
-
-alone : (s : List ℕ) → all letter s ≡ true → continuation (getD s 0 0) ≡ false
-unfolding all
-alone [] e = refl
-alone (b ∷ s) e = letter-alone b (and-eq-true-iff (letter b) (all letter s) .0 e .0)
-
-letter-chars : (s : List ℕ) → all letter s ≡ true → letters s ≡ map (λ b. other (letterWord (b ∷ []))) s
-unfolding letters chars all
-letter-chars [] e = refl
-letter-chars (b ∷ s) e =
-    let t = and-eq-true-iff (letter b) (all letter s) .0 e .1 in
-    rw (alone s t) (ap (λ (ws : List Word). other (letterWord (b ∷ [])) ∷ ws) (letter-chars s t))
 
 -- a byte of a dotted abbreviation that is no point is a letter
 kept-letter : (b : ℕ) → dottedByte b ≡ true → except (code ".") b ≡ true → letter b ≡ true
