@@ -1,17 +1,17 @@
 -- Capitals with single dots between: row 2 takes them, and they are heard from their letters. Assumes nothing.
 use mathlib.Core.Path.{_≡_, refl, ap, ap₂, _∙_}
-use mathlib.Core.Bool.{Bool, true, false, _&&_, and-eq-true-iff}
+use mathlib.Core.Bool.{Bool, true, false, _&&_, and-eq-true-iff, not}
 use mathlib.Core.List.{List, [], _∷_, map}
-use Prim.Native.Nat.{ℕ, suc, _+_, _-_, _≤_}
+use Prim.Native.Nat.{ℕ, _+_, _-_, _≤_}
 use Prim.Native.Char.{code}
 use native.Mathlib.Omega.{arith}
 use lib.Dec.{eqb, leb}
 use lib.ListN.{length}
-use borrow.Author.Tests.{leb-true, eqb-true, ne-eqb, le-leb}
-use Rattle.lists.specs.Bytes.{all, keep, split, onto, allParts, sameBy, capital, ends}
+use borrow.Author.Tests.{leb-true, eqb-true, ne-eqb}
+use Rattle.lists.specs.Bytes.{all, keep, sameBy, capital, ends}
 use Rattle.lists.specs.Classes.{letter, except}
 use Rattle.lists.proofs.Scan.{all-within}
-use Rattle.shapes.specs.Shapes.{isAlpha, isOneLetter, isDottedAbbrev}
+use Rattle.shapes.specs.Shapes.{isDottedAbbrev}
 use Rattle.numerals.specs.Words.{other, spell, spelled}
 use Rattle.numerals.proofs.Every.{Every}
 use Rattle.readings.specs.Letters.{letterWord}
@@ -19,6 +19,8 @@ use Rattle.rows.specs.Rows.{by, readStep, read}
 use Rattle.rows.specs.declared.Row.the-variants.{Dotted}
 use Rattle.rows.proofs.Laws.{read-eq}
 use Rattle.rows.proofs.Dotted.{letter-chars}
+use Rattle.clear.specs.Test.{capitalOrPoint}
+use Rattle.clear.proofs.Initials.{initials-test}
 use Rattle.clear.specs.Clear.{dotted}
 use Rattle.hearing.specs.Hear.{isLetterWord, capitalOf, hearInitials, hear}
 use Rattle.hearing.proofs.Told.{solid, Heeded}
@@ -54,54 +56,30 @@ capital-told b h =
 module _ (b : ℕ) (h : capital b ≡ true) where
   is-letter : isLetterWord (initial b) ≡ true
   unfolding told
-  is-letter = (and-eq-true-iff (isLetterWord (initial b)) _ .0 (capital-told b h) .0)
+  is-letter = and-eq-true-iff (isLetterWord (initial b)) _ .0 (capital-told b h) .0
 
   others : (eqb (capitalOf (initial b)) b && solid (initial b)) ≡ true
   unfolding told
-  others = (and-eq-true-iff (isLetterWord (initial b)) _ .0 (capital-told b h) .1)
+  others = and-eq-true-iff (isLetterWord (initial b)) _ .0 (capital-told b h) .1
 
   same-capital : capitalOf (initial b) ≡ b
   same-capital = eqb-true _ b (and-eq-true-iff (eqb (capitalOf (initial b)) b) (solid (initial b)) .0 others .0)
 
   is-solid : solid (initial b) ≡ true
-  is-solid = (and-eq-true-iff (eqb (capitalOf (initial b)) b) (solid (initial b)) .0 others .1)
+  is-solid = and-eq-true-iff (eqb (capitalOf (initial b)) b) (solid (initial b)) .0 others .1
 
 -- ---- the name
-
--- its last byte is no point
-ends-past : (c a b : ℕ) (s : List ℕ) → 1 ≤ length s → ends c (a ∷ b ∷ s) ≡ ends c s
-ends-past c a b [] h = absurd (omega arith)
-ends-past c a b (x ∷ s) h =
-    let i : length (a ∷ b ∷ x ∷ s) - 1 ≡ suc (suc (length s)) = omega arith in
-    let j : length (x ∷ s) - 1 ≡ length s = omega arith in
-    rw (i, j, ne-eqb (length (a ∷ b ∷ x ∷ s)) 0 (λ z. omega arith), ne-eqb (length (x ∷ s)) 0 (λ z. omega arith))
 
 dotted-some : (c : ℕ) (cs : List ℕ) → 1 ≤ length (dotted c cs)
 unfolding dotted
 dotted-some c [] = omega arith
 dotted-some c (d ∷ cs) = omega arith
 
-dotted-end : (c : ℕ) (cs : List ℕ) → all capital (c ∷ cs) ≡ true → ends (code ".") (dotted c cs) ≡ false
-unfolding dotted all
-dotted-end c [] h = no-point c (and-eq-true-iff (capital c) true .0 h .0)
-dotted-end c (d ∷ cs) h = ends-past (code ".") c (code ".") (dotted d cs) (dotted-some d cs) ∙ dotted-end d cs (and-eq-true-iff (capital c) (all capital (d ∷ cs)) .0 h .1)
-
-dotted-split : (c : ℕ) (cs : List ℕ) → all capital (c ∷ cs) ≡ true → split (code ".") (dotted c cs) ≡ map (λ b. b ∷ []) (c ∷ cs)
-unfolding dotted split onto all
-dotted-split c [] h = rw (no-point c (and-eq-true-iff (capital c) true .0 h .0))
-dotted-split c (d ∷ cs) h =
-    rw (no-point c (and-eq-true-iff (capital c) (all capital (d ∷ cs)) .0 h .0)) (ap (λ (ps : List (List ℕ)). (c ∷ []) ∷ ps) (dotted-split d cs (and-eq-true-iff (capital c) (all capital (d ∷ cs)) .0 h .1)))
-
 dotted-keep : (c : ℕ) (cs : List ℕ) → all capital (c ∷ cs) ≡ true → keep (except (code ".")) (dotted c cs) ≡ c ∷ cs
 unfolding dotted keep all
 dotted-keep c [] h = rw (no-point c (and-eq-true-iff (capital c) true .0 h .0))
 dotted-keep c (d ∷ cs) h =
     rw (no-point c (and-eq-true-iff (capital c) (all capital (d ∷ cs)) .0 h .0)) (ap (λ (s : List ℕ). c ∷ s) (dotted-keep d cs (and-eq-true-iff (capital c) (all capital (d ∷ cs)) .0 h .1)))
-
-one-letters : (s : List ℕ) → all letter s ≡ true → allParts isOneLetter (map (λ b. b ∷ []) s) ≡ true
-unfolding allParts isAlpha all
-one-letters [] h = refl
-one-letters (b ∷ s) h = rw (and-eq-true-iff (letter b) (all letter s) .0 h .0) (one-letters s (and-eq-true-iff (letter b) (all letter s) .0 h .1))
 
 -- ---- its letters
 
@@ -128,8 +106,9 @@ module _ (c d : ℕ) (cs : List ℕ) (h : all capital (c ∷ d ∷ cs) ≡ true)
   capitals-letters = all-within capital letter capital-letter (c ∷ d ∷ cs) h
 
   is-dotted : isDottedAbbrev name ≡ true
-  unfolding isDottedAbbrev
-  is-dotted = rw (dotted-end c (d ∷ cs) h, dotted-split c (d ∷ cs) h, one-letters (c ∷ d ∷ cs) capitals-letters, le-leb 2 (length (map (λ b. b ∷ []) (c ∷ d ∷ cs))) (omega arith))
+  is-dotted =
+      let name-dotted = isDottedAbbrev name && not (ends (code ".") name) in
+      and-eq-true-iff (isDottedAbbrev name) (not (ends (code ".") name)) .0 (and-eq-true-iff name-dotted (all capitalOrPoint name) .0 (initials-test c d cs h) .0) .0
 
   row : read name ≡ by Dotted (map (λ b. other (initial b)) (c ∷ d ∷ cs))
   unfolding readStep
@@ -138,7 +117,7 @@ module _ (c d : ℕ) (cs : List ℕ) (h : all capital (c ∷ d ∷ cs) ≡ true)
   letters-heard : hear (map initial (c ∷ d ∷ cs)) ≡ name
   unfolding hear hearInitials all
   letters-heard =
-      let p = (and-eq-true-iff (capital c) (all capital (d ∷ cs)) .0 h .0) in
+      let p = and-eq-true-iff (capital c) (all capital (d ∷ cs)) .0 h .0 in
       rw (not-lone (map initial (c ∷ d ∷ cs)) (omega arith), is-letter c p) (ap₂ dotted (same-capital c p) (capitals (d ∷ cs) (and-eq-true-iff (capital c) (all capital (d ∷ cs)) .0 h .1)))
 
 pub initials-heeded : (c d : ℕ) (cs : List ℕ) → all capital (c ∷ d ∷ cs) ≡ true → Heeded (dotted c (d ∷ cs))

@@ -38,7 +38,7 @@ hour-parts h e = ((and-eq-true-iff (plain h) (leb (length h) 2) .0 e .0), leb-tr
 
 pub minute-parts : (m : List ℕ) → isMinute m ≡ true → (isDigits m ≡ true) × (length m ≡ 2) × (getD m 0 0 ≤ 53)
 minute-parts m e =
-    let p : isNDigits 2 m ≡ true = (and-eq-true-iff (isNDigits 2 m) (leb (getD m 0 0) 53) .0 e .0) in
+    let p : isNDigits 2 m ≡ true = and-eq-true-iff (isNDigits 2 m) (leb (getD m 0 0) 53) .0 e .0 in
     ((and-eq-true-iff (eqb (length m) 2) (isDigits m) .0 p .1), eqb-true (length m) 2 (and-eq-true-iff (eqb (length m) 2) (isDigits m) .0 p .0), leb-true (getD m 0 0) 53 (and-eq-true-iff (isNDigits 2 m) (leb (getD m 0 0) 53) .0 e .1))
 
 -- the bytes of an hour and of a minute
@@ -140,7 +140,7 @@ heard h m (w ∷ []) (v ∷ vs) p q =
     rw (o, and-false, and-false) (ap₂ timeText e (minute-heard m (v ∷ vs) q))
 heard h m (w ∷ v ∷ []) vs p q =
     let two : Bool = ltb 19 (smallValue w) && (ltb 0 (digitOf v) && isOne v) in
-    let o : two ≡ true = (and-eq-true-iff two (eqb (smallValue w + smallValue v) h) .0 p .0) in
+    let o : two ≡ true = and-eq-true-iff two (eqb (smallValue w + smallValue v) h) .0 p .0 in
     let e : smallValue w + smallValue v ≡ h = eqb-true _ h (and-eq-true-iff two (eqb (smallValue w + smallValue v) h) .0 p .1) in
     rw o (ap₂ timeText e (minute-heard m vs q))
 heard h m (w ∷ v ∷ u ∷ ws) vs p q = absurd (false≢true p)
@@ -160,8 +160,8 @@ late : (m : ℕ) (vs : List Word) → minutely m vs ≡ true → (m ≡ 0 → �
 unfolding isMinuteOf allSmall anyLate
 late m [] q n = absurd (n (sym (eqb-true 0 m q)))
 late m (v ∷ vs) q n =
-    let s = (and-eq-true-iff (ltb (smallValue v) 100) (allSmall vs) .0 (and-eq-true-iff (allSmall (v ∷ vs)) _ .0 q .0) .0) in
-    let o = (and-eq-true-iff (not (isOne v)) _ .0 (and-eq-true-iff (allSmall (v ∷ vs)) _ .0 q .1) .0) in
+    let s = and-eq-true-iff (ltb (smallValue v) 100) (allSmall vs) .0 (and-eq-true-iff (allSmall (v ∷ vs)) _ .0 q .0) .0 in
+    let o = and-eq-true-iff (not (isOne v)) _ .0 (and-eq-true-iff (allSmall (v ∷ vs)) _ .0 q .1) .0 in
     rw (s, o)
 
 like : (h m : ℕ) (ws vs : List Word) → hourly h ws ≡ true → minutely m vs ≡ true → (m ≡ 0 → ⊥) → timeLike (ws ++ vs) ≡ true
