@@ -19,7 +19,7 @@ use Rattle.reals.specs.Real.{real}
 use Rattle.reals.proofs.RealLaws.{starts-cons}
 use Rattle.rows.specs.Rows.{readStep, read}
 use Rattle.rows.proofs.Laws.{read-eq}
-use Rattle.rows.proofs.Taken.{untaken, lacks, doubleByte, dotted-first, comma-needed, colon-needed, meridiem-last, double-bytes, digits-all}
+use Rattle.rows.proofs.Taken.{needs-other, untaken, doubleByte, dotted-first, comma-needed, colon-needed, meridiem-last, double-bytes, digits-all}
 use Rattle.clear.specs.Clear.{plain, Minus, no-minus, a-minus, Fraction, no-point, a-point, ExponentSign, no-sign, plus-sign, minus-sign, Exponent, no-exponent, an-exponent}
 use Rattle.clear.proofs.Figures.{plain-digits}
 use Rattle.hearing.proofs.Shown.{digits-some}
@@ -38,18 +38,14 @@ not-m b h = go (capital b)
     go false e = false≢true (rw e at h)
 
 module _ (s : List ℕ) (z : 0 < length s) (l : letter (getD s 0 0) ≡ false) (h : all doubleByte s ≡ true) where
-  -- the byte that a shape needs is none of the name's
-  needs : (c : ℕ) (t : Bool) → doubleByte c ≡ false → (t ≡ true → has c s ≡ true) → t ≡ false
-  needs c t n f = untaken t (λ e. true≢false (sym h ∙ lacks doubleByte c s n (f e)))
-
   no-dotted : isDottedAbbrev s ≡ false
   no-dotted = untaken (isDottedAbbrev s) (λ e. true≢false (sym (dotted-first s e) ∙ l))
 
   no-comma : isCommaInt s ≡ false
-  no-comma = needs (code ",") (isCommaInt s) refl (comma-needed s)
+  no-comma = needs-other (isCommaInt s) doubleByte (code ",") s (comma-needed s) refl h
 
   no-time : isTime s ≡ false
-  no-time = needs (code ":") (isTime s) refl (colon-needed s)
+  no-time = needs-other (isTime s) doubleByte (code ":") s (colon-needed s) refl h
 
   no-meridiem : isMeridiemTime s ≡ false
   no-meridiem = untaken (isMeridiemTime s) (λ e. not-m (getD s (length s - 1) 0) (all-at doubleByte s (length s - 1) h (omega arith)) (meridiem-last s e))

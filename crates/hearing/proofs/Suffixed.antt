@@ -8,7 +8,7 @@ use native.Mathlib.Omega.{arith}
 use lib.Dec.{leb, ltb, eqb}
 use lib.ListN.{length, take, drop, getD, length-append, take-append-drop, List·getD-append}
 use borrow.Author.Tests.{leb-true, lt-leb, le-ltb, ne-eqb}
-use Rattle.lists.specs.Bytes.{all, span, has, starts, ends}
+use Rattle.lists.specs.Bytes.{all, span, starts, ends}
 use Rattle.lists.specs.Classes.{digit, letter, colonNorPoint}
 use Rattle.lists.proofs.Scan.{all-append, all-more, all-within, all-span}
 use Rattle.shapes.specs.Shapes.{isDottedAbbrev, isCommaInt, isTime, isLeadingZeroDigits, isDigits, isDouble, isOrdinal, unitAt, hasUnit}
@@ -20,7 +20,7 @@ use Rattle.numerals.specs.Ordinal.{ordinal}
 use Rattle.rows.specs.Rows.{read, readStep}
 use Rattle.rows.proofs.Laws.{read-eq}
 use Rattle.hearing.proofs.Shown.{digits-some}
-use Rattle.rows.proofs.Taken.{untaken, lacks, doubleByte, dotted-first, comma-needed, colon-needed, double-bytes, digits-all}
+use Rattle.rows.proofs.Taken.{needs-other, untaken, doubleByte, dotted-first, comma-needed, colon-needed, double-bytes, digits-all}
 
 -- ---- a text by its parts
 
@@ -67,20 +67,16 @@ module _ (s u : List ℕ) (h : isDigits s ≡ true) (l : all letter u ≡ true) 
   plain-bytes : all letterOrDigit name ≡ true
   plain-bytes = all-append letterOrDigit s u ∙ rw (all-within digit letterOrDigit digit-in s (digits-all s h), all-within letter letterOrDigit letter-in u l)
 
-  -- a shape that needs a byte of another class
-  none : (c : ℕ) → letterOrDigit c ≡ false → has c name ≡ true → ⊥
-  none c z e = true≢false (sym plain-bytes ∙ lacks letterOrDigit c name z e)
-
   no-dotted : isDottedAbbrev name ≡ false
   no-dotted = untaken (isDottedAbbrev name) (λ e.
       let d : digit (getD name 0 0) ≡ true = rw (List·getD-append s u 0 0 (digits-some s h)) (all-at digit s 0 (digits-all s h) (digits-some s h)) in
       true≢false (sym (dotted-first name e) ∙ digit-no-letter (getD name 0 0) d))
 
   no-comma : isCommaInt name ≡ false
-  no-comma = untaken (isCommaInt name) (λ e. none (code ",") refl (comma-needed name e))
+  no-comma = needs-other (isCommaInt name) letterOrDigit (code ",") name (comma-needed name) refl plain-bytes
 
   no-time : isTime name ≡ false
-  no-time = untaken (isTime name) (λ e. none (code ":") refl (colon-needed name e))
+  no-time = needs-other (isTime name) letterOrDigit (code ":") name (colon-needed name) refl plain-bytes
 
   no-meridiem : isMeridiemTime name ≡ false
   no-meridiem =

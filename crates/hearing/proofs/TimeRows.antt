@@ -1,6 +1,6 @@
 -- The rows that take a clear time, with am or pm or without, and what is heard of it. Assumes nothing.
 use mathlib.Core.Path.{_≡_, refl, sym, ap, _∙_}
-use mathlib.Core.Bool.{Bool, true, false, _||_, or-true, false≢true}
+use mathlib.Core.Bool.{Bool, true, false, _||_, or-true}
 use mathlib.Core.List.{List, [], _∷_, _++_, append-assoc}
 use Prim.Native.Nat.{ℕ, suc, _+_, _-_}
 use Prim.Native.Char.{code}
@@ -21,7 +21,7 @@ use Rattle.readings.specs.Letters.{chars, letterWord, letters}
 use Rattle.rows.specs.Rows.{by, clock, clockLetters, readStep, read}
 use Rattle.rows.specs.declared.Row.the-variants.{Time, Meridiem}
 use Rattle.rows.proofs.Laws.{read-eq}
-use Rattle.rows.proofs.Taken.{untaken, lacks, dottedByte, timeByte, dotted-bytes, comma-bytes, time-bytes, digits-all}
+use Rattle.rows.proofs.Taken.{outside, dottedByte, timeByte, dotted-bytes, comma-bytes, time-bytes, digits-all}
 use Rattle.clear.specs.Clear.{isHour, isMinute, HalfDay, am, pm}
 use Rattle.hearing.proofs.Told.{solid, Heeded}
 use Rattle.clear.proofs.Figures.{plain-digits}
@@ -35,10 +35,6 @@ has-right : (c : ℕ) (a b : List ℕ) → has c b ≡ true → has c (a ++ b) �
 unfolding has
 has-right c [] b h = h
 has-right c (x ∷ a) b h = rw (has-right c a b h) (or-true (eqb x c))
-
--- a shape of one class does not take a text with a byte outside it
-outside : (shape : Bool) (p : ℕ → Bool) (c : ℕ) (s : List ℕ) → (shape ≡ true → all p s ≡ true) → p c ≡ false → has c s ≡ true → shape ≡ false
-outside shape p c s f h k = untaken shape (λ e. false≢true (sym (lacks p c s h k) ∙ f e))
 
 hour-minute : (h m : List ℕ) → isHour h ≡ true → isMinute m ≡ true → isHourMinute h m ≡ true
 unfolding isHourMinute

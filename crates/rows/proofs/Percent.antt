@@ -1,6 +1,6 @@
 -- Names that end in %: no row before 10 takes them. Assumes nothing.
-use mathlib.Core.Path.{_≡_, refl, sym, _∙_}
-use mathlib.Core.Bool.{Bool, true, false, not, _&&_, and-eq-true-iff, or-true, false≢true}
+use mathlib.Core.Path.{_≡_, refl, _∙_}
+use mathlib.Core.Bool.{Bool, true, false, not, _&&_, and-eq-true-iff, or-true}
 use mathlib.Core.List.{List, [], _∷_, _++_}
 use Prim.Native.Nat.{ℕ, zero, suc, _-_, _<_}
 use Prim.Native.Char.{code}
@@ -15,7 +15,7 @@ use Rattle.shapes.specs.Times.{isMeridiemTime}
 use Rattle.rows.specs.Rows.{by, perCent, readStep, read}
 use Rattle.rows.specs.declared.Row.the-variants.{Percent}
 use Rattle.rows.proofs.Laws.{ends-some, read-eq}
-use Rattle.rows.proofs.Taken.{untaken, lacks, dottedByte, timeByte, meridiemByte, doubleByte, ordinalByte, dotted-bytes, comma-bytes, time-bytes, meridiem-bytes, digits-all, double-bytes, ordinal-bytes}
+use Rattle.rows.proofs.Taken.{outside, dottedByte, timeByte, meridiemByte, doubleByte, ordinalByte, dotted-bytes, comma-bytes, time-bytes, meridiem-bytes, digits-all, double-bytes, ordinal-bytes}
 
 has-at : (c : ℕ) (s : List ℕ) (i : ℕ) → i < length s → getD s i 0 ≡ c → has c s ≡ true
 unfolding has
@@ -43,19 +43,18 @@ pub record Untaken (s : List ℕ) : Type 0 where
 pub percent-untaken : (s : List ℕ) → ends (code "%") s ≡ true → Untaken s
 percent-untaken s e = record {
   empty = ne-eqb (length s) 0 (λ z. omega (arith, ends-some (code "%") s e));
-  dotted = outside dottedByte (isDottedAbbrev s) refl (dotted-bytes s);
-  comma = outside digitOrComma (isCommaInt s) refl (comma-bytes s);
-  time = outside timeByte (isTime s) refl (time-bytes s);
-  meridiem = outside meridiemByte (isMeridiemTime s) refl (meridiem-bytes s);
-  leading = outside digit (isLeadingZeroDigits s) refl (λ h. digits-all s (and-eq-true-iff (ltb 1 (length s) && starts (code "0") s) (isDigits s) .0 h .1));
-  digits = outside digit (isDigits s) refl (digits-all s);
-  double = outside doubleByte (isDouble s) refl (double-bytes s);
-  ordinal = outside ordinalByte (isOrdinal s) refl (ordinal-bytes s);
+  dotted = other dottedByte refl (isDottedAbbrev s) (dotted-bytes s);
+  comma = other digitOrComma refl (isCommaInt s) (comma-bytes s);
+  time = other timeByte refl (isTime s) (time-bytes s);
+  meridiem = other meridiemByte refl (isMeridiemTime s) (meridiem-bytes s);
+  leading = other digit refl (isLeadingZeroDigits s) (λ h. digits-all s (and-eq-true-iff (ltb 1 (length s) && starts (code "0") s) (isDigits s) .0 h .1));
+  digits = other digit refl (isDigits s) (digits-all s);
+  double = other doubleByte refl (isDouble s) (double-bytes s);
+  ordinal = other ordinalByte refl (isOrdinal s) (ordinal-bytes s);
 }
   where
-    -- a shape whose bytes are of a class without % does not take the name
-    outside : (p : ℕ → Bool) (shape : Bool) → p (code "%") ≡ false → (shape ≡ true → all p s ≡ true) → shape ≡ false
-    outside p shape q f = untaken shape (λ h. false≢true (sym (lacks p (code "%") s q (ends-has (code "%") s e)) ∙ f h))
+    other : (p : ℕ → Bool) → p (code "%") ≡ false → (shape : Bool) → (shape ≡ true → all p s ≡ true) → shape ≡ false
+    other p h shape f = outside shape p (code "%") s f h (ends-has (code "%") s e)
 
 -- so row 10 reads it
 pub percent-read : (s : List ℕ) → ends (code "%") s ≡ true → read s ≡ by Percent (read (take (length s - 1) s) .words ++ perCent)

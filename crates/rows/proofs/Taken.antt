@@ -33,6 +33,14 @@ lacks p c (b ∷ s) h k = go (eqb b c) refl k (lacks p c s h)
     go true e k i = rw (eqb-true b c e, h)
     go false e k i = rw (i k) (and-false (p b))
 
+-- a shape whose names are of a class does not take a text with a byte outside it
+pub outside : (shape : Bool) (p : ℕ → Bool) (c : ℕ) (s : List ℕ) → (shape ≡ true → all p s ≡ true) → p c ≡ false → has c s ≡ true → shape ≡ false
+outside shape p c s f h k = untaken shape (λ e. false≢true (sym (lacks p c s h k) ∙ f e))
+
+-- nor does a shape that needs a byte take a text of a class without it
+pub needs-other : (shape : Bool) (p : ℕ → Bool) (c : ℕ) (s : List ℕ) → (shape ≡ true → has c s ≡ true) → p c ≡ false → all p s ≡ true → shape ≡ false
+needs-other shape p c s f h k = untaken shape (λ e. false≢true (sym (lacks p c s h (f e)) ∙ k))
+
 -- the bytes of each shape's names
 abbrev pub dottedByte : ℕ → Bool
 dottedByte b = letter b || eqb b (code ".")
