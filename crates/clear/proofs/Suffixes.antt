@@ -18,7 +18,7 @@ use Rattle.lists.proofs.Table.{below}
 use Rattle.units.specs.Units.{unitAbbreviations, abbreviations, unitWords, before, unitIndex, isUnit, unitWord}
 use Rattle.shapes.specs.Shapes.{unitAt}
 use Rattle.clear.specs.Clear.{plain, suffix, Clear, is-ordinal, is-unit}
-use Rattle.clear.specs.Test.{number, lastTwo, isOrdinalClear, isFirstUnit, isUnitClear}
+use Rattle.clear.specs.Test.{butLastTwo, lastTwo, isOrdinalClear, isFirstUnit, isUnitClear}
 use Rattle.clear.proofs.Cuts.{ands, same-true, same-self, cut-front, cut-back, span-seam, after-seam, digits-all}
 use Rattle.clear.proofs.Figures.{plain-digits}
 
@@ -38,9 +38,9 @@ suffix-two s = go (ltb 1 (length s) && eqb (getD s (length s - 2) 0) (code "1"))
 
 pub test-ordinal : (s : List ℕ) → isOrdinalClear s ≡ true → Clear s
 test-ordinal s h =
-    let p = ands (plain (number s)) (same (lastTwo s) (suffix (number s))) h in
-    let e : suffix (number s) ≡ lastTwo s = sym (same-true (lastTwo s) (suffix (number s)) (p .1)) in
-    rw (e, take-append-drop) at (is-ordinal (number s) (p .0))
+    let p = ands (plain (butLastTwo s)) (same (lastTwo s) (suffix (butLastTwo s))) h in
+    let e : suffix (butLastTwo s) ≡ lastTwo s = sym (same-true (lastTwo s) (suffix (butLastTwo s)) (p .1)) in
+    rw (e, take-append-drop) at (is-ordinal (butLastTwo s) (p .0))
 
 pub ordinal-test : (s : List ℕ) → plain s ≡ true → isOrdinalClear (s ++ suffix s) ≡ true
 ordinal-test s h =

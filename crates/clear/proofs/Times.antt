@@ -16,7 +16,7 @@ use Rattle.lists.specs.Classes.{digit, except}
 use Rattle.lists.proofs.Scan.{span-fails, all-within}
 use Rattle.shapes.specs.Shapes.{isDigits, isNDigits, splitOnce, isHourMinute, isTime}
 use Rattle.clear.specs.Clear.{plain, isHour, isMinute, HalfDay, am, pm, Clear, is-time, is-meridiem}
-use Rattle.clear.specs.Test.{isPlainTime, isTimeClear, isMeridiemClear, number, lastTwo}
+use Rattle.clear.specs.Test.{isPlainTime, isTimeClear, isMeridiemClear, butLastTwo, lastTwo}
 use Rattle.clear.proofs.Cuts.{ands, ors, same-true, same-self, same-false, cut-front, cut-back, lead-seam, after-seam, span-seam, digits-all, digits-some}
 use Rattle.clear.proofs.Figures.{plain-digits}
 
@@ -107,7 +107,7 @@ half-day s h =
 
 pub test-meridiem : (s : List ℕ) → isMeridiemClear s ≡ true → Clear s
 test-meridiem s h =
-    let n = number s in
+    let n = butLastTwo s in
     let p = ands (same (lastTwo s) (bytes "am") || same (lastTwo s) (bytes "pm")) (isPlainTime n) h in
     let t = test-plain n (p .1) in
     let e : hour n ++ (bytes ":" ++ (minute n ++ lastTwo s)) ≡ s = sym (append-assoc (hour n) (bytes ":" ++ minute n) (lastTwo s)) ∙ ap (λ (r : List ℕ). r ++ lastTwo s) (t .whole) ∙ take-append-drop (length s - 2) s in

@@ -41,17 +41,17 @@ abbrev pub isTimeClear : List ℕ → Bool
 isTimeClear s = isPlainTime s && not (same (drop 1 (after (except (code ":")) s)) (bytes "00"))
 
 -- all but the last two bytes, and those
-abbrev pub number : List ℕ → List ℕ
-number s = take (length s - 2) s
+abbrev pub butLastTwo : List ℕ → List ℕ
+butLastTwo s = take (length s - 2) s
 
 abbrev pub lastTwo : List ℕ → List ℕ
 lastTwo s = drop (length s - 2) s
 
 abbrev pub isMeridiemClear : List ℕ → Bool
-isMeridiemClear s = (same (lastTwo s) (bytes "am") || same (lastTwo s) (bytes "pm")) && isPlainTime (number s)
+isMeridiemClear s = (same (lastTwo s) (bytes "am") || same (lastTwo s) (bytes "pm")) && isPlainTime (butLastTwo s)
 
 abbrev pub isOrdinalClear : List ℕ → Bool
-isOrdinalClear s = plain (number s) && same (lastTwo s) (suffix (number s))
+isOrdinalClear s = plain (butLastTwo s) && same (lastTwo s) (suffix (butLastTwo s))
 
 -- u is the first abbreviation of its word
 abbrev pub isFirstUnit : List ℕ → Bool
