@@ -2,7 +2,6 @@
 use lexicon::ONES;
 use lists::unpacked;
 use sink::Pen;
-use sink::advance;
 use sink::word;
 ghost use mathlib.Core.Path.{_≡_};
 ghost use Rattle.lexicon.specs.Lexicon.{wordOf};
@@ -15,10 +14,6 @@ ghost use mathlib.Core.List.{_∷_, []};
 pub fn say(k: usize, store: &mut [u8], table: &mut [u8], pen: Pen) -> Pen
     ensures { λ r. ⌜ sink (now (store .exit)) (now (table .exit)) r ≡ emit (wordOf k) (sink (now (store .entry)) (now (table .entry)) pen) ⌝ }
 {
-    // Where no byte of the word falls within the store, its length is enough.
-    if store.len() <= pen.at {
-        return advance(table, pen, lexicon::size(k));
-    }
     let row = lexicon::row(k);
     word(store, table, pen, unpacked(&row))
 }
