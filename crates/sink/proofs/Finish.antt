@@ -12,7 +12,7 @@ use lib.Seq.{sets}
 use borrow.Author.Tests.{ltb-false, le-ltb, lt-ltb}
 use Rattle.lists.specs.Bytes.{over}
 use Rattle.lists.specs.LittleEndian.{leBytes}
-use Rattle.lists.proofs.Sets.{sets-out, sets-append, sets-front, le-or-lt}
+use Rattle.lists.proofs.Sets.{sets-append, sets-front, le-or-lt}
 use Rattle.admit.specs.Refusals.{textLimit, textRefusal}
 use Rattle.admit.proofs.Calls.{refused-text, refused-short, accepted-text}
 use Rattle.sink.specs.Sink.{top, pairOf, pairBytes, Sink, sink, gap, afterGap, emit, emitAll}
@@ -161,8 +161,3 @@ module _ (s : List ℕ) (ws : List (List ℕ)) (st tb : List ℕ) (n : ℕ) (due
       let ea : p .at ≡ length (storeOf ws) = ap (λ (k : Sink). k .at) all ∙ zero-add (length (storeBy false ws)) ∙ eg in
       let ew : p .words ≡ length ws = ap (λ (k : Sink). k .words) all ∙ zero-add (length ws) in
       rw q (accepted-text _ _ textLimit s isShort n due z f (λ j. record { words = ew j; bytes = ea j; store = es j; table = et j }))
-
--- a word past the end of the store writes nothing to it, nor does its gap
-pub out-of-store : (l : List ℕ) (g : Bool) (at : ℕ) (w : List ℕ) → length l ≤ at → at ≤ top → sets (sets l at (gap g)) (afterGap g at) w ≡ l
-out-of-store l true at w h k = rw (sets-out l at (gap true) h) (sets-out l (min (at + 1) top) w (omega arith))
-out-of-store l false at w h k = sets-out l at w h

@@ -103,7 +103,7 @@ fn after_gap(pen: Pen) -> usize
 }
 
 // Stores the pair of a word of so many bytes, and moves the pen past it.
-pub fn advance(table: &mut [u8], pen: Pen, size: usize) -> Pen
+fn advance(table: &mut [u8], pen: Pen, size: usize) -> Pen
     ensures { λ r. ⌜ (r ≡ moved size pen) × (now (table .exit) ≡ sets (now (table .entry)) (pairBytes * pen .words) (pairOf (afterGap (pen .spaced) (pen .at)) size)) ⌝ }
 {
     let at = after_gap(pen);
