@@ -41,7 +41,7 @@
  * Nothing is allocated. A number of up to 12 digits is read by a function that calls itself on fewer digits, five deep at most, and
  * an entry that ends in % by two functions that call each other, once for each % at its end; nothing else recurses. So
  * hwk_call_entry and hwk_call_sheet need less than 8 KiB of stack and 80 bytes more for each % at an entry's end, in all less than
- * 512 KiB, which no entry exceeds; every other call needs less than 4 KiB.
+ * 512 KiB; every other call needs less than 4 KiB.
  * (Where a program is linked dynamically and bound lazily, its first call of memcpy, ours or another, needs the dynamic
  * linker's own few KiB on top.) Digits, letters and cases are ASCII's.
  */
