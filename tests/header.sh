@@ -1,5 +1,5 @@
 #!/usr/bin/env bash
-# The header must compile alone, as C99 and as C++, and its constants, layouts, tokens and bound on the stack must be the library's.
+# The header must compile alone, as C99 and as C++, and its constants, layouts and tokens must be the library's.
 set -euo pipefail
 cd "$(dirname "$0")/.."
 
@@ -18,5 +18,3 @@ for program in constants tokens; do
         -o "target/header/$program" "tests/$program.c" target/staticlib/libvoice.a
     "target/header/$program"
 done
-gcc -std=c99 "${strict[@]}" -O1 -Wl,-z,now -Iinclude -o target/header/stack tests/stack.c target/staticlib/libvoice.a
-target/header/stack

@@ -1,0 +1,9 @@
+#!/usr/bin/env bash
+# The header's bounds on the stack must hold, measured on painted stacks.
+set -euo pipefail
+cd "$(dirname "$0")/.."
+
+tests/library.sh
+mkdir -p target/stack
+gcc -std=c99 -pedantic -Wall -Wextra -Werror -O1 -Wl,-z,now -Iinclude -o target/stack/stack tests/stack.c target/staticlib/libvoice.a
+target/stack/stack
