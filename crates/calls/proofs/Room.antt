@@ -34,7 +34,7 @@ use Rattle.readings.specs.Letters.{letters}
 use Rattle.years.proofs.Room.{year-room}
 use Rattle.reals.proofs.Room.{real-room}
 use Rattle.readings.proofs.Room.{letters-room}
-use Rattle.rows.specs.Rows.{Reading, by, perCent, clock, hourOf, minuteOf, clockLetters, readStep, read}
+use Rattle.rows.specs.Rows.{Reading, by, perCent, clock, hourOf, minuteOf, clockLetters, readStep, readWith, read}
 use Rattle.rows.specs.declared.Row.the-variants.{NoRow}
 use Rattle.rows.proofs.Laws.{ends-some, shorter}
 use Rattle.sheets.specs.Sheet.{SheetEntry, entriesOf, wordsOf, spaced, lineOf, callSheet}
@@ -95,10 +95,10 @@ time-fits s =
 
 -- the words of a name of n bytes take at most 24 n + 12
 read-fits : (s : List ℕ) → Fits (24 * length s + 12) (read s .words)
-unfolding read readStep spaced spelled spell
-read-fits = recur-induct (λ t g. Fits (24 * length t + 12) (g .words)) (by NoRow []) readStep steps
+unfolding readWith readStep spaced spelled spell
+read-fits = recur-induct (λ t g. Fits (24 * length t + 12) (g .words)) (by NoRow []) (readStep (map lower)) steps
   where
-    steps : (f : List ℕ → Reading) (s : List ℕ) → ((t : List ℕ) → length t < length s → Fits (24 * length t + 12) (f t .words)) → Fits (24 * length s + 12) (readStep f s .words)
+    steps : (f : List ℕ → Reading) (s : List ℕ) → ((t : List ℕ) → length t < length s → Fits (24 * length t + 12) (f t .words)) → Fits (24 * length s + 12) (readStep (map lower) f s .words)
     steps f s h =
         let n = 24 * length s + 12 in
         let P : Reading → Type 0 = λ g. Fits n (g .words) in

@@ -9,7 +9,7 @@ use lib.ListN.{length, take, drop, getD}
 use lib.Seq.{drop-cons}
 use native.Mathlib.Numerals.{add-one}
 use borrow.Author.Tests.{ltb-true, eq-eqb, ne-eqb, not-true}
-use Rattle.lists.specs.Bytes.{keep, all, ends}
+use Rattle.lists.specs.Bytes.{keep, all}
 use Rattle.lists.specs.Classes.{except, letter, digitOrComma}
 use Rattle.units.specs.Units.{unitIndex, isUnit, unitWord, wordNumbers, unitAbbreviations}
 use Rattle.lists.proofs.Recursion.{cond-elim}
@@ -26,9 +26,8 @@ use Rattle.numerals.proofs.Digits.{spelled-append}
 use Rattle.readings.specs.Letters.{letterWord, letters}
 use Rattle.rows.proofs.Dotted.{letter-chars}
 use Rattle.rows.proofs.Taken.{untaken, dottedByte, dotted-bytes}
-use Rattle.rows.specs.Rows.{Reading, by, readStep, read}
-use Rattle.rows.proofs.Laws.{read-eq}
-use Rattle.leaf.specs.Walk.{Says, initials, fromUnit, fromLeadingZero, fromMeridiem, fromEmpty}
+use Rattle.rows.specs.Rows.{Reading, by}
+use Rattle.leaf.specs.Walk.{Says, initials}
 use Rattle.rows.specs.declared.Row.{Row}
 
 -- a reading is said where an equal one is
@@ -38,11 +37,6 @@ says-same g h e σ k = record { row = k .row ∙ sym (ap (λ (r : Reading). r .r
 -- a row's words are said, and the row answered
 pub says-row : (g : Reading) (row : Row) (ws : List Word) → g ≡ by row ws → (σ : Sink) {τ : Sink} {q : Row} → q ≡ row → τ ≡ emitAll (spelled ws) σ → Says g σ τ q
 says-row g row ws e σ p d = says-same g (by row ws) e σ (record { row = p; said = d })
-
--- a name that does not end in % goes through the other rows
-pub leaf-read : (s : List ℕ) → ends (code "%") s ≡ false → read s ≡ fromEmpty s
-unfolding readStep fromEmpty fromMeridiem fromLeadingZero fromUnit
-leaf-read s e = read-eq s ∙ rw e
 
 -- ---- a unit
 

@@ -36,11 +36,12 @@ use units::unit_index;
 use units::word_number;
 use years::say_year;
 ghost use mathlib.Core.Path.{_≡_};
+ghost use mathlib.Core.Bool.{false};
 ghost use mathlib.Core.List.{_∷_, []};
 ghost use Rattle.sink.specs.Sink.{sink, emitAll};
 ghost use Rattle.numerals.specs.Words.{spelled};
-ghost use Rattle.rows.specs.Rows.{signOf, clock};
-ghost use Rattle.leaf.specs.Walk.{Says, initials, fromUnit, fromLeadingZero, fromMeridiem, fromEmpty};
+ghost use Rattle.rows.specs.Rows.{signOf, clock, isPercent, read};
+ghost use Rattle.leaf.specs.Walk.{Says, initials, rowsAfter};
 
 // An entry's record, and where the pen stands after its words.
 pub struct Said {
@@ -103,7 +104,7 @@ fn say_initials(name: &[u8], store: &mut [u8], table: &mut [u8], pen: Pen) -> Pe
 
 // Rows 11 and 12.
 fn from_unit(name: &[u8], store: &mut [u8], table: &mut [u8], pen: Pen) -> Said
-    ensures { λ r. ⌜ Says (fromUnit (now (name .entry))) (sink (now (store .entry)) (now (table .entry)) pen) (sink (now (store .exit)) (now (table .exit)) (r .pen)) (r .entry .row) ⌝ }
+    ensures { λ r. ⌜ Says (rowsAfter 10 (now (name .entry))) (sink (now (store .entry)) (now (table .entry)) pen) (sink (now (store .exit)) (now (table .exit)) (r .pen)) (r .entry .row) ⌝ }
 {
     let unit = split_unit(name);
     if unit.len() == 0 {
@@ -115,9 +116,10 @@ fn from_unit(name: &[u8], store: &mut [u8], table: &mut [u8], pen: Pen) -> Said
     answer(Row::Unit, say(word, store, table, p))
 }
 
-// The rows from 6 on.
+// The rows from 6 on, of a name that row 10 does not take.
 fn from_leading_zero(name: &[u8], store: &mut [u8], table: &mut [u8], pen: Pen) -> Said
-    ensures { λ r. ⌜ Says (fromLeadingZero (now (name .entry))) (sink (now (store .entry)) (now (table .entry)) pen) (sink (now (store .exit)) (now (table .exit)) (r .pen)) (r .entry .row) ⌝ }
+    requires { ⌜ isPercent (now name) ≡ false ⌝ }
+    ensures { λ r. ⌜ Says (rowsAfter 5 (now (name .entry))) (sink (now (store .entry)) (now (table .entry)) pen) (sink (now (store .exit)) (now (table .exit)) (r .pen)) (r .entry .row) ⌝ }
 {
     if is_leading_zero_digits(name) {
         return answer(Row::LeadingZero, say_digits(name, store, table, pen));
@@ -136,9 +138,10 @@ fn from_leading_zero(name: &[u8], store: &mut [u8], table: &mut [u8], pen: Pen) 
     from_unit(name, store, table, pen)
 }
 
-// The rows from 5 on.
+// The rows from 5 on, of such a name.
 fn from_meridiem(name: &[u8], store: &mut [u8], table: &mut [u8], pen: Pen) -> Said
-    ensures { λ r. ⌜ Says (fromMeridiem (now (name .entry))) (sink (now (store .entry)) (now (table .entry)) pen) (sink (now (store .exit)) (now (table .exit)) (r .pen)) (r .entry .row) ⌝ }
+    requires { ⌜ isPercent (now name) ≡ false ⌝ }
+    ensures { λ r. ⌜ Says (rowsAfter 4 (now (name .entry))) (sink (now (store .entry)) (now (table .entry)) pen) (sink (now (store .exit)) (now (table .exit)) (r .pen)) (r .entry .row) ⌝ }
 {
     let split = split_time_meridiem(name);
     let TimeSplit::At {
@@ -160,9 +163,10 @@ fn from_meridiem(name: &[u8], store: &mut [u8], table: &mut [u8], pen: Pen) -> S
     answer(Row::Meridiem, q)
 }
 
-// The rows of a name that does not end in %.
+// All rows, of such a name.
 pub fn read_leaf(name: &[u8], store: &mut [u8], table: &mut [u8], pen: Pen) -> Said
-    ensures { λ r. ⌜ Says (fromEmpty (now (name .entry))) (sink (now (store .entry)) (now (table .entry)) pen) (sink (now (store .exit)) (now (table .exit)) (r .pen)) (r .entry .row) ⌝ }
+    requires { ⌜ isPercent (now name) ≡ false ⌝ }
+    ensures { λ r. ⌜ Says (read (now (name .entry))) (sink (now (store .entry)) (now (table .entry)) pen) (sink (now (store .exit)) (now (table .exit)) (r .pen)) (r .entry .row) ⌝ }
 {
     if name.len() == 0 {
         return answer(Row::Empty, pen);

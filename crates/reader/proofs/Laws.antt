@@ -1,6 +1,6 @@
 -- How signs are counted, and where the pen stands after a name. Assumes nothing.
 use mathlib.Core.Path.{_≡_, sym, ap, _∙_}
-use mathlib.Core.Bool.{true, false}
+use mathlib.Core.Bool.{true}
 use mathlib.Core.List.{List, _++_, append-assoc, append-nil}
 use Prim.Native.Nat.{ℕ, _+_, _-_, _<_}
 use native.Mathlib.Numerals.{add-one}
@@ -9,13 +9,12 @@ use lib.ListN.{length, take}
 use Rattle.sink.specs.Sink.{Sink, sink, emitAll}
 use Rattle.sink.specs.declared.Pen.{Pen}
 use Rattle.numerals.specs.Words.{spelled}
-use Rattle.rows.specs.Rows.{Reading, by, perCent, read}
+use Rattle.rows.specs.Rows.{Reading, by, isPercent, perCent, read}
 use Rattle.rows.specs.declared.Row.{Row}
 use Rattle.rows.specs.declared.Row.the-variants.{Percent}
 use Rattle.rows.proofs.Percent.{percent-read}
-use Rattle.leaf.specs.Walk.{Says, fromEmpty}
-use Rattle.leaf.proofs.Laws.{leaf-read}
-use Rattle.reader.specs.Signs.{isPercent, perCents, signed}
+use Rattle.leaf.specs.Walk.{Says}
+use Rattle.reader.specs.Signs.{perCents, signed}
 
 one-more : (n : ℕ) → perCents (n + 1) ≡ perCent ++ perCents n
 unfolding perCents
@@ -33,10 +32,6 @@ none-left n e σ k = rw e at k
 pub unsigned : (g : Reading) → g ≡ signed g 0
 unfolding perCents
 unsigned g = λ j. record { row = g .row; words = sym (append-nil (g .words)) j }
-
--- a name that does not end in % goes through the other rows
-pub sign-missing : (s : List ℕ) (n : ℕ) → isPercent s ≡ false → signed (read s) n ≡ signed (fromEmpty s) n
-sign-missing s n e = ap (λ (g : Reading). signed g n) (leaf-read s e)
 
 -- a name that ends in % is read as what stands before, with one sign more after it
 pub sign-taken : (s : List ℕ) (n : ℕ) → isPercent s ≡ true → signed (read s) n ≡ by Percent (read (take (length s - 1) s) .words ++ perCents (n + 1))

@@ -2,17 +2,11 @@
 use mathlib.Core.Bool.{Bool, not}
 use mathlib.Core.List.{List, [], _++_}
 use Prim.Native.Nat.{ℕ, zero, suc}
-use Prim.Native.Char.{code}
 use lib.Dec.{eqb}
 use lib.ListN.{getD}
-use Rattle.lists.specs.Bytes.{ends}
 use Rattle.sink.specs.declared.Pen.{Pen}
 use Rattle.numerals.specs.Words.{Word}
 use Rattle.rows.specs.Rows.{Reading, by, perCent}
-
--- a name ends in %
-abbrev pub isPercent : List ℕ → Bool
-isPercent s = ends (code "%") s
 
 -- "per cent" so many times
 unfoldable pub perCents : ℕ → List Word

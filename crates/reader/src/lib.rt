@@ -16,14 +16,15 @@ use numerals::saying::say;
 use rows::Row;
 use sink::Pen;
 ghost use mathlib.Core.Path.{_≡_};
+ghost use mathlib.Core.Bool.{false};
 ghost use mathlib.Core.List.{_++_};
 ghost use Prim.Native.Nat.{_+_, _-_, _≤_};
 ghost use lib.ListN.{length, take};
 ghost use Rattle.sink.specs.Sink.{top, sink, emitAll};
 ghost use Rattle.numerals.specs.Words.{spelled};
-ghost use Rattle.rows.specs.Rows.{perCent, by, read};
-ghost use Rattle.leaf.specs.Walk.{Says, fromEmpty};
-ghost use Rattle.reader.specs.Signs.{isPercent, perCents, signed, penOf};
+ghost use Rattle.rows.specs.Rows.{isPercent, perCent, by, read};
+ghost use Rattle.leaf.specs.Walk.{Says};
+ghost use Rattle.reader.specs.Signs.{perCents, signed, penOf};
 
 // Whether a name goes to row 10.
 fn is_percent(name: &[u8]) -> bool
@@ -82,7 +83,8 @@ fn read_before(
     table: &mut [u8],
     place: &mut [usize; 3],
 ) -> Row
-    ensures { λ r. ⌜ Says (signed (fromEmpty (now (name .entry))) signs) (sink (now (store .entry)) (now (table .entry)) (penOf (now (place .entry)))) (sink (now (store .exit)) (now (table .exit)) (penOf (now (place .exit)))) r ⌝ }
+    requires { ⌜ isPercent (now name) ≡ false ⌝ }
+    ensures { λ r. ⌜ Says (signed (read (now (name .entry))) signs) (sink (now (store .entry)) (now (table .entry)) (penOf (now (place .entry)))) (sink (now (store .exit)) (now (table .exit)) (penOf (now (place .exit)))) r ⌝ }
 {
     let said = read_leaf(name, store, table, pen_of(place));
     let p = say_per_cents(signs, store, table, said.pen);

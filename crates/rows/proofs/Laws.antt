@@ -1,15 +1,15 @@
 -- How the rows read a name. Assumes nothing.
 use mathlib.Core.Path.{_≡_, refl}
 use mathlib.Core.Bool.{Bool, true, false, false≢true}
-use mathlib.Core.List.{List, [], _∷_}
+use mathlib.Core.List.{List, [], _∷_, map}
 use Prim.Native.Nat.{ℕ, _-_, _<_, _≤_}
 use Prim.Native.Char.{code}
 use native.Mathlib.Omega.{arith}
 use lib.ListN.{length, take}
 use lib.Seq.{length-take-le}
-use Rattle.lists.specs.Bytes.{ends}
+use Rattle.lists.specs.Bytes.{ends, lower}
 use Rattle.lists.proofs.Recursion.{Local, recur-eq}
-use Rattle.rows.specs.Rows.{by, readStep, read}
+use Rattle.rows.specs.Rows.{by, readStep, readWith, read}
 use Rattle.rows.specs.declared.Row.the-variants.{NoRow}
 
 -- a text that ends in a byte has one
@@ -21,15 +21,18 @@ ends-some c (b ∷ s) e = omega arith
 pub shorter : (s : List ℕ) → 1 ≤ length s → length (take (length s - 1) s) < length s
 shorter s h = let e = length-take-le (length s - 1) s (omega arith) in omega arith
 
-read-local : Local readStep
+read-local : (word : List ℕ → List ℕ) → Local (readStep word)
 unfolding readStep
-read-local f g s h = go (ends (code "%") s) refl
+read-local word f g s h = go (ends (code "%") s) refl
   where
-    go : (b : Bool) → ends (code "%") s ≡ b → readStep f s ≡ readStep g s
+    go : (b : Bool) → ends (code "%") s ≡ b → readStep word f s ≡ readStep word g s
     go true e = rw (h (take (length s - 1) s) (shorter s (ends-some (code "%") s e)))
     go false e = rw e
 
 -- a reading is its own step
-pub read-eq : (s : List ℕ) → read s ≡ readStep read s
-unfolding read
-read-eq s = recur-eq (by NoRow []) readStep read-local s
+pub step-eq : (word : List ℕ → List ℕ) (s : List ℕ) → readWith word s ≡ readStep word (readWith word) s
+unfolding readWith
+step-eq word s = recur-eq (by NoRow []) (readStep word) (read-local word) s
+
+pub read-eq : (s : List ℕ) → read s ≡ readStep (map lower) read s
+read-eq s = step-eq (map lower) s

@@ -1,20 +1,20 @@
 -- Names that end in %: no row before 10 takes them. Assumes nothing.
 use mathlib.Core.Path.{_≡_, refl, _∙_}
 use mathlib.Core.Bool.{Bool, true, false, not, _&&_, and-eq-true-iff, or-true}
-use mathlib.Core.List.{List, [], _∷_, _++_}
+use mathlib.Core.List.{List, [], _∷_, _++_, map}
 use Prim.Native.Nat.{ℕ, zero, suc, _-_, _<_}
 use Prim.Native.Char.{code}
 use native.Mathlib.Omega.{arith}
 use lib.Dec.{eqb, ltb}
 use lib.ListN.{length, take, getD}
 use borrow.Author.Tests.{eqb-true, eq-eqb, ne-eqb}
-use Rattle.lists.specs.Bytes.{all, has, starts, ends}
+use Rattle.lists.specs.Bytes.{all, has, lower, starts, ends}
 use Rattle.lists.specs.Classes.{digit, digitOrComma}
 use Rattle.shapes.specs.Shapes.{isDottedAbbrev, isCommaInt, isTime, isLeadingZeroDigits, isDigits, isDouble, isOrdinal}
 use Rattle.shapes.specs.Times.{isMeridiemTime}
-use Rattle.rows.specs.Rows.{by, perCent, readStep, read}
+use Rattle.rows.specs.Rows.{by, perCent, readStep, readWith, read}
 use Rattle.rows.specs.declared.Row.the-variants.{Percent}
-use Rattle.rows.proofs.Laws.{ends-some, read-eq}
+use Rattle.rows.proofs.Laws.{ends-some, step-eq}
 use Rattle.rows.proofs.Taken.{outside, dottedByte, timeByte, meridiemByte, doubleByte, ordinalByte, dotted-bytes, comma-bytes, time-bytes, meridiem-bytes, digits-all, double-bytes, ordinal-bytes}
 
 has-at : (c : ℕ) (s : List ℕ) (i : ℕ) → i < length s → getD s i 0 ≡ c → has c s ≡ true
@@ -57,6 +57,9 @@ percent-untaken s e = record {
     other p h shape f = outside shape p (code "%") s f h (ends-has (code "%") s e)
 
 -- so row 10 reads it
-pub percent-read : (s : List ℕ) → ends (code "%") s ≡ true → read s ≡ by Percent (read (take (length s - 1) s) .words ++ perCent)
+pub percent-with : (word : List ℕ → List ℕ) (s : List ℕ) → ends (code "%") s ≡ true → readWith word s ≡ by Percent (readWith word (take (length s - 1) s) .words ++ perCent)
 unfolding readStep
-percent-read s e = let u = percent-untaken s e in read-eq s ∙ rw (u .dotted, u .comma, u .time, u .meridiem, u .leading, u .digits, u .double, u .ordinal, e, u .empty)
+percent-with word s e = let u = percent-untaken s e in step-eq word s ∙ rw (u .dotted, u .comma, u .time, u .meridiem, u .leading, u .digits, u .double, u .ordinal, e, u .empty)
+
+pub percent-read : (s : List ℕ) → ends (code "%") s ≡ true → read s ≡ by Percent (read (take (length s - 1) s) .words ++ perCent)
+percent-read s e = percent-with (map lower) s e

@@ -1,5 +1,5 @@
 -- Document 01, "Call sheet": the twelve rows. Definitions only.
-use mathlib.Core.Bool.{Bool, cond}
+use mathlib.Core.Bool.{Bool, true, cond}
 use mathlib.Core.List.{List, [], _∷_, _++_, map}
 use Prim.Native.Nat.{ℕ, _-_}
 use Prim.Native.Char.{code}
@@ -78,6 +78,10 @@ unfoldable pub clockLetters : TimeParts → List Word
 clockLetters (parts hour minute meridiem) = clock hour minute ++ letters meridiem
 clockLetters none = []
 
+-- "ends in %"
+abbrev pub isPercent : List ℕ → Bool
+isPercent s = ends (code "%") s
+
 abbrev pub perCent : List Word
 perCent = other (bytes "per") ∷ other (bytes "cent") ∷ []
 
@@ -89,21 +93,39 @@ pub record Reading : Type 0 where
 abbrev pub by : Row → List Word → Reading
 by r ws = record { row = r; words = ws }
 
--- "The name goes to the first row that takes it"; `again` reads a shorter name from row 1
-unfoldable pub readStep : (List ℕ → Reading) → List ℕ → Reading
-readStep again s =
-    cond (eqb (length s) 0) (by Empty [])
-    (cond (isDottedAbbrev s) (by Dotted (letters (keep (except (code ".")) s)))
-    (cond (isCommaInt s) (by CommaInt (cardinal s))
-    (cond (isTime s) (by Time (clock (hourOf s) (minuteOf s)))
-    (cond (isMeridiemTime s) (by Meridiem (clockLetters (timeParts s)))
-    (cond (isLeadingZeroDigits s) (by LeadingZero (digits s))
-    (cond (isDigits s) (by Digits (cardinal s))
-    (cond (isDouble s) (by (Figure (signOf s)) (real s))
-    (cond (isOrdinal s) (by Ordinal (ordinal (take (length s - 2) s)))
-    (cond (ends (code "%") s) (by Percent (again (take (length s - 1) s) .words ++ perCent))
-    (cond (hasUnit s) (by Unit (cardinal (take (unitAt s) s) ++ other (unitWord (unitPart s)) ∷ []))
-    (by OneWord (other (map lower s) ∷ []))))))))))))
+-- a row as a rule for the name at hand: whether it takes the name, and how it reads it
+infix 70 _reads_
+pub data Rule : Type 0 where
+  _reads_ : Bool → Reading → Rule
 
-unfoldable pub read : List ℕ → Reading
-read = recur (by NoRow []) readStep
+-- "The name goes to the first row that takes it"
+abbrev pub firstTaking : List Rule → Reading
+firstTaking [] = by NoRow []
+firstTaking (takes reads reading ∷ rules) = cond takes reading (firstTaking rules)
+
+-- the rows in their order; `again` reads a shorter name from row 1, and `word` is what the last row says
+abbrev pub rows : (List ℕ → List ℕ) → (List ℕ → Reading) → List ℕ → List Rule
+rows word again s =
+    eqb (length s) 0 reads by Empty []
+    ∷ isDottedAbbrev s reads by Dotted (letters (keep (except (code ".")) s))
+    ∷ isCommaInt s reads by CommaInt (cardinal s)
+    ∷ isTime s reads by Time (clock (hourOf s) (minuteOf s))
+    ∷ isMeridiemTime s reads by Meridiem (clockLetters (timeParts s))
+    ∷ isLeadingZeroDigits s reads by LeadingZero (digits s)
+    ∷ isDigits s reads by Digits (cardinal s)
+    ∷ isDouble s reads by (Figure (signOf s)) (real s)
+    ∷ isOrdinal s reads by Ordinal (ordinal (take (length s - 2) s))
+    ∷ isPercent s reads by Percent (again (take (length s - 1) s) .words ++ perCent)
+    ∷ hasUnit s reads by Unit (cardinal (take (unitAt s) s) ++ other (unitWord (unitPart s)) ∷ [])
+    ∷ true reads by OneWord (other (word s) ∷ [])
+    ∷ []
+
+unfoldable pub readStep : (List ℕ → List ℕ) → (List ℕ → Reading) → List ℕ → Reading
+readStep word again s = firstTaking (rows word again s)
+
+unfoldable pub readWith : (List ℕ → List ℕ) → List ℕ → Reading
+readWith word = recur (by NoRow []) (readStep word)
+
+-- "the name, A to Z lowered, as one word"
+abbrev pub read : List ℕ → Reading
+read = readWith (map lower)

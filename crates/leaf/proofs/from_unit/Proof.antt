@@ -10,16 +10,16 @@ use Rattle.numerals.specs.Cardinal.{cardinal}
 use Rattle.numerals.proofs.Said.{said-word, says-more}
 use Rattle.units.specs.Units.{unitWord}
 use Rattle.shapes.specs.Shapes.{unitAt, unitPart}
-use Rattle.leaf.specs.Walk.{fromUnit}
+use Rattle.leaf.specs.Walk.{rowsAfter}
 use Rattle.rows.specs.declared.Row.the-variants.{Unit, OneWord}
 use Rattle.leaf.proofs.Laws.{says-row, unit-there, unit-missing, unit-word}
 
 returns : tie.Need-returns
-unfolding fromUnit spell
+unfolding rowsAfter spell
 returns c = says-row _ OneWord (other (map lower (c .before .before .before .before .before .before .before .before .before .before .before .before .before .args .name .now)) ∷ []) (rw (unit-missing (c .before .before .before .before .before .before .before .before .before .before .before .before .before .args .name .now) (c .before .before .before .before .before .before .before .before .before .split-unit .ensures) (c .before .before .before .before .before .before .before .before .if1 .taken))) _ (c .answer .ensures .0) (rw (c .answer .ensures .1) (said-word (other (map lower (c .before .before .before .before .before .before .before .before .before .before .before .before .before .args .name .now))) _ (c .before .before .before .before .before .word-lowered .ensures)))
 
 returns-2 : tie.Need-returns-2
-unfolding fromUnit spell
+unfolding rowsAfter spell
 returns-2 c =
     let s = c .before .before .before .before .before .before .before .before .before .before .before .before .before .before .before .before .before .before .before .before .before .before .before .before .args .name .now in
     let n = take (unitAt s) s in

@@ -11,33 +11,34 @@ use Rattle.sink.specs.Sink.{emitAll}
 use Rattle.numerals.specs.Words.{spelled}
 use Rattle.numerals.specs.Cardinal.{cardinal}
 use Rattle.readings.specs.Letters.{letters}
-use Rattle.rows.specs.Rows.{clock, hourOf, minuteOf}
+use Rattle.rows.specs.Rows.{clock, hourOf, minuteOf, readStep}
+use Rattle.rows.proofs.Laws.{read-eq}
 use Rattle.rows.specs.declared.Row.the-variants.{Empty, Dotted, CommaInt, Time}
-use Rattle.leaf.specs.Walk.{fromEmpty}
+use Rattle.leaf.specs.Walk.{rowsAfter}
 use Rattle.leaf.proofs.Laws.{says-row, says-same, dotted-initials}
 use borrow.Author.Needs.{needs}
 use Rattle.leaf.proofs.read_leaf.Statement.{statement}
 use Rattle.leaf.proofs.read_leaf.Tie as tie
 
 returns : tie.Need-returns
-unfolding fromEmpty
-returns c = says-row _ Empty [] (rw (eq-eqb _ _ (c .before .if1 .taken))) _ (c .answer .ensures .0) (rw (c .answer .ensures .1) (unfold spelled emitAll in refl))
+unfolding readStep
+returns c = says-row _ Empty [] (read-eq _ ∙ rw (eq-eqb _ _ (c .before .if1 .taken))) _ (c .answer .ensures .0) (rw (c .answer .ensures .1) (unfold spelled emitAll in refl))
 
 returns-2 : tie.Need-returns-2
-unfolding fromEmpty
-returns-2 c = says-row _ Dotted (letters (keep (except (code ".")) (c .before .before .before .before .before .before .before .before .before .before .before .before .before .before .args .name .now))) (rw (ne-eqb _ _ (c .before .before .before .before .before .before .before .before .before .before .if1 .left), sym (c .before .before .before .before .before .before .before .before .before .is-dotted-abbrev .ensures) ∙ c .before .before .before .before .before .before .before .before .if2 .taken)) _ (c .answer2 .ensures .0) (rw (c .answer2 .ensures .1, dotted-initials (c .before .before .before .before .before .before .before .before .before .before .before .before .before .before .args .name .now) (sym (c .before .before .before .before .before .before .before .before .before .is-dotted-abbrev .ensures) ∙ c .before .before .before .before .before .before .before .before .if2 .taken)) (c .before .before .before .before .before .say-initials .ensures))
+unfolding readStep
+returns-2 c = says-row _ Dotted (letters (keep (except (code ".")) (c .before .before .before .before .before .before .before .before .before .before .before .before .before .before .args .name .now))) (read-eq _ ∙ rw (ne-eqb _ _ (c .before .before .before .before .before .before .before .before .before .before .if1 .left), sym (c .before .before .before .before .before .before .before .before .before .is-dotted-abbrev .ensures) ∙ c .before .before .before .before .before .before .before .before .if2 .taken)) _ (c .answer2 .ensures .0) (rw (c .answer2 .ensures .1, dotted-initials (c .before .before .before .before .before .before .before .before .before .before .before .before .before .before .args .name .now) (sym (c .before .before .before .before .before .before .before .before .before .is-dotted-abbrev .ensures) ∙ c .before .before .before .before .before .before .before .before .if2 .taken)) (c .before .before .before .before .before .say-initials .ensures))
 
 returns-3 : tie.Need-returns-3
-unfolding fromEmpty
-returns-3 c = says-row _ CommaInt (cardinal (c .before .before .before .before .before .before .before .before .before .before .before .before .before .before .before .before .args .name .now)) (rw (ne-eqb _ _ (c .before .before .before .before .before .before .before .before .before .before .before .before .if1 .left), sym (c .before .before .before .before .before .before .before .before .before .before .before .is-dotted-abbrev .ensures) ∙ c .before .before .before .before .before .before .before .before .before .before .if2 .left, sym (c .before .before .before .before .before .before .before .before .before .is-comma-int .ensures) ∙ c .before .before .before .before .before .before .before .before .if3 .taken)) _ (c .answer3 .ensures .0) (rw (c .answer3 .ensures .1) (c .before .before .before .before .before .say-cardinal .ensures))
+unfolding readStep
+returns-3 c = says-row _ CommaInt (cardinal (c .before .before .before .before .before .before .before .before .before .before .before .before .before .before .before .before .args .name .now)) (read-eq _ ∙ rw (ne-eqb _ _ (c .before .before .before .before .before .before .before .before .before .before .before .before .if1 .left), sym (c .before .before .before .before .before .before .before .before .before .before .before .is-dotted-abbrev .ensures) ∙ c .before .before .before .before .before .before .before .before .before .before .if2 .left, sym (c .before .before .before .before .before .before .before .before .before .is-comma-int .ensures) ∙ c .before .before .before .before .before .before .before .before .if3 .taken)) _ (c .answer3 .ensures .0) (rw (c .answer3 .ensures .1) (c .before .before .before .before .before .say-cardinal .ensures))
 
 returns-4 : tie.Need-returns-4
-unfolding fromEmpty
-returns-4 c = says-row _ Time (clock (hourOf (c .before .before .before .before .before .before .before .before .before .before .before .before .before .before .before .before .before .before .before .before .before .args .name .now)) (minuteOf (c .before .before .before .before .before .before .before .before .before .before .before .before .before .before .before .before .before .before .before .before .before .args .name .now))) (rw (ne-eqb _ _ (c .before .before .before .before .before .before .before .before .before .before .before .before .before .before .before .before .before .if1 .left), sym (c .before .before .before .before .before .before .before .before .before .before .before .before .before .before .before .before .is-dotted-abbrev .ensures) ∙ c .before .before .before .before .before .before .before .before .before .before .before .before .before .before .before .if2 .left, sym (c .before .before .before .before .before .before .before .before .before .before .before .before .before .before .is-comma-int .ensures) ∙ c .before .before .before .before .before .before .before .before .before .before .before .before .before .if3 .left, sym (c .before .before .before .before .before .before .before .before .before .before .before .before .is-time .ensures) ∙ c .before .before .before .before .before .before .before .before .before .before .before .if4 .taken)) _ (c .answer4 .ensures .0) (rw (c .answer4 .ensures .1, drop-drop) (rw (c .before .before .before .before .before .before .before .before .before .front .ensures, c .before .before .before .before .before .before .before .before .tail .ensures, c .before .before .before .before .before .before .before .before .before .before .span-of .ensures) at (c .before .before .before .before .before .say-clock .ensures)))
+unfolding readStep
+returns-4 c = says-row _ Time (clock (hourOf (c .before .before .before .before .before .before .before .before .before .before .before .before .before .before .before .before .before .before .before .before .before .args .name .now)) (minuteOf (c .before .before .before .before .before .before .before .before .before .before .before .before .before .before .before .before .before .before .before .before .before .args .name .now))) (read-eq _ ∙ rw (ne-eqb _ _ (c .before .before .before .before .before .before .before .before .before .before .before .before .before .before .before .before .before .if1 .left), sym (c .before .before .before .before .before .before .before .before .before .before .before .before .before .before .before .before .is-dotted-abbrev .ensures) ∙ c .before .before .before .before .before .before .before .before .before .before .before .before .before .before .before .if2 .left, sym (c .before .before .before .before .before .before .before .before .before .before .before .before .before .before .is-comma-int .ensures) ∙ c .before .before .before .before .before .before .before .before .before .before .before .before .before .if3 .left, sym (c .before .before .before .before .before .before .before .before .before .before .before .before .is-time .ensures) ∙ c .before .before .before .before .before .before .before .before .before .before .before .if4 .taken)) _ (c .answer4 .ensures .0) (rw (c .answer4 .ensures .1, drop-drop) (rw (c .before .before .before .before .before .before .before .before .before .front .ensures, c .before .before .before .before .before .before .before .before .tail .ensures, c .before .before .before .before .before .before .before .before .before .before .span-of .ensures) at (c .before .before .before .before .before .say-clock .ensures)))
 
 returns-5 : tie.Need-returns-5
-unfolding fromEmpty
-returns-5 c = says-same _ _ (rw (ne-eqb _ _ (c .before .before .before .before .before .before .before .before .before .before .before .before .before .if1 .left), sym (c .before .before .before .before .before .before .before .before .before .before .before .before .is-dotted-abbrev .ensures) ∙ c .before .before .before .before .before .before .before .before .before .before .before .if2 .left, sym (c .before .before .before .before .before .before .before .before .before .before .is-comma-int .ensures) ∙ c .before .before .before .before .before .before .before .before .before .if3 .left, sym (c .before .before .before .before .before .before .before .before .is-time .ensures) ∙ c .before .before .before .before .before .before .before .if4 .left)) _ (c .before .before .before .before .from-meridiem .ensures)
+unfolding readStep rowsAfter
+returns-5 c = says-same _ _ (read-eq _ ∙ rw (ne-eqb _ _ (c .before .before .before .before .before .before .before .before .before .before .before .before .before .if1 .left), sym (c .before .before .before .before .before .before .before .before .before .before .before .before .is-dotted-abbrev .ensures) ∙ c .before .before .before .before .before .before .before .before .before .before .before .if2 .left, sym (c .before .before .before .before .before .before .before .before .before .before .is-comma-int .ensures) ∙ c .before .before .before .before .before .before .before .before .before .if3 .left, sym (c .before .before .before .before .before .before .before .before .is-time .ensures) ∙ c .before .before .before .before .before .before .before .if4 .left)) _ (c .before .before .before .before .from-meridiem .ensures)
 
 pub read-leaf-spec : {M : Type 1} → statement M
 read-leaf-spec =

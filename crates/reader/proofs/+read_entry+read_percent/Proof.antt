@@ -5,7 +5,7 @@ use lib.ListN.{length, length-take}
 use borrow.Author.Needs.{needs}
 use Rattle.rows.proofs.Laws.{ends-some}
 use Rattle.leaf.proofs.Laws.{says-same}
-use Rattle.reader.proofs.Laws.{sign-missing, sign-taken}
+use Rattle.reader.proofs.Laws.{sign-taken}
 use Prim.Native.Nat.{ℕ, _+_, _*_, _<_}
 use borrow.Fn.Kinds.{In}
 use borrow.Fn.PlainCycle.{Measures, is, falls, and}
@@ -63,10 +63,10 @@ pub +read-entry+read-percent-spec : {M : Type 1} → statement M
     (λ c. search needs)
     (λ c. search needs)
     (λ c. says-same _ _ (sign-taken (c .before .before .before .before .before .before .before .before .before .before .before .before .before .args .name .now) (c .before .before .before .before .before .before .before .before .before .before .before .before .before .args .signs) (sym (c .before .before .before .before .before .before .before .before .before .is-percent .ensures) ∙ c .before .before .before .before .before .before .before .before .if1 .taken)) _ (c .before .before .before .before .read-percent .ensures))
-    (λ c κs. search needs)
+    (λ c κs. sym (c .before .before .before .before .is-percent .ensures) ∙ c .before .before .before .if1 .left)
     (λ c. search needs)
     (λ c. search needs)
-    (λ c. says-same _ _ (sign-missing (c .before .before .before .before .before .before .before .before .before .before .before .before .before .args .name .now) (c .before .before .before .before .before .before .before .before .before .before .before .before .before .args .signs) (sym (c .before .before .before .before .before .before .before .before .before .is-percent .ensures) ∙ c .before .before .before .before .before .before .before .before .if1 .left)) _ (c .before .before .before .before .read-before .ensures)))
+    (λ c. c .before .before .before .before .read-before .ensures))
     λ t. read-percent-lts.spec
     (without-back-reads.Asked, without-back-reads.Learnt, read-entry-below t, read-entry.Post)
     (read-percent-at t)
