@@ -1,15 +1,15 @@
--- A refused call gives its number and nothing else, an accepted one what it gives. Assumes nothing.
-use mathlib.Core.Path.{_≡_, refl, sym, _∙_}
-use mathlib.Core.Bool.{Bool, true, false, cond, not}
-use mathlib.Core.List.{List}
+-- A refused call gives its number and nothing else, an accepted one what it gives; and the laws of its tests. Assumes nothing.
+use mathlib.Core.Path.{_≡_, refl, sym, ap, _∙_}
+use mathlib.Core.Bool.{true, false, or-false}
+use mathlib.Core.List.{List, [], _∷_, _++_}
 use Prim.Native.Nat.{ℕ, zero, suc, _≤_}
 use native.Mathlib.Omega.{arith}
-use lib.Dec.{ltb}
 use lib.ListN.{length}
-use borrow.Author.Tests.{ltb-false, le-ltb}
+use borrow.Author.Tests.{ltb-false, le-ltb, not-false}
 use Rattle.admit.specs.Utf8.{utf8}
-use Rattle.admit.specs.Refusals.{number, numberDue, textDue, textRefusal, call}
-use Rattle.admit.specs.declared.Refusal.the-variants.{BufferTooShort}
+use Rattle.admit.specs.Refusals.{number, Test, _when_, firstDue, textTests, textRefusal, call}
+use Rattle.admit.specs.declared.Refusal.{Refusal}
+use Rattle.admit.specs.declared.Refusal.the-variants.{TextTooLong, NotUtf8, NoSuchEntry, NameTooLong, BufferTooShort}
 
 refused : {A : Type 0} (nothing given : A) (n : ℕ) → (n ≡ 0 → ⊥) → record { refusal = n; value = nothing } ≡ call nothing n given
 refused nothing given zero h = absurd (h refl)
@@ -22,47 +22,69 @@ call-refused nothing given m n h e = rw (← e) (refused nothing given m h)
 pub call-accepted : {A : Type 0} (nothing given value : A) (n : ℕ) → 0 ≡ n → value ≡ given → record { refusal = 0; value = value } ≡ call nothing n given
 call-accepted nothing given value n e v = rw (← e, v)
 
--- the tests of a text and its buffers, as numbers
-abbrev pub tests : Bool → Bool → Bool → ℕ
-tests long good short = cond long 1 (cond (not good) 2 (cond short 5 0))
+-- ---- some tests after others
 
--- a text that is refused is refused whatever the buffer's length
-pub due-refused : (limit : ℕ) (s : List ℕ) (short : Bool) (n : ℕ) → (n ≡ 0 → ⊥) → n ≡ textRefusal limit s → n ≡ numberDue (textDue limit s short)
-due-refused limit s short n z h = go (ltb limit (length s)) (utf8 s) h
+-- of two numbers the first, or the second where that is 0
+abbrev pub orElse : ℕ → ℕ → ℕ
+orElse zero m = m
+orElse (suc n) m = suc n
+
+-- no refusal has the number 0
+numbered : (r : Refusal) (m : ℕ) → number r ≡ orElse (number r) m
+numbered TextTooLong m = refl
+numbered NotUtf8 m = refl
+numbered NoSuchEntry m = refl
+numbered NameTooLong m = refl
+numbered BufferTooShort m = refl
+
+pub first-append : (a b : List Test) → firstDue (a ++ b) ≡ orElse (firstDue a) (firstDue b)
+first-append [] b = refl
+first-append (r when true ∷ a) b = numbered r (firstDue b)
+first-append (r when false ∷ a) b = first-append a b
+
+-- n is the number that the code has for the tests a, and b follow
+module _ (a b : List Test) {n : ℕ} (due : n ≡ firstDue a) where
+  pub held : {A : Type 0} (nothing given : A) → (n ≡ 0 → ⊥) → record { refusal = n; value = nothing } ≡ call nothing (firstDue (a ++ b)) given
+  held nothing given z = rw (first-append a b, ← due) (go n z)
+    where
+      go : (n : ℕ) → (n ≡ 0 → ⊥) → record { refusal = n; value = nothing } ≡ call nothing (orElse n (firstDue b)) given
+      go zero z = absurd (z refl)
+      go (suc n) z = refl
+
+  pub passed : n ≡ 0 → firstDue (a ++ b) ≡ firstDue b
+  passed z = first-append a b ∙ ap (λ (k : ℕ). orElse k (firstDue b)) (sym due ∙ z)
+
+-- where none of them all holds, neither does any of a nor any of b
+pub both-passed : (a b : List Test) → firstDue (a ++ b) ≡ 0 → (firstDue a ≡ 0) × (firstDue b ≡ 0)
+both-passed a b h = go (firstDue a) (sym (first-append a b) ∙ h)
   where
-    go : (long good : Bool) → n ≡ tests long good false → n ≡ tests long good short
-    go true good h = h
-    go false false h = h
-    go false true h = absurd (z h)
+    go : (n : ℕ) → orElse n (firstDue b) ≡ 0 → (n ≡ 0) × (firstDue b ≡ 0)
+    go zero h = (refl, h)
+    go (suc n) h = absurd (omega arith)
 
--- in an accepted text the buffer's length decides
-pub due-accepted : (limit : ℕ) (s : List ℕ) (short : Bool) → textRefusal limit s ≡ 0 → numberDue (textDue limit s short) ≡ cond short (number BufferTooShort) 0
-due-accepted limit s short h = go (ltb limit (length s)) (utf8 s) h
-  where
-    go : (long good : Bool) → tests long good false ≡ 0 → tests long good short ≡ cond short (number BufferTooShort) 0
-    go true good h = absurd (omega arith)
-    go false false h = absurd (omega arith)
-    go false true h = refl
+-- none of these holds
+abbrev pub NoneOf : List Test → Type 0
+NoneOf [] = Unit
+NoneOf (r when holds ∷ tests) = (holds ≡ false) × NoneOf tests
 
--- a call with one text, whose refusal n is tested first, and with buffers of which one is too short or none is
-module _ {A : Type 0} (nothing given : A) (limit : ℕ) (s : List ℕ) (short : Bool) (n : ℕ) (due : n ≡ textRefusal limit s) where
-  pub refused-text : (n ≡ 0 → ⊥) → record { refusal = n; value = nothing } ≡ call nothing (numberDue (textDue limit s short)) given
-  refused-text z = call-refused nothing given n (numberDue (textDue limit s short)) z (due-refused limit s short n z due)
+pub none-due : (tests : List Test) → firstDue tests ≡ 0 → NoneOf tests
+none-due [] h = tt
+none-due (r when true ∷ tests) h = absurd (omega (arith, h, numbered r 1 ∙ ap (λ (n : ℕ). orElse n 1) h))
+none-due (r when false ∷ tests) h = (refl, none-due tests h)
 
-  pub refused-short : n ≡ 0 → short ≡ true → record { refusal = number BufferTooShort; value = nothing } ≡ call nothing (numberDue (textDue limit s short)) given
-  refused-short z t = rw (due-accepted limit s short (sym due ∙ z), t)
+-- ---- one text
 
-  pub accepted-text : n ≡ 0 → short ≡ false → {value : A} → value ≡ given → record { refusal = 0; value = value } ≡ call nothing (numberDue (textDue limit s short)) given
-  accepted-text z f {value} e = rw (due-accepted limit s short (sym due ∙ z), f, e)
+-- what an accepted text is, and no other
+pub record Fit (limit : ℕ) (s : List ℕ) : Type 0 where
+  pub short : length s ≤ limit
+  pub good : utf8 s ≡ true
 
--- an accepted text is short enough and UTF-8, and no other is
-pub text-tests : (limit : ℕ) (s : List ℕ) → textRefusal limit s ≡ 0 → (length s ≤ limit) × (utf8 s ≡ true)
-text-tests limit s h = go (ltb limit (length s)) (utf8 s) refl h
-  where
-    go : (long good : Bool) → ltb limit (length s) ≡ long → tests long good false ≡ 0 → (length s ≤ limit) × (good ≡ true)
-    go true good e h = absurd (omega arith)
-    go false false e h = absurd (omega arith)
-    go false true e h = (ltb-false limit (length s) e, refl)
+pub text-fit : (limit : ℕ) (s : List ℕ) → textRefusal limit s ≡ 0 → Fit limit s
+unfolding textTests
+text-fit limit s h =
+    let k = none-due (textTests limit (s ∷ [])) h in
+    record { short = ltb-false _ _ (sym (or-false _) ∙ k .0); good = not-false _ (sym (or-false _) ∙ k .1 .0) }
 
-pub text-accepted : (limit : ℕ) (s : List ℕ) → length s ≤ limit → utf8 s ≡ true → textRefusal limit s ≡ 0
-text-accepted limit s h e = rw (le-ltb limit (length s) h, e)
+pub text-accepted : (limit : ℕ) (s : List ℕ) → Fit limit s → textRefusal limit s ≡ 0
+unfolding textTests
+text-accepted limit s h = rw (le-ltb limit (length s) (h .short), h .good)

@@ -1,5 +1,5 @@
--- Document 01, "Calls held back": the refusals, their numbers, their order, and what a refused call answers. Definitions only.
-use mathlib.Core.Bool.{Bool, false, cond, not}
+-- Document 01, "Calls held back": the refusals, their numbers, the tests of a call, and what a refused call answers. Definitions only.
+use mathlib.Core.Bool.{Bool, false, cond, not, _||_}
 use mathlib.Core.List.{List, [], _∷_}
 use Prim.Native.Nat.{ℕ, zero, suc}
 use lib.Dec.{ltb}
@@ -23,35 +23,49 @@ abbrev pub answerNumber : Answer → ℕ
 answerNumber Accepted = 0
 answerNumber (Refused r) = number r
 
--- "Tests run in the order 1 to 5."
-abbrev pub order : List Refusal
-order = TextTooLong ∷ NotUtf8 ∷ NoSuchEntry ∷ NameTooLong ∷ BufferTooShort ∷ []
+-- a test of a call: a refusal, and whether its condition holds, as in the table's column "When"
+infix 70 _when_
+pub data Test : Type 0 where
+  _when_ : Refusal → Bool → Test
 
--- "Each refusal is given under its condition and never otherwise": the number of the first one that is due, 0 where none is
-abbrev pub firstDue : (Refusal → Bool) → List Refusal → ℕ
-firstDue due [] = 0
-firstDue due (r ∷ rs) = cond (due r) (number r) (firstDue due rs)
+-- "Tests run in the order 1 to 5. Each refusal is given under its condition and never otherwise": of the tests that a call makes, in the order it makes them, the
+-- number of the first one that holds, 0 where none does
+abbrev pub firstDue : List Test → ℕ
+firstDue [] = 0
+firstDue (refusal when holds ∷ tests) = cond holds (number refusal) (firstDue tests)
 
-abbrev pub numberDue : (Refusal → Bool) → ℕ
-numberDue due = firstDue due order
+-- ---- the tests that every call makes first
 
--- "a text has more than 65,536 bytes"
+-- whether a text of these is p
+abbrev pub some : (List ℕ → Bool) → List (List ℕ) → Bool
+some p [] = false
+some p (s ∷ ss) = p s || some p ss
+
+-- "a text has more than 65,536 bytes", or than the limit of its call
 abbrev pub textLimit : ℕ
 textLimit = 65536
 
--- what is due where a call is given one text, and `short` says whether a lent buffer is smaller than the whole result
-abbrev pub textDue : ℕ → List ℕ → Bool → Refusal → Bool
-textDue limit s short TextTooLong = ltb limit (length s)
-textDue limit s short NotUtf8 = not (utf8 s)
-textDue limit s short NoSuchEntry = false
-textDue limit s short NameTooLong = false
-textDue limit s short BufferTooShort = short
+abbrev pub isTooLong : ℕ → List ℕ → Bool
+isTooLong limit s = ltb limit (length s)
 
--- the number that is due where a call is given one text and no buffer
+-- "a text isn't UTF-8"
+abbrev pub isBroken : List ℕ → Bool
+isBroken s = not (utf8 s)
+
+-- the tests of the texts that a call is given, one or several
+unfoldable pub textTests : ℕ → List (List ℕ) → List Test
+textTests limit texts =
+    TextTooLong when some (isTooLong limit) texts
+    ∷ NotUtf8 when some isBroken texts
+    ∷ []
+
+-- the number that is due where a call is given one text, and is tested for nothing else
 abbrev pub textRefusal : ℕ → List ℕ → ℕ
-textRefusal limit s = numberDue (textDue limit s false)
+textRefusal limit s = firstDue (textTests limit (s ∷ []))
 
--- what a call answers: its number, and its values, the buffers' final bytes among them
+-- ---- what a call answers
+
+-- its number, and its values, the buffers' final bytes among them
 pub record Call (A : Type 0) : Type 0 where
   pub refusal : ℕ
   pub value : A

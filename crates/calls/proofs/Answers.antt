@@ -1,12 +1,14 @@
 -- What the two calls answer. Assumes nothing.
 use mathlib.Core.Path.{_≡_, refl}
 use mathlib.Core.Bool.{Bool, true, false}
-use mathlib.Core.List.{List}
+use mathlib.Core.List.{List, [], _∷_}
 use Prim.Native.Nat.{ℕ, _≤_, _<_}
 use lib.Dec.{leb, ltb}
 use lib.ListN.{length}
 use borrow.Author.Tests.{ltb-true, ltb-false, le-ltb, lt-ltb, le-leb, lt-leb}
-use Rattle.admit.specs.Refusals.{textLimit, textRefusal}
+use Rattle.admit.specs.Refusals.{Test, _when_, textLimit, textTests, textRefusal}
+use Rattle.admit.specs.declared.Refusal.the-variants.{NoSuchEntry, NameTooLong, BufferTooShort}
+use Rattle.admit.proofs.Calls.{held, passed}
 use Rattle.sink.specs.Sink.{top, sink}
 use Rattle.sink.specs.Words.{spacedPen}
 use Rattle.sink.specs.declared.Pen.{Pen}
@@ -15,7 +17,6 @@ use Rattle.rows.specs.Rows.{rowNumber, rowSign, read}
 use Rattle.rows.specs.declared.Row.{Row}
 use Rattle.sheets.specs.Sheet.{SheetEntry, entries, lineOf, callSheet}
 use Rattle.sheets.specs.Calls.{nameLimit, isLong, anyLong, sheetCall, entryAt, lineAt, entryCall}
-use Rattle.sheets.proofs.Due.{text-held, text-passed}
 use Rattle.sheets.proofs.Entries.{line-at}
 use Rattle.calls.specs.Answers.{asSheet, asEntry}
 use Rattle.calls.specs.Walk.{refusedSheet, refusedEntry, lineTo, linesTo, nameCall}
@@ -46,20 +47,26 @@ module _ (e : SheetEntry) (old : List ℕ) where
 -- ---- the sheet s, whose refusal n is tested first
 
 module _ (s old : List ℕ) {n : ℕ} (due : n ≡ textRefusal textLimit s) where
+  abbrev text : List Test
+  text = textTests textLimit (s ∷ [])
+
   abbrev isShort : Bool
   isShort = ltb (length old) (length (callSheet s))
 
+  abbrev later : List Test
+  later = NameTooLong when anyLong (entries s) ∷ BufferTooShort when isShort ∷ []
+
   pub sheet-refused : (n ≡ 0 → ⊥) → {r : CalledSheet} → r ≡ refusedSheet n → asSheet r old ≡ sheetCall s old
   unfolding sheetCall
-  sheet-refused z q = rw q (text-held s false (anyLong (entries s)) isShort n due _ _ z)
+  sheet-refused z q = rw q (held text later due _ _ z)
 
   pub sheet-long : n ≡ 0 → anyLong (entries s) ≡ true → {r : CalledSheet} → r ≡ refusedSheet 4 → asSheet r old ≡ sheetCall s old
   unfolding sheetCall
-  sheet-long z l q = rw (q, text-passed s false (anyLong (entries s)) isShort n due z, l)
+  sheet-long z l q = rw (q, passed text later due z, l)
 
   pub sheet-short : n ≡ 0 → anyLong (entries s) ≡ false → isShort ≡ true → {r : CalledSheet} → r ≡ refusedSheet 5 → asSheet r old ≡ sheetCall s old
   unfolding sheetCall
-  sheet-short z l t q = rw (q, text-passed s false (anyLong (entries s)) isShort n due z, l, t)
+  sheet-short z l t q = rw (q, passed text later due z, l, t)
 
   pub sheet-given : n ≡ 0 → anyLong (entries s) ≡ false → isShort ≡ false → length old < top → (t t₀ : List ℕ) {new : List ℕ} {p : Pen} {k : ℕ}
       → k ≡ length (tokens s) → sink new t p ≡ linesTo (entries s) (sink old t₀ spacedPen)
@@ -67,26 +74,23 @@ module _ (s old : List ℕ) {n : ℕ} (due : n ≡ textRefusal textLimit s) wher
   unfolding sheetCall
   sheet-given z l f small t t₀ {new} {p} c q =
       let g = written-lines (wrote-lines (entries s)) (lines-words (entries s)) new t old t₀ refl q f small in
-      rw (text-passed s false (anyLong (entries s)) isShort n due z, l, f) (λ j. record { refusal = 0; value = record { tokens = c j; words = g .1 j; bytes = g .0 j; buffer = g .2 j } })
+      rw (passed text later due z, l, f) (λ j. record { refusal = 0; value = record { tokens = c j; words = g .1 j; bytes = g .0 j; buffer = g .2 j } })
 
   -- entry k of it
   module _ (k : ℕ) where
-    abbrev none : Bool
-    none = leb (length (tokens s)) k
-
-    abbrev isLineShort : Bool
-    isLineShort = ltb (length old) (length (lineAt s k))
+    abbrev here : List Test
+    here = NoSuchEntry when leb (length (tokens s)) k ∷ NameTooLong when isLong (entryAt s k) ∷ BufferTooShort when ltb (length old) (length (lineAt s k)) ∷ []
 
     pub entry-refused : (n ≡ 0 → ⊥) → {r : CalledEntry} → r ≡ refusedEntry n → asEntry r old ≡ entryCall s k old
     unfolding entryCall
-    entry-refused z q = rw q (text-held s none (isLong (entryAt s k)) isLineShort n due _ _ z)
+    entry-refused z q = rw q (held text here due _ _ z)
 
     pub entry-none : n ≡ 0 → ltb k (length (tokens s)) ≡ false → {r : CalledEntry} → r ≡ refusedEntry 3 → asEntry r old ≡ entryCall s k old
     unfolding entryCall
-    entry-none z f q = rw (q, text-passed s none (isLong (entryAt s k)) isLineShort n due z, le-leb (length (tokens s)) k (ltb-false _ _ f))
+    entry-none z f q = rw (q, passed text here due z, le-leb (length (tokens s)) k (ltb-false _ _ f))
 
     pub entry-there : n ≡ 0 → ltb k (length (tokens s)) ≡ true → nameCall (entryAt s k) old ≡ entryCall s k old
     unfolding entryCall nameCall
     entry-there z t =
         let h : k < length (tokens s) = ltb-true _ _ t in
-        rw (text-passed s none (isLong (entryAt s k)) isLineShort n due z, lt-leb (length (tokens s)) k h, line-at s k h)
+        rw (passed text here due z, lt-leb (length (tokens s)) k h, line-at s k h)

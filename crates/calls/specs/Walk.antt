@@ -1,13 +1,13 @@
 -- What the callers of entries pass on to each other. Definitions only; no public promise is made of them.
 use mathlib.Core.Path.{_≡_}
-use mathlib.Core.Bool.{Bool, true, cond}
+use mathlib.Core.Bool.{Bool, true}
 use mathlib.Core.List.{List, [], _∷_}
 use Prim.Native.Nat.{ℕ, _-_}
 use Prim.Native.Char.{code}
 use lib.Dec.{ltb}
 use lib.ListN.{length, take, drop}
 use Rattle.lists.specs.Bytes.{over}
-use Rattle.admit.specs.Refusals.{number, Call, call}
+use Rattle.admit.specs.Refusals.{_when_, firstDue, Call, call}
 use Rattle.admit.specs.declared.Refusal.the-variants.{NameTooLong, BufferTooShort}
 use Rattle.sink.specs.Sink.{Sink, putByte, emitAll}
 use Rattle.tokens.specs.Tokens.{tokens}
@@ -52,7 +52,7 @@ pub record FoundAt (s : List ℕ) (k : ℕ) (r : Found) : Type 0 where
 unfoldable pub nameCall : SheetEntry → List ℕ → Call EntryGiven
 nameCall e old =
     call (record { row = 0; sign = 0; words = 0; bytes = 0; buffer = old })
-    (cond (isLong e) (number NameTooLong) (cond (ltb (length old) (length (lineOf e))) (number BufferTooShort) 0))
+    (firstDue (NameTooLong when isLong e ∷ BufferTooShort when ltb (length old) (length (lineOf e)) ∷ []))
     (record {
       row = rowNumber (read (e .name) .row);
       sign = rowSign (read (e .name) .row);

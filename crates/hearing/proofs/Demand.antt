@@ -16,8 +16,8 @@ use Rattle.sentences.specs.Calls.{flags}
 use Rattle.sentences.proofs.Marking.{starts-length}
 use Rattle.numerals.proofs.Every.{Every}
 use Rattle.sheets.specs.Sheet.{SheetEntry, entriesOf, entries, lineOf, callSheet, countWords}
-use Rattle.admit.specs.Refusals.{numberDue, call}
-use Rattle.sheets.specs.Calls.{sheetDue, SheetGiven, sheetCall, Accepted}
+use Rattle.admit.specs.Refusals.{firstDue, call}
+use Rattle.sheets.specs.Calls.{sheetTests, SheetGiven, sheetCall, Accepted}
 use Rattle.hearing.specs.Sheets.{names, AllClear, SameEntries, written, hearSheet}
 use Rattle.hearing.proofs.Told.{Heeded}
 use Rattle.hearing.proofs.Lines.{sheet-heard}
@@ -98,7 +98,7 @@ told-apart s t a b p q = (
 -- "A sheet is accepted when calling it whole, with room for the result, isn't held back."
 pub accepted-call : (s old : List ℕ) → length (callSheet s) ≤ length old → (sheetCall s old .refusal ≡ 0) ↔ Accepted s
 unfolding sheetCall
-accepted-call s old h = rw (le-ltb (length old) (length (callSheet s)) h) (number-of (numberDue (sheetDue s false)) _ _)
+accepted-call s old h = rw (le-ltb (length old) (length (callSheet s)) h) (number-of (firstDue (sheetTests s false)) _ _)
   where
     number-of : (n : ℕ) (x y : SheetGiven) → (call x n y .refusal ≡ 0) ↔ (n ≡ 0)
     number-of zero x y = (λ e. e, λ e. e)

@@ -1,19 +1,19 @@
 -- The unit calls, case by case. Assumes nothing.
-use mathlib.Core.Path.{_≡_, refl, sym, _∙_}
+use mathlib.Core.Path.{_≡_, refl}
 use mathlib.Core.Bool.{Bool, true, false, cond}
-use mathlib.Core.List.{List, []}
+use mathlib.Core.List.{List, [], _∷_}
 use Prim.Native.Nat.{ℕ, _-_, _≤_, _<_}
 use native.Mathlib.Omega.{arith}
 use lib.Dec.{ltb}
 use lib.ListN.{length, drop, length-drop}
 use borrow.Author.Tests.{le-ltb}
-use Rattle.admit.specs.Refusals.{textLimit, textRefusal}
-use Rattle.admit.proofs.Calls.{refused-text, due-accepted}
+use Rattle.admit.specs.Refusals.{textLimit, textTests, textRefusal}
+use Rattle.admit.proofs.Calls.{held, passed}
 use Rattle.units.specs.Units.{unitIndex, unitWord}
 use Rattle.units.proofs.Laws.{miss-none, miss-word, hit-some}
 use Rattle.shapes.specs.Shapes.{unitAt, hasUnit, unitPart}
 use Rattle.shapes.proofs.Laws.{unit-some}
-use Rattle.patterns.specs.Calls.{noPart, unitFound, storeCall, wordCall}
+use Rattle.patterns.specs.Calls.{noPart, unitFound, storeTests, storeCall, wordCall}
 
 -- no unit
 pub unit-none : (s : List ℕ) → length (unitPart s) ≡ 0 → unitFound s ≡ noPart
@@ -47,18 +47,15 @@ unit-le s = go (hasUnit s)
     go false = omega arith
 
 module _ (s store : List ℕ) (n : ℕ) (due : n ≡ textRefusal textLimit s) where
-  abbrev short : Bool
-  short = ltb (length store) (length (unitWord s))
-
   pub word-refused : (n ≡ 0 → ⊥) → record { refusal = n; value = record { found = false; size = 0; store = store } } ≡ wordCall s store
-  word-refused z = refused-text _ _ textLimit s short n due z
+  word-refused z = held (textTests textLimit (s ∷ [])) (storeTests (unitWord s) store) due _ _ z
 
   -- an accepted text that is a unit
   pub word-found : n ≡ 0 → unitIndex s < 22 → storeCall (unitWord s) store ≡ wordCall s store
-  word-found z h = rw (hit-some s h, due-accepted textLimit s short (sym due ∙ z))
+  word-found z h = rw (hit-some s h, passed (textTests textLimit (s ∷ [])) (storeTests (unitWord s) store) due z)
 
   -- an accepted text that is none
   pub word-none : n ≡ 0 → 22 ≤ unitIndex s → record { refusal = 0; value = record { found = false; size = 0; store = store } } ≡ wordCall s store
   word-none z h =
       let l : ltb (length store) 0 ≡ false = le-ltb (length store) 0 (omega arith) in
-      rw (miss-none s h, miss-word s h, due-accepted textLimit s (ltb (length store) 0) (sym due ∙ z), l)
+      rw (miss-none s h, miss-word s h, passed (textTests textLimit (s ∷ [])) (storeTests [] store) due z, l)

@@ -1,10 +1,10 @@
 -- What the public calls of patterns.rs' functions answer. Definitions only.
 use mathlib.Core.Bool.{Bool, true, false, cond}
-use mathlib.Core.List.{List}
+use mathlib.Core.List.{List, [], _∷_, _++_}
 use Prim.Native.Nat.{ℕ}
 use lib.Dec.{ltb}
 use lib.ListN.{length}
-use Rattle.admit.specs.Refusals.{number, numberDue, textLimit, textDue, textRefusal, Call, call}
+use Rattle.admit.specs.Refusals.{Test, _when_, firstDue, textLimit, textTests, textRefusal, Call, call}
 use Rattle.admit.specs.declared.Refusal.the-variants.{BufferTooShort}
 use Rattle.lists.specs.Bytes.{over}
 use Rattle.units.specs.Units.{isUnit, unitWord}
@@ -68,16 +68,20 @@ pub record Stored : Type 0 where
 abbrev pub asWord : UnitWord → List ℕ → Call Stored
 asWord r store = record { refusal = r .refusal; value = record { found = r .yes; size = r .len; store = store } }
 
+-- "a lent output buffer is smaller than the whole result": the word goes to the store
+abbrev pub storeTests : List ℕ → List ℕ → List Test
+storeTests word store = BufferTooShort when ltb (length store) (length word) ∷ []
+
 -- the word of an accepted text goes to the store, or the store is too short for it
 abbrev pub storeCall : List ℕ → List ℕ → Call Stored
 storeCall word store =
     call (record { found = false; size = 0; store = store })
-    (cond (ltb (length store) (length word)) (number BufferTooShort) 0)
+    (firstDue (storeTests word store))
     (record { found = true; size = length word; store = over word store })
 
--- unit_word: "a lent output buffer is smaller than the whole result" where the word does not fit
+-- unit_word: the tests of its text, and then of the store
 abbrev pub wordCall : List ℕ → List ℕ → Call Stored
 wordCall s store =
     call (record { found = false; size = 0; store = store })
-    (numberDue (textDue textLimit s (ltb (length store) (length (unitWord s)))))
+    (firstDue (textTests textLimit (s ∷ []) ++ storeTests (unitWord s) store))
     (record { found = isUnit s; size = length (unitWord s); store = over (unitWord s) store })

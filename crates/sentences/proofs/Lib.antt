@@ -1,3 +1,4 @@
 pub mod Kept
+pub mod Due
 pub mod Steps
 pub mod Marking

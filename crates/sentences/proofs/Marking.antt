@@ -1,18 +1,16 @@
--- How the loop writes the starts, and which refusal of a step's texts is due. Assumes nothing.
+-- How the loop writes the starts, and what a step answers. Assumes nothing.
 use mathlib.Core.Path.{_≡_, refl, sym, ap, _∙_}
-use mathlib.Core.Bool.{Bool, true, false, _&&_, _||_}
+use mathlib.Core.Bool.{Bool, false, _||_}
 use mathlib.Core.List.{List, [], _∷_}
 use Prim.Native.Nat.{ℕ, suc, _+_}
 use native.Mathlib.Numerals.{add-one}
-use lib.Dec.{ltb}
 use lib.ListN.{length, set}
 use lib.Seq.{sets}
-use Rattle.admit.specs.Utf8.{utf8}
-use Rattle.admit.specs.Refusals.{numberDue, textLimit, textRefusal}
-use Rattle.admit.proofs.Calls.{call-refused, call-accepted, tests}
+use Rattle.admit.specs.Refusals.{firstDue}
+use Rattle.admit.proofs.Calls.{call-refused, call-accepted}
 use Rattle.tokens.specs.Tokens.{Token, tokens}
 use Rattle.sentences.specs.Sentences.{starts, startsAfter, breakAfter, told, kept, flag, isSet, fresh, breaks}
-use Rattle.sentences.specs.Calls.{flags, startBytes, stepDue, stepCall, asStep, smallerDue}
+use Rattle.sentences.specs.Calls.{flags, startBytes, stepTests, stepCall, asStep}
 use Rattle.sentences.specs.declared.State.{State}
 use Rattle.sentences.proofs.Kept.{marksFrom, marks-starts}
 
@@ -49,38 +47,14 @@ starts-length s = go (tokens s)
     go [] = refl
     go (t ∷ ts) = ap suc (starts-after-length t ts)
 
--- ---- the texts of a step
-
--- of two texts the smaller number is due
-two : (l g l′ g′ : Bool) → smallerDue (tests l g false) (tests l′ g′ false) ≡ tests (l || l′) (g && g′) false
-two true true true true = refl
-two true true true false = refl
-two true true false true = refl
-two true true false false = refl
-two true false true true = refl
-two true false true false = refl
-two true false false true = refl
-two true false false false = refl
-two false true true true = refl
-two false true true false = refl
-two false true false true = refl
-two false true false false = refl
-two false false true true = refl
-two false false true false = refl
-two false false false true = refl
-two false false false false = refl
-
-pub three-due : (w n p : List ℕ) → smallerDue (smallerDue (textRefusal textLimit w) (textRefusal textLimit n)) (textRefusal textLimit p) ≡ numberDue (stepDue w n p)
-three-due w n p =
-    ap (λ (k : ℕ). smallerDue k (textRefusal textLimit p)) (two (ltb textLimit (length w)) (utf8 w) (ltb textLimit (length n)) (utf8 n))
-    ∙ two (ltb textLimit (length w) || ltb textLimit (length n)) (utf8 w && utf8 n) (ltb textLimit (length p)) (utf8 p)
+-- ---- a step
 
 -- k is the number that the code has for the three texts
-module _ (st : State) (w n p : List ℕ) (k : ℕ) (due : k ≡ numberDue (stepDue w n p)) where
+module _ (st : State) (w n p : List ℕ) (k : ℕ) (due : k ≡ firstDue (stepTests w n p)) where
   pub step-refused : (k ≡ 0 → ⊥) → asStep (record { refusal = k; breaks = false; state = st }) ≡ stepCall st w n p
   unfolding stepCall
-  step-refused z = call-refused _ _ k (numberDue (stepDue w n p)) z due
+  step-refused z = call-refused _ _ k (firstDue (stepTests w n p)) z due
 
   pub step-done : k ≡ 0 → {b : Bool} {st′ : State} → b ≡ breaks st w n → st′ ≡ kept n p → asStep (record { refusal = 0; breaks = b; state = st′ }) ≡ stepCall st w n p
   unfolding stepCall
-  step-done z {b} {st′} e f = call-accepted _ _ _ (numberDue (stepDue w n p)) (sym z ∙ due) (λ j. record { breaks = e j; state = f j })
+  step-done z {b} {st′} e f = call-accepted _ _ _ (firstDue (stepTests w n p)) (sym z ∙ due) (λ j. record { breaks = e j; state = f j })

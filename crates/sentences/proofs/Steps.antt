@@ -3,22 +3,20 @@ use mathlib.Core.Path.{_≡_, refl, ap, ap₂}
 use mathlib.Core.Bool.{Bool, false}
 use mathlib.Core.List.{List, [], _∷_, map}
 use Prim.Native.Nat.{ℕ, zero, suc}
-use lib.ListN.{length}
-use borrow.Author.Tests.{le-ltb}
-use Rattle.admit.specs.Refusals.{numberDue, textLimit, textRefusal, Call, call}
-use Rattle.admit.proofs.Calls.{text-tests}
+use Rattle.admit.specs.Refusals.{firstDue, textLimit, textRefusal, Call, call}
 use Rattle.tokens.specs.Tokens.{Token, tokens}
 use Rattle.tokens.proofs.Texts.{Accepted, Each, EachOf, tokens-accepted}
 use Rattle.sentences.specs.Sentences.{startsAfter, starts, fresh, kept, breaks}
-use Rattle.sentences.specs.Calls.{stepDue, Stepped, stepCall}
+use Rattle.sentences.specs.Calls.{stepTests, Stepped, stepCall}
 use Rattle.sentences.specs.Steps.{stepOf, fed, verdict, accepted, butFirst}
 use Rattle.sentences.specs.declared.State.{State}
 use Rattle.sentences.proofs.Kept.{breaks-kept}
+use Rattle.sentences.proofs.Due.{three-due}
 
 -- "its first step from a fresh state answers no break"
 pub fresh-step : (w n p : List ℕ) → stepCall fresh w n p .value .breaks ≡ false
 unfolding stepCall
-fresh-step w n p = go (numberDue (stepDue w n p))
+fresh-step w n p = go (firstDue (stepTests w n p))
   where
     go : (k : ℕ) → call {A = Stepped} (record { breaks = false; state = fresh }) k (record { breaks = breaks fresh w n; state = kept n p }) .value .breaks ≡ false
     go zero = refl
@@ -27,7 +25,7 @@ fresh-step w n p = go (numberDue (stepDue w n p))
 -- "a refused step hands back the state it was given"
 pub refused-step : (s : State) (w n p : List ℕ) → (stepCall s w n p .refusal ≡ 0 → ⊥) → stepCall s w n p .value ≡ record { breaks = false; state = s }
 unfolding stepCall
-refused-step s w n p = go (numberDue (stepDue w n p)) (record { breaks = breaks s w n; state = kept n p })
+refused-step s w n p = go (firstDue (stepTests w n p)) (record { breaks = breaks s w n; state = kept n p })
   where
     go : (k : ℕ) (given : Stepped) → (call (record { breaks = false; state = s }) k given .refusal ≡ 0 → ⊥) → call (record { breaks = false; state = s }) k given .value ≡ record { breaks = false; state = s }
     go zero given h = absurd (h refl)
@@ -36,11 +34,7 @@ refused-step s w n p = go (numberDue (stepDue w n p)) (record { breaks = breaks 
 accepted-step : (s : State) (t : Token) → Each (Accepted textLimit) t
     → stepOf s t ≡ record { refusal = 0; value = record { breaks = breaks s (t .whitespace) (t .name); state = kept (t .name) (t .punctuation) } }
 unfolding stepCall
-accepted-step s t h =
-    let w = text-tests textLimit (t .whitespace) (h .whitespace) in
-    let n = text-tests textLimit (t .name) (h .name) in
-    let p = text-tests textLimit (t .punctuation) (h .punctuation) in
-    rw (le-ltb textLimit (length (t .whitespace)) (w .0), le-ltb textLimit (length (t .name)) (n .0), le-ltb textLimit (length (t .punctuation)) (p .0), w .1, n .1, p .1)
+accepted-step s t h = rw (← three-due (t .whitespace) (t .name) (t .punctuation), h .whitespace, h .name, h .punctuation)
 
 fed-after : (t : Token) (us : List Token) → EachOf (Accepted textLimit) us → map verdict (fed (kept (t .name) (t .punctuation)) us) ≡ map accepted (startsAfter t us)
 unfolding fed startsAfter

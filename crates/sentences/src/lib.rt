@@ -20,11 +20,11 @@ ghost use Prim.Native.Nat.{_≤_};
 ghost use lib.ListN.{length};
 ghost use lib.Seq.{sets};
 ghost use Rattle.lists.specs.Bytes.{has, capital, small};
-ghost use Rattle.admit.specs.Refusals.{numberDue};
+ghost use Rattle.admit.specs.Refusals.{firstDue};
 ghost use Rattle.tokens.specs.Tokens.{tokens};
 ghost use Rattle.tokens.specs.Table.{filledCall, asFilled};
 ghost use Rattle.sentences.specs.Sentences.{breakAfter, isSet, flag, fresh, headOf, kept, told, breaks};
-ghost use Rattle.sentences.specs.Calls.{startBytes, stepDue, stepCall, asStep, smallerDue};
+ghost use Rattle.sentences.specs.Calls.{startBytes, stepTests, stepCall, asStep, smallerDue};
 
 // What is kept of the last token: its name's length, first five bytes (0 past its end) and last byte (0 where it is empty), and
 // whether its punctuation has each of . : ? and !. A flag is 0 for no and any other byte for yes.
@@ -202,7 +202,7 @@ fn is_sentence_break(state: State, whitespace: &[u8], name: &[u8]) -> bool
 
 // The number of the refusal that is due for the three texts of a step.
 fn refusal_of_step(whitespace: &[u8], name: &[u8], punctuation: &[u8]) -> u8
-    ensures { λ r. ⌜ r ≡ numberDue (stepDue (now (whitespace .entry)) (now (name .entry)) (now (punctuation .entry))) ⌝ }
+    ensures { λ r. ⌜ r ≡ firstDue (stepTests (now (whitespace .entry)) (now (name .entry)) (now (punctuation .entry))) ⌝ }
 {
     let two = smaller_due(refusal_of(whitespace), refusal_of(name));
     smaller_due(two, refusal_of(punctuation))

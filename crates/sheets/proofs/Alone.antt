@@ -1,21 +1,20 @@
 -- What the call of one entry gives is what stands in the whole sheet's call. Assumes nothing.
 use mathlib.Core.Path.{_≡_, refl, sym, ap, _∙_}
-use mathlib.Core.Bool.{Bool, true, false, cond, not, _||_}
+use mathlib.Core.Bool.{Bool, true, false, _||_}
 use mathlib.Core.List.{List, [], _∷_, _++_}
 use Prim.Native.Nat.{ℕ, zero, suc, _+_, _≤_, _<_}
 use native.Mathlib.Omega.{arith}
-use lib.Dec.{leb, ltb}
+use lib.Dec.{ltb}
 use lib.ListN.{length, take, drop, getD}
 use lib.Seq.{take-append-seam}
 use borrow.Author.Tests.{le-ltb, lt-leb}
-use Rattle.admit.specs.Utf8.{utf8}
-use Rattle.admit.specs.Refusals.{textLimit, textRefusal, Call}
-use Rattle.admit.proofs.Calls.{tests, call-accepted}
+use Rattle.admit.specs.Refusals.{_when_, firstDue, textLimit, textTests, textRefusal, Call}
+use Rattle.admit.specs.declared.Refusal.the-variants.{NameTooLong, BufferTooShort}
+use Rattle.admit.proofs.Calls.{call-accepted, passed, both-passed, none-due}
 use Rattle.sink.specs.Words.{storeOf}
 use Rattle.tokens.specs.Tokens.{tokens}
 use Rattle.sheets.specs.Sheet.{SheetEntry, entries, wordsOf, lines, callSheet, countWords, noEntry}
-use Rattle.sheets.specs.Calls.{isLong, anyLong, Accepted, entryAt, lineAt, EntryGiven, entryCall}
-use Rattle.sheets.proofs.Due.{later, allTests, text-passed}
+use Rattle.sheets.specs.Calls.{isLong, anyLong, Accepted, entryAt, lineAt, entryTests, EntryGiven, entryCall}
 use Rattle.sheets.proofs.Entries.{entries-length, sheet-at}
 
 -- the line and the words that a call of entry k gives, on the buffer `old`
@@ -30,10 +29,9 @@ pub entry-alone : (s old : List ℕ) (k : ℕ) → textRefusal textLimit s ≡ 0
     → (entryCall s k old .refusal ≡ 0) × (lineGiven s k old ≡ lineAt s k) × (wordsGiven s k old ≡ length (wordsOf (entryAt s k)))
 unfolding entryCall
 entry-alone s old k t h l r =
-    let none : Bool = leb (length (tokens s)) k in
     let short : Bool = ltb (length old) (length (lineAt s k)) in
-    let d : allTests s none (isLong (entryAt s k)) short ≡ 0 = text-passed s none (isLong (entryAt s k)) short 0 (sym t) refl ∙ rw (lt-leb (length (tokens s)) k h, l, le-ltb (length old) (length (lineAt s k)) r) in
-    let q = call-accepted _ _ _ (allTests s none (isLong (entryAt s k)) short) (sym d) refl in (
+    let d : firstDue (entryTests s k short) ≡ 0 = passed (textTests textLimit (s ∷ [])) _ (sym t) refl ∙ rw (lt-leb (length (tokens s)) k h, l, le-ltb (length old) (length (lineAt s k)) r) in
+    let q = call-accepted _ _ _ (firstDue (entryTests s k short)) (sym d) refl in (
       sym (ap (λ (c : Call EntryGiven). c .refusal) q),
       sym (ap (λ (c : Call EntryGiven). take (c .value .bytes) (c .value .buffer)) q) ∙ take-append-seam (lineAt s k) (drop (length (lineAt s k)) old),
       sym (ap (λ (c : Call EntryGiven). c .value .words) q),
@@ -41,13 +39,9 @@ entry-alone s old k t h l r =
 
 -- no entry of an accepted sheet is held back but for room
 accepted-tests : (s : List ℕ) → Accepted s → (textRefusal textLimit s ≡ 0) × (anyLong (entries s) ≡ false)
-accepted-tests s = go (ltb textLimit (length s)) (utf8 s) (anyLong (entries s))
-  where
-    go : (long good big : Bool) → cond long 1 (cond (not good) 2 (later false big false)) ≡ 0 → (tests long good false ≡ 0) × (big ≡ false)
-    go true good big h = absurd (omega arith)
-    go false false big h = absurd (omega arith)
-    go false true true h = absurd (omega arith)
-    go false true false h = (refl, refl)
+accepted-tests s a =
+    let k = both-passed (textTests textLimit (s ∷ [])) _ a in
+    (k .0, none-due (NameTooLong when anyLong (entries s) ∷ BufferTooShort when false ∷ []) (k .1) .0)
 
 or-left : (a b : Bool) → (a || b) ≡ false → a ≡ false
 or-left false b e = refl

@@ -1,15 +1,13 @@
 -- What calling a whole sheet and calling one entry answer, and leave in the lent buffer. Definitions only.
 use mathlib.Core.Path.{_≡_}
-use mathlib.Core.Bool.{Bool, false, not, _||_}
-use mathlib.Core.List.{List, [], _∷_}
+use mathlib.Core.Bool.{Bool, false, _||_}
+use mathlib.Core.List.{List, [], _∷_, _++_}
 use Prim.Native.Nat.{ℕ}
 use lib.Dec.{leb, ltb}
 use lib.ListN.{length, getD}
 use Rattle.lists.specs.Bytes.{over}
-use Rattle.admit.specs.Utf8.{utf8}
-use Rattle.admit.specs.Refusals.{numberDue, textLimit, Call, call}
-use Rattle.admit.specs.declared.Refusal.{Refusal}
-use Rattle.admit.specs.declared.Refusal.the-variants.{TextTooLong, NotUtf8, NoSuchEntry, NameTooLong, BufferTooShort}
+use Rattle.admit.specs.Refusals.{Test, _when_, firstDue, textLimit, textTests, Call, call}
+use Rattle.admit.specs.declared.Refusal.the-variants.{NoSuchEntry, NameTooLong, BufferTooShort}
 use Rattle.tokens.specs.Tokens.{tokens}
 use Rattle.rows.specs.Rows.{rowNumber, rowSign, read}
 use Rattle.sheets.specs.Sheet.{SheetEntry, entries, wordsOf, lines, callSheet, countWords, noEntry}
@@ -27,13 +25,13 @@ anyLong (e ∷ es) = isLong e || anyLong es
 
 -- ---- the whole sheet
 
--- what is due: all entries are to be called, and `short` says whether the buffer is smaller than the whole result
-abbrev pub sheetDue : List ℕ → Bool → Refusal → Bool
-sheetDue s short TextTooLong = ltb textLimit (length s)
-sheetDue s short NotUtf8 = not (utf8 s)
-sheetDue s short NoSuchEntry = false
-sheetDue s short NameTooLong = anyLong (entries s)
-sheetDue s short BufferTooShort = short
+-- its tests: all entries are to be called, and `short` says whether the buffer is smaller than the whole result
+abbrev pub sheetTests : List ℕ → Bool → List Test
+sheetTests s short =
+    textTests textLimit (s ∷ [])
+    ++ NameTooLong when anyLong (entries s)
+    ∷ BufferTooShort when short
+    ∷ []
 
 -- "the count of tokens and the count of words", the call sheet's length, and the buffer's final bytes
 pub record SheetGiven : Type 0 where
@@ -46,12 +44,12 @@ pub record SheetGiven : Type 0 where
 unfoldable pub sheetCall : List ℕ → List ℕ → Call SheetGiven
 sheetCall s old =
     call (record { tokens = 0; words = 0; bytes = 0; buffer = old })
-    (numberDue (sheetDue s (ltb (length old) (length (callSheet s)))))
+    (firstDue (sheetTests s (ltb (length old) (length (callSheet s)))))
     (record { tokens = length (tokens s); words = countWords (entries s); bytes = length (callSheet s); buffer = over (callSheet s) old })
 
 -- "A sheet is accepted when calling it whole, with room for the result, isn't held back."
 abbrev pub Accepted : List ℕ → Type 0
-Accepted s = numberDue (sheetDue s false) ≡ 0
+Accepted s = firstDue (sheetTests s false) ≡ 0
 
 -- ---- one entry
 
@@ -62,13 +60,14 @@ entryAt s k = getD (entries s) k noEntry
 abbrev pub lineAt : List ℕ → ℕ → List ℕ
 lineAt s k = getD (lines s) k []
 
--- what is due where entry k is called: "one entry is called and its number, from 0, is not below the token count"
-abbrev pub entryDue : List ℕ → ℕ → Bool → Refusal → Bool
-entryDue s k short TextTooLong = ltb textLimit (length s)
-entryDue s k short NotUtf8 = not (utf8 s)
-entryDue s k short NoSuchEntry = leb (length (tokens s)) k
-entryDue s k short NameTooLong = isLong (entryAt s k)
-entryDue s k short BufferTooShort = short
+-- its tests where entry k is called: "its number, from 0, is not below the token count"
+abbrev pub entryTests : List ℕ → ℕ → Bool → List Test
+entryTests s k short =
+    textTests textLimit (s ∷ [])
+    ++ NoSuchEntry when leb (length (tokens s)) k
+    ∷ NameTooLong when isLong (entryAt s k)
+    ∷ BufferTooShort when short
+    ∷ []
 
 -- "its record, its word count and its line": the record as its row's number and its sign's value
 pub record EntryGiven : Type 0 where
@@ -82,7 +81,7 @@ pub record EntryGiven : Type 0 where
 unfoldable pub entryCall : List ℕ → ℕ → List ℕ → Call EntryGiven
 entryCall s k old =
     call (record { row = 0; sign = 0; words = 0; bytes = 0; buffer = old })
-    (numberDue (entryDue s k (ltb (length old) (length (lineAt s k)))))
+    (firstDue (entryTests s k (ltb (length old) (length (lineAt s k)))))
     (record {
       row = rowNumber (read (entryAt s k .name) .row);
       sign = rowSign (read (entryAt s k .name) .row);

@@ -13,8 +13,9 @@ use borrow.Author.Tests.{ltb-false, le-ltb, lt-ltb}
 use Rattle.lists.specs.Bytes.{over}
 use Rattle.lists.specs.LittleEndian.{leBytes}
 use Rattle.lists.proofs.Sets.{sets-append, sets-front, le-or-lt}
-use Rattle.admit.specs.Refusals.{textLimit, textRefusal}
-use Rattle.admit.proofs.Calls.{refused-text, refused-short, accepted-text}
+use Rattle.admit.specs.Refusals.{Test, _when_, textLimit, textTests, textRefusal}
+use Rattle.admit.specs.declared.Refusal.the-variants.{BufferTooShort}
+use Rattle.admit.proofs.Calls.{held, passed}
 use Rattle.sink.specs.Sink.{top, pairOf, pairBytes, Sink, sink, gap, afterGap, emit, emitAll}
 use Rattle.sink.specs.Words.{storeOf, tableOf, shortFor, short, wordsCall, asWords, startPen, spokenBy, refusedBy}
 use Rattle.sink.specs.declared.Pen.{Pen}
@@ -135,15 +136,21 @@ module _ (s : List ℕ) (ws : List (List ℕ)) (st tb : List ℕ) (n : ℕ) (due
   abbrev isShort : Bool
   isShort = short ws st tb
 
+  abbrev text : List Test
+  text = textTests textLimit (s ∷ [])
+
+  abbrev room : List Test
+  room = BufferTooShort when isShort ∷ []
+
   -- a text that is refused
   pub text-refused : {r : Spoken} → (n ≡ 0 → ⊥) → r ≡ refusedBy n → asWords r st tb ≡ wordsCall s ws st tb
   unfolding wordsCall
-  text-refused z e = rw e (refused-text _ _ textLimit s isShort n due z)
+  text-refused z e = rw e (held text room due _ _ z)
 
   -- a buffer is too short
   pub short-refused : n ≡ 0 → isShort ≡ true → {r : Spoken} → r ≡ refusedBy 5 → asWords r st tb ≡ wordsCall s ws st tb
   unfolding wordsCall
-  short-refused z t q = rw q (refused-short _ _ textLimit s isShort n due z t)
+  short-refused z t q = rw (q, passed text room due z, t)
 
   -- both are long enough, and the words are written to them
   pub all-written : n ≡ 0 → isShort ≡ false → length st < top → length tb < top
@@ -160,4 +167,4 @@ module _ (s : List ℕ) (ws : List (List ℕ)) (st tb : List ℕ) (n : ℕ) (due
       let et : tb′ ≡ over (tableOf 0 ws) tb = ap (λ (k : Sink). k .table) all ∙ ap (sets tb 0) (table-plain 0 ws) ∙ sets-front tb (tableOf 0 ws) (omega (arith, tableOf-length 0 ws)) in
       let ea : p .at ≡ length (storeOf ws) = ap (λ (k : Sink). k .at) all ∙ zero-add (length (storeBy false ws)) ∙ eg in
       let ew : p .words ≡ length ws = ap (λ (k : Sink). k .words) all ∙ zero-add (length ws) in
-      rw q (accepted-text _ _ textLimit s isShort n due z f (λ j. record { words = ew j; bytes = ea j; store = es j; table = et j }))
+      rw (q, passed text room due z, f) (λ j. record { refusal = 0; value = record { words = ew j; bytes = ea j; store = es j; table = et j } })

@@ -5,7 +5,8 @@ use Prim.Native.Nat.{ℕ, _+_, _*_}
 use lib.Dec.{ltb}
 use lib.ListN.{length}
 use Rattle.lists.specs.Bytes.{over}
-use Rattle.admit.specs.Refusals.{numberDue, textLimit, textDue, Call, call}
+use Rattle.admit.specs.Refusals.{Test, _when_, firstDue, textLimit, textTests, Call, call}
+use Rattle.admit.specs.declared.Refusal.the-variants.{BufferTooShort}
 use Rattle.sink.specs.Sink.{pairOf, pairBytes}
 use Rattle.sink.specs.declared.Pen.{Pen}
 use Rattle.sink.specs.declared.Spoken.{Spoken}
@@ -43,11 +44,14 @@ shortFor bytes words store table = ltb store bytes || ltb table (pairBytes * wor
 abbrev pub short : List (List ℕ) → List ℕ → List ℕ → Bool
 short ws store table = shortFor (length (storeOf ws)) (length ws) (length store) (length table)
 
+abbrev pub wordsTests : List ℕ → List (List ℕ) → List ℕ → List ℕ → List Test
+wordsTests s ws store table = textTests textLimit (s ∷ []) ++ BufferTooShort when short ws store table ∷ []
+
 -- the call that reads the text s as the words ws
 unfoldable pub wordsCall : List ℕ → List (List ℕ) → List ℕ → List ℕ → Call Written
 wordsCall s ws store table =
     call (nothingWritten store table)
-    (numberDue (textDue textLimit s (short ws store table)))
+    (firstDue (wordsTests s ws store table))
     (written ws store table)
 
 -- an answer, with the buffers as the call leaves them

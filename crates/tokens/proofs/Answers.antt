@@ -2,7 +2,7 @@
 use mathlib.Core.Path.{_≡_, sym, _∙_}
 use mathlib.Core.Bool.{Bool, true, false}
 use mathlib.Core.Logic.{⊎-elim}
-use mathlib.Core.List.{List}
+use mathlib.Core.List.{List, [], _∷_}
 use Prim.Native.Nat.{ℕ, _*_, _/_, _≤_, _<_}
 use native.Mathlib.Omega.{arith}
 use lib.Dec.{ltb}
@@ -11,8 +11,9 @@ use lib.Seq.{sets}
 use borrow.Author.Tests.{lt-ltb, le-ltb, ltb-false}
 use Rattle.lists.proofs.Sets.{sets-front, le-or-lt}
 use Rattle.lists.specs.Bytes.{over}
-use Rattle.admit.specs.Refusals.{textLimit, textRefusal}
-use Rattle.admit.proofs.Calls.{refused-text, refused-short, accepted-text}
+use Rattle.admit.specs.Refusals.{Test, _when_, textLimit, textTests, textRefusal}
+use Rattle.admit.specs.declared.Refusal.the-variants.{BufferTooShort}
+use Rattle.admit.proofs.Calls.{held, passed}
 use Rattle.tokens.specs.Tokens.{tokens}
 use Rattle.tokens.specs.Table.{recordBytes, records, filledCall, asFilled}
 use Rattle.tokens.proofs.Records.{records-length}
@@ -31,17 +32,23 @@ module _ (s result old : List ℕ) (n : ℕ) (due : n ≡ textRefusal textLimit 
   abbrev isShort : Bool
   isShort = ltb (length old) (length result)
 
+  abbrev text : List Test
+  text = textTests textLimit (s ∷ [])
+
+  abbrev room : List Test
+  room = BufferTooShort when isShort ∷ []
+
   pub fill-refused : (n ≡ 0 → ⊥) → asFilled (record { refusal = n; tokens = 0 }) old ≡ filledCall s result old
   unfolding filledCall
-  fill-refused z = refused-text _ _ textLimit s isShort n due z
+  fill-refused z = held text room due _ _ z
 
   pub fill-short : n ≡ 0 → isShort ≡ true → asFilled (record { refusal = 5; tokens = 0 }) old ≡ filledCall s result old
   unfolding filledCall
-  fill-short z t = refused-short _ _ textLimit s isShort n due z t
+  fill-short z t = rw (passed text room due z, t)
 
   pub fill-done : n ≡ 0 → isShort ≡ false → {k : ℕ} {new : List ℕ} → k ≡ length (tokens s) → new ≡ sets old 0 result
       → asFilled (record { refusal = 0; tokens = k }) new ≡ filledCall s result old
   unfolding filledCall
   fill-done z f {k} {new} e d =
       let w : new ≡ over result old = d ∙ sets-front old result (ltb-false _ _ f) in
-      accepted-text _ _ textLimit s isShort n due z f (λ j. record { tokens = e j; buffer = w j })
+      rw (passed text room due z, f) (λ j. record { refusal = 0; value = record { tokens = e j; buffer = w j } })

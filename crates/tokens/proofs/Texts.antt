@@ -14,7 +14,7 @@ use Rattle.admit.specs.Utf8.{utf8}
 use Rattle.admit.specs.Refusals.{textRefusal}
 use Rattle.admit.proofs.Utf8.{utf8-run, utf8-all}
 use Rattle.admit.proofs.Utf8Parts.{utf8-append}
-use Rattle.admit.proofs.Calls.{text-tests, text-accepted}
+use Rattle.admit.proofs.Calls.{text-fit, text-accepted}
 use Rattle.sink.specs.Words.{storeOf}
 use Rattle.tokens.specs.Tokens.{Token, marked, nameSize, cut, afterWhite, afterRun, firstToken, tokens}
 use Rattle.tokens.proofs.Forward.{tokens-none, tokens-more, first-joined, tokens-induct}
@@ -84,18 +84,18 @@ Accepted limit s = textRefusal limit s ≡ 0
 first-accepted : (limit : ℕ) (s : List ℕ) → Accepted limit s → Each (Accepted limit) (firstToken s) × Accepted limit (afterRun s)
 unfolding storeOf
 first-accepted limit s h =
-    let k = text-tests limit s h in
+    let k = text-fit limit s h in
     let t = firstToken s in
-    let u = first-utf8 s (k .1) in
+    let u = first-utf8 s (k .good) in
     let n : length (t .whitespace) + (length (t .prepunctuation) + (length (t .name) + (length (t .punctuation) + 0))) + length (afterRun s) ≡ length s =
     simp length-append at (ap length (first-joined s)) in (
       record {
-        whitespace = text-accepted limit (t .whitespace) (omega arith) (u .0 .whitespace);
-        prepunctuation = text-accepted limit (t .prepunctuation) (omega arith) (u .0 .prepunctuation);
-        name = text-accepted limit (t .name) (omega arith) (u .0 .name);
-        punctuation = text-accepted limit (t .punctuation) (omega arith) (u .0 .punctuation);
+        whitespace = text-accepted limit (t .whitespace) (record { short = omega (arith, k .short); good = u .0 .whitespace });
+        prepunctuation = text-accepted limit (t .prepunctuation) (record { short = omega (arith, k .short); good = u .0 .prepunctuation });
+        name = text-accepted limit (t .name) (record { short = omega (arith, k .short); good = u .0 .name });
+        punctuation = text-accepted limit (t .punctuation) (record { short = omega (arith, k .short); good = u .0 .punctuation });
       },
-      text-accepted limit (afterRun s) (omega arith) (u .1),
+      text-accepted limit (afterRun s) (record { short = omega (arith, k .short); good = u .1 }),
     )
 
 pub tokens-accepted : (limit : ℕ) (s : List ℕ) → Accepted limit s → EachOf (Accepted limit) (tokens s)

@@ -7,7 +7,8 @@ use Prim.Native.Nat.{ℕ, _+_, _-_, _≤_}
 use lib.Dec.{ltb}
 use lib.ListN.{length}
 use Rattle.lists.specs.Bytes.{over}
-use Rattle.admit.specs.Refusals.{numberDue, textLimit, textDue, Call, call}
+use Rattle.admit.specs.Refusals.{Test, _when_, firstDue, textLimit, textTests, Call, call}
+use Rattle.admit.specs.declared.Refusal.the-variants.{BufferTooShort}
 use Rattle.sink.specs.Sink.{pairOf}
 use Rattle.sink.specs.Words.{storeOf, tableOf}
 use Rattle.tokens.specs.Tokens.{Token, cut, tokens, parts}
@@ -42,12 +43,15 @@ pub record Filled : Type 0 where
   pub tokens : ℕ
   pub buffer : List ℕ
 
+abbrev pub filledTests : List ℕ → List ℕ → List ℕ → List Test
+filledTests s result old = textTests textLimit (s ∷ []) ++ BufferTooShort when ltb (length old) (length result) ∷ []
+
 -- the call that is given the text s and writes `result` over `old`: "A refused call answers its number, with every count and
 -- value 0 .. and writes nothing"; "bytes past the result stay"
 unfoldable pub filledCall : List ℕ → List ℕ → List ℕ → Call Filled
 filledCall s result old =
     call (record { tokens = 0; buffer = old })
-    (numberDue (textDue textLimit s (ltb (length old) (length result))))
+    (firstDue (filledTests s result old))
     (record { tokens = length (tokens s); buffer = over result old })
 
 -- an answer, with the buffer as the call leaves it

@@ -6,6 +6,7 @@ use Prim.Native.Nat.{ℕ}
 use Rattle.lists.specs.Bytes.{bytes, sameBy, split, onto, span, has, all, allParts, afterLast}
 use Rattle.lists.specs.Recur.{recur, recurAt}
 use Rattle.admit.specs.Utf8.{utf8, utf8Step, charBytes}
+use Rattle.admit.specs.Refusals.{textTests}
 use Rattle.units.specs.Units.{unitAbbreviations, abbreviations, unitWords, before}
 use Rattle.lexicon.specs.Lexicon.{ones, teens, tens, ordinalOnes, ordinalTeens, ordinalTens}
 use Rattle.shapes.specs.Shapes.{isDigits, isAlpha, splitOnce, isHourMinute, isDottedAbbrev}
@@ -23,7 +24,7 @@ unfoldable pub sheet : List ℕ
 sheet = bytes "rack 12 -1.50e+3 007% 9:30 9:00am 21st 5mm A.B"
 
 pub accepted : Accepted sheet
-unfolding sheet recur recurAt span all afterLast cut tokensStep tokens starts startsAfter breakAfter entriesOf anyLong utf8 utf8Step charBytes
+unfolding sheet recur recurAt span all afterLast cut tokensStep tokens starts startsAfter breakAfter entriesOf anyLong textTests utf8 utf8Step charBytes
 accepted = refl
 
 test : List (List ℕ) → Bool

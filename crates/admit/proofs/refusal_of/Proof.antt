@@ -1,8 +1,7 @@
 use native.Mathlib.Omega.{arith}
 use mathlib.Core.Path.{sym, _∙_}
-use lib.ListN.{length}
-use borrow.Author.Tests.{le-ltb}
 use Rattle.admit.proofs.Utf8.{utf8-all}
+use Rattle.admit.proofs.Calls.{text-accepted}
 use borrow.Author.Needs.{needs}
 use Rattle.admit.proofs.refusal_of.Statement.{statement}
 use Rattle.admit.proofs.refusal_of.Tie as tie
@@ -12,7 +11,7 @@ refusal-of-spec =
     tie.close
     (tie.spec
     (λ c κs. search needs)
-    (λ c. rw (le-ltb 65536 (length (c .before .before .before .before .args .s .now)) (omega arith), utf8-all (c .before .before .before .before .args .s .now) (sym (c .before .all-of .ensures) ∙ c .if2 .taken)))
+    (λ c. sym (text-accepted _ (c .before .before .before .before .args .s .now) (record { short = omega arith; good = utf8-all _ (sym (c .before .all-of .ensures) ∙ c .if2 .taken) })))
     (λ c κs. search needs)
     (λ c. search needs)
     (λ c κs. search needs)

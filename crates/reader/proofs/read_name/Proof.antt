@@ -25,4 +25,4 @@ read-name-spec =
     (λ c κs. search needs)
     (λ c. search needs)
     (λ c. search needs)
-    (λ c. says-same _ _ (unsigned (read (c .before .before .before .before .before .before .before .before .before .before .before .before .before .before .before .before .before .args .name .now)) ) _ (rw (c .answer2 .ensures .0, c .answer2 .ensures .1, c .before .pen-of2 .ensures) (from-pen _ _ _ (c .before .before .before .before .before .before .before .before .before .before .before .before .before .place-of .ensures) (c .before .before .before .before .before .before .before .read-before .ensures)))))
+    (λ c. says-same _ _ (unsigned (read (c .before .before .before .before .before .before .before .before .before .before .before .before .before .before .before .before .before .args .name .now))) _ (rw (c .answer2 .ensures .0, c .answer2 .ensures .1, c .before .pen-of2 .ensures) (from-pen _ _ _ (c .before .before .before .before .before .before .before .before .before .before .before .before .before .place-of .ensures) (c .before .before .before .before .before .before .before .read-before .ensures)))))

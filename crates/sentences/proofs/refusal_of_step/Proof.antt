@@ -1,6 +1,6 @@
 use mathlib.Core.Path.{_∙_}
 use borrow.Author.Needs.{needs}
-use Rattle.sentences.proofs.Marking.{three-due}
+use Rattle.sentences.proofs.Due.{three-due}
 use Rattle.sentences.proofs.refusal_of_step.Statement.{statement}
 use Rattle.sentences.proofs.refusal_of_step.Tie as tie
 
