@@ -37,7 +37,7 @@ const LONGEST: usize = 64 * KIB;
 const SIZES: [usize; 3] = [16 * KIB, 32 * KIB, LONGEST];
 
 /// Room for every call sheet of 64 KiB.
-const AMPLE: usize = 24 * LONGEST + 24;
+const AMPLE: usize = 11 * LONGEST + 11;
 
 /// The bytes of the call sheet.
 fn ours(out: &mut [u8], text: &[u8]) -> usize {

@@ -12,7 +12,7 @@ use crate::Row;
 const ROMAN_VALUE: &str = "roman_value";
 
 /// Room for every reading of 64 KiB.
-const STORE: usize = 22 * 64 * KIB + 22;
+const STORE: usize = 11 * 64 * KIB + 11;
 const TABLE: usize = 16 * 64 * KIB + 16;
 
 /// A reader and a text for it.

@@ -191,7 +191,7 @@ typedef struct hwk_words {
 /* Room for the words of every text of up to `len` bytes, whichever of the six calls reads it: proved, and on the ample side. A
  * call that is lent so much writes at once; one that is lent less measures the words first, which takes about as long again.
  * A reading fits whatever buffers are as long as it is: ten sevens are 16 words of together 99 bytes. */
-#define HWK_WORDS_STORE_MOST(len) (22 * (size_t)(len) + 22)
+#define HWK_WORDS_STORE_MOST(len) (11 * (size_t)(len) + 11)
 #define HWK_WORDS_TABLE_MOST(len) (16 * (size_t)(len) + 16)
 
 /* The four bytes of a table as a number. */
@@ -372,9 +372,9 @@ typedef struct hwk_entry {
 #define HWK_PLUS 1
 #define HWK_MINUS 2
 
-/* Room for the call of every sheet of up to `len` bytes, and so for every line of it: proved, and on the ample side. A call that
- * is lent so much writes at once; one that is lent less measures first. */
-#define HWK_CALL_MOST(len) (24 * (size_t)(len) + 24)
+/* Room for the call of every sheet of up to `len` bytes, and so for every line of it: proved. A call that is lent so much writes at
+ * once; one that is lent less measures first. */
+#define HWK_CALL_MOST(len) (11 * (size_t)(len) + 11)
 
 /* Calls entry `number` of the sheet: writes its line to the front of `out`. Refuses with HWK_TEXT_TOO_LONG, HWK_NOT_UTF8,
  * HWK_NO_SUCH_ENTRY, HWK_NAME_TOO_LONG where this entry's name is too long, whatever the others are, and HWK_BUFFER_TOO_SHORT

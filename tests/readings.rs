@@ -88,7 +88,7 @@ impl Reading {
 
     /// Whether the header's HWK_WORDS_STORE_MOST and HWK_WORDS_TABLE_MOST suffice for a text of `len` bytes.
     pub fn fits_most(&self, len: usize) -> bool {
-        self.store.len() <= 22 * len + 22 && self.table.len() <= 16 * len + 16
+        self.store.len() <= 11 * len + 11 && self.table.len() <= 16 * len + 16
     }
 }
 

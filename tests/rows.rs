@@ -11,7 +11,7 @@ pub const NAME_LIMIT: usize = 4_096;
 
 /// HWK_CALL_MOST of the header.
 pub fn call_most(len: usize) -> usize {
-    24 * len + 24
+    11 * len + 11
 }
 
 #[repr(C)]

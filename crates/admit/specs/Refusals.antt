@@ -28,8 +28,8 @@ infix 70 _when_
 pub data Test : Type 0 where
   _when_ : Refusal → Bool → Test
 
--- "Tests run in the order 1 to 5. Each refusal is given under its condition and never otherwise": of the tests that a call makes, in the order it makes them, the
--- number of the first one that holds, 0 where none does
+-- "Tests run in the order 1 to 5. Each refusal is given under its condition and never otherwise": of the tests that a call makes,
+-- in the order it makes them, the number of the first one that holds, 0 where none does
 abbrev pub firstDue : List Test → ℕ
 firstDue [] = 0
 firstDue (refusal when holds ∷ tests) = cond holds (number refusal) (firstDue tests)

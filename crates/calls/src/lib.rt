@@ -36,7 +36,7 @@ const NAME_BYTES: usize = 4096;
 const RUN_BYTES: usize = NAME_BYTES + 1;
 
 // The most bytes of a call sheet, for each byte of the sheet and one more.
-const GROWTH: usize = 24;
+const GROWTH: usize = 11;
 
 // A whole sheet's answer: the refusal's number or 0, the count of tokens, the count of words, and the call sheet's length.
 #[repr(C)]

@@ -20,8 +20,8 @@ fn write_call(sheet: &[u8], out: &mut [u8]) {
 }
 
 // Room for the call of every sheet of 4,096 bytes.
-fn room() -> [u8; 98328] {
-    [0; 98328]
+fn room() -> [u8; 45067] {
+    [0; 45067]
 }
 
 fn main() {

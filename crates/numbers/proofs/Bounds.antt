@@ -2,15 +2,15 @@
 use mathlib.Core.Path.{_≡_, refl}
 use mathlib.Core.Bool.{Bool, true, false, _&&_}
 use mathlib.Core.List.{List}
-use Prim.Native.Nat.{ℕ, _+_, _*_, _/_, _≤_, _<_}
+use Prim.Native.Nat.{ℕ, _/_, _<_}
 use native.Mathlib.Omega.{arith}
 use lib.Dec.{ltb}
 use lib.ListN.{length}
 use borrow.Author.Tests.{ltb-true}
 use Rattle.sink.specs.Words.{storeOf, shortFor}
 use Rattle.sink.proofs.Finish.{long-enough}
-use Rattle.numerals.specs.Words.{Word, spelled}
-use Rattle.numerals.proofs.Room.{Room, room-counts, cardinal-room, digits-room, ordinal-room}
+use Rattle.numerals.specs.Words.{spelled}
+use Rattle.numerals.proofs.Room.{RoomFor, room-counts, cardinal-room, digits-room, ordinal-room}
 use Rattle.years.proofs.Room.{year-room}
 use Rattle.reals.proofs.Room.{real-room}
 use Rattle.readings.proofs.Room.{letters-room}
@@ -18,20 +18,14 @@ use Rattle.numbers.specs.Calls.{wordsBy}
 use Rattle.numbers.specs.declared.Reader.{Reader}
 use Rattle.numbers.specs.declared.Reader.the-variants.{Cardinal, Ordinal, Year, Digits, Real, Letters}
 
--- a text of n bytes has at most 2 n + 1 words of together at most 22 n + 11 bytes
-abbrev pub Within : ℕ → List Word → Type 0
-Within n ws = (length (spelled ws) ≤ 2 * n + 1) × (length (storeOf (spelled ws)) ≤ 22 * n + 11)
-
-within : {a : ℕ} {ws : List Word} (n : ℕ) → Room a ws → a ≤ 2 * n + 1 → Within n ws
-within n r l = let c = room-counts r in (omega arith, omega arith)
-
-pub room : (r : Reader) (s : List ℕ) → Within (length s) (wordsBy r s)
-room Cardinal s = within (length s) (cardinal-room s) (omega arith)
-room Ordinal s = within (length s) (ordinal-room s) (omega arith)
-room Year s = within (length s) (year-room s) (omega arith)
-room Digits s = within (length s) (digits-room s) (omega arith)
-room Real s = within (length s) (real-room s) (omega arith)
-room Letters s = let c = letters-room s in (omega arith, omega arith)
+-- a text of n bytes has at most 2 n + 1 words of together at most 11 n + 8 bytes
+pub room : (r : Reader) (s : List ℕ) → RoomFor (length s) (wordsBy r s)
+room Cardinal s = omega (arith, cardinal-room s)
+room Ordinal s = ordinal-room s
+room Year s = omega (arith, year-room s)
+room Digits s = omega (arith, digits-room s)
+room Real s = real-room s
+room Letters s = omega (arith, letters-room s)
 
 and-true : (a b : Bool) → (a && b) ≡ true → (a ≡ true) × (b ≡ true)
 and-true true true e = (refl, refl)
@@ -39,11 +33,11 @@ and-true true false e = (refl, e)
 and-true false b e = (e, cc)
 
 -- what the code tests before it measures
-pub roomy-fits : (r : Reader) (s : List ℕ) (a b : ℕ) → (ltb (length s) (a / 22) && ltb (length s) (b / 16)) ≡ true
+pub roomy-fits : (r : Reader) (s : List ℕ) (a b : ℕ) → (ltb (length s) (a / 11) && ltb (length s) (b / 16)) ≡ true
     → shortFor (length (storeOf (spelled (wordsBy r s)))) (length (spelled (wordsBy r s))) a b ≡ false
 roomy-fits r s a b e =
-    let t = and-true (ltb (length s) (a / 22)) (ltb (length s) (b / 16)) e in
-    let h : length s < a / 22 = ltb-true (length s) (a / 22) (t .0) in
+    let t = and-true (ltb (length s) (a / 11)) (ltb (length s) (b / 16)) e in
+    let h : length s < a / 11 = ltb-true (length s) (a / 11) (t .0) in
     let k : length s < b / 16 = ltb-true (length s) (b / 16) (t .1) in
-    let w = room r s in
+    let w = room-counts (room r s) in
     long-enough (spelled (wordsBy r s)) a b (omega arith) (omega arith)

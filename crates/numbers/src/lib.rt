@@ -59,13 +59,13 @@ fn say_by(reader: Reader, s: &[u8], store: &mut [u8], table: &mut [u8], pen: Pen
 }
 
 // Room in store and table that each byte of a text needs at most.
-const STORE_ROOM: usize = 22;
+const STORE_ROOM: usize = 11;
 
 const TABLE_ROOM: usize = 16;
 
 // Whether buffers of these lengths hold the words of every text of n bytes.
 fn roomy(n: usize, store: usize, table: usize) -> bool
-    ensures { λ r. ⌜ r ≡ (ltb n (store / 22) && ltb n (table / 16)) ⌝ }
+    ensures { λ r. ⌜ r ≡ (ltb n (store / 11) && ltb n (table / 16)) ⌝ }
 {
     (n < store / STORE_ROOM) & (n < table / TABLE_ROOM)
 }

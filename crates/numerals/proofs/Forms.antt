@@ -186,7 +186,7 @@ formed-numeral hundred f = refl
 formed-numeral (scale k) f = refl
 formed-numeral (other w) f = absurd (omega arith)
 
-formed-spell : (w : Word) (f : Formed w) → spell w ≡ wordOf (onesAt + f .place)
+pub formed-spell : (w : Word) (f : Formed w) → spell w ≡ wordOf (onesAt + f .place)
 formed-spell w f = spell-number w (formed-numeral w f) ∙ ap wordOf (f .number)
 
 -- what the code does to the number of the last word is what `ordinal` does to its spelling

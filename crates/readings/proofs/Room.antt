@@ -1,7 +1,7 @@
--- How many words a text read letter by letter has at most, and how many bytes they are. Assumes nothing.
+-- How many words a text read letter by letter has at most, and how many bytes of a line they take. Assumes nothing.
 use mathlib.Core.Path.{ap}
 use mathlib.Core.List.{List, [], _∷_, map}
-use Prim.Native.Nat.{ℕ, suc, _*_, _≤_}
+use Prim.Native.Nat.{ℕ, suc, _+_, _*_, _≤_}
 use Prim.Native.Char.{code}
 use native.Mathlib.Omega.{arith}
 use lib.Dec.{eqb}
@@ -10,7 +10,8 @@ use Rattle.lists.specs.Bytes.{lower, onto}
 use Rattle.lists.specs.Classes.{continuation}
 use Rattle.lists.proofs.Recursion.{cond-elim}
 use Rattle.sink.specs.Words.{storeOf}
-use Rattle.numerals.specs.Words.{Word, other, spell, spelled}
+use Rattle.numerals.specs.Words.{other, spell}
+use Rattle.numerals.proofs.Room.{Room, width}
 use Rattle.readings.specs.Letters.{chars, letterWord, letters}
 use Rattle.readings.proofs.LetterLaws.{chars-join}
 
@@ -20,11 +21,10 @@ letter-short [] = omega arith
 letter-short (b ∷ []) = cond-elim (λ (w : List ℕ). length w ≤ 2) (eqb (lower b) (code "a")) (λ e. omega arith) (λ e. omega arith)
 letter-short (b ∷ c ∷ s) = omega arith
 
-letters-short : (cs : List (List ℕ)) → length (storeOf (spelled (map (λ c. other (letterWord c)) cs))) ≤ 2 * length (storeOf cs)
-unfolding storeOf spelled spell
-letters-short [] = omega arith
-letters-short (c ∷ cs) =
-    omega (arith, letter-short c, letters-short cs, length-append c (storeOf cs), length-append (letterWord c) (storeOf (spelled (map (λ c. other (letterWord c)) cs))))
+letters-wide : (cs : List (List ℕ)) → width (map (λ c. other (letterWord c)) cs) ≤ length cs + 2 * length (storeOf cs)
+unfolding storeOf spell
+letters-wide [] = omega arith
+letters-wide (c ∷ cs) = omega (arith, letter-short c, letters-wide cs, length-append c (storeOf cs))
 
 onto-count : (b : ℕ) (cs : List (List ℕ)) → length (onto b cs) ≤ suc (length cs)
 unfolding onto
@@ -38,8 +38,6 @@ chars-count (b ∷ s) =
     cond-elim (λ (cs : List (List ℕ)). length cs ≤ suc (length s)) (continuation (getD s 0 0)) (λ e. omega (arith, onto-count b (chars s), chars-count s)) (λ e. omega (arith, chars-count s))
 
 -- a word a character, "_a" the only one that is longer
-pub letters-room : (s : List ℕ) → (length (spelled (letters s)) ≤ length s) × (length (storeOf (spelled (letters s))) ≤ 2 * length s)
-unfolding spelled letters
-letters-room s =
-    let f : List ℕ → Word = λ c. other (letterWord c) in
-    (omega (arith, length-map (map f (chars s)) spell, length-map (chars s) f, chars-count s), omega (arith, letters-short (chars s), ap length (chars-join s)))
+pub letters-room : (s : List ℕ) → Room (length s) (3 * length s) (letters s)
+unfolding letters
+letters-room s = omega (arith, chars-count s, length-map (chars s) (λ c. other (letterWord c)), letters-wide (chars s), ap length (chars-join s))
