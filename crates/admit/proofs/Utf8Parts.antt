@@ -50,7 +50,9 @@ char-within (a ∷ b ∷ []) k = rw (char-2 0 refl a b 0) (cond-le (ascii a) (om
 char-within (a ∷ b ∷ c ∷ []) k =
     rw (char-3 0 refl a b c) (cond-le (ascii a) (omega arith) (cond-le (lead2 a && utf8Tail b) (omega arith) (cond-le (lead3 a b && utf8Tail c) (omega arith) (omega arith))))
 char-within (a ∷ b ∷ c ∷ d ∷ x) k =
-    cond-le (ascii a) (omega arith) (cond-le (lead2 a && utf8Tail b) (omega arith) (cond-le (lead3 a b && utf8Tail c) (omega arith) (cond-le (lead4 a b && utf8Tail c && utf8Tail d) (omega arith) (omega arith))))
+    cond-le (ascii a) (omega arith)
+    (cond-le (lead2 a && utf8Tail b) (omega arith)
+    (cond-le (lead3 a b && utf8Tail c) (omega arith) (cond-le (lead4 a b && utf8Tail c && utf8Tail d) (omega arith) (omega arith))))
 
 pub utf8-append : (x y : List ℕ) → ascii (getD y 0 0) ≡ true → utf8 (x ++ y) ≡ utf8 x && utf8 y
 utf8-append x y h = at (suc (length x)) x (omega arith)

@@ -42,7 +42,13 @@ module _ (e : SheetEntry) (old : List ℕ) where
     unfolding nameCall
     line-given f small t t₀ {new} {p} start q d =
         let g = written-lines (wrote-line e) (line-words e) new t old t₀ start q f small in
-        rw (le-ltb nameLimit (length (e .name)) h, f) (λ j. record { refusal = 0; value = record { row = rowNumber (d j); sign = rowSign (d j); words = g .1 j; bytes = g .0 j; buffer = g .2 j } })
+        rw (le-ltb nameLimit (length (e .name)) h, f)
+        (λ j.
+        record {
+          refusal = 0;
+          value =
+              record { row = rowNumber (d j); sign = rowSign (d j); words = g .1 j; bytes = g .0 j; buffer = g .2 j };
+        })
 
 -- ---- the sheet s, whose refusal n is tested first
 

@@ -116,7 +116,8 @@ lines-words [] = omega arith
 lines-words (e ∷ es) = omega (arith, line-words e, lines-words es, length-append (lineOf e) (storeOf (map lineOf es)))
 
 -- from the start of a buffer on; every word takes a byte at least
-module _ {b : List ℕ} {n : ℕ} {f : Sink → Sink} (w : Writes b n f) (few : n ≤ length b) (x y x₀ y₀ : List ℕ) {p p₀ : Pen} (start : p₀ ≡ spacedPen) (q : sink x y p ≡ f (sink x₀ y₀ p₀)) where
+module _ {b : List ℕ} {n : ℕ} {f : Sink → Sink} (w : Writes b n f) (few : n ≤ length b) (x y x₀ y₀ : List ℕ) {p p₀ : Pen}
+    (start : p₀ ≡ spacedPen) (q : sink x y p ≡ f (sink x₀ y₀ p₀)) where
   all-wrote : Wrote b n (sink x₀ y₀ spacedPen) (sink x y p)
   all-wrote =
       let e : sink x y p ≡ f (sink x₀ y₀ spacedPen) = q ∙ ap (λ (r : Pen). f (sink x₀ y₀ r)) start in

@@ -50,7 +50,10 @@ unfolding abbreviations unitAbbreviations unitWords before sameBy
 unit-short [] = omega arith
 unit-short (b ∷ u) =
     let t = b ∷ u in
-    let l : length (unitWord t) ≤ 11 = ⊎-elim (λ (h : 22 ≤ unitIndex t). rw (miss-word t h) (omega arith)) (λ (h : unitIndex t < 22). rw (word-row (unitIndex t) h) at (word-short (getD wordNumbers (unitIndex t) 0))) (le-or-lt 22 (unitIndex t)) in
+    let l : length (unitWord t) ≤ 11 =
+    ⊎-elim (λ (h : 22 ≤ unitIndex t). rw (miss-word t h) (omega arith))
+    (λ (h : unitIndex t < 22). rw (word-row (unitIndex t) h) at (word-short (getD wordNumbers (unitIndex t) 0)))
+    (le-or-lt 22 (unitIndex t)) in
     omega arith
 
 unit-room : (s : List ℕ) → hasUnit s ≡ true → RoomFor (length s) (cardinal (take (unitAt s) s) ++ other (unitWord (unitPart s)) ∷ [])
@@ -136,7 +139,9 @@ names-room =
     (λ s e i.
     let t = firstToken s in
     let r = afterRun s in
-    let k : nameRoom (tokens r) ≤ length r = ⊎-elim (λ (h : length r ≤ 0). omega (arith, ap nameRoom (tokens-past r 0 h))) (λ (h : 0 < length r). i .1 (white-after s h)) (le-or-lt (length r) 0) in
+    let k : nameRoom (tokens r) ≤ length r =
+    ⊎-elim (λ (h : length r ≤ 0). omega (arith, ap nameRoom (tokens-past r 0 h))) (λ (h : 0 < length r). i .1 (white-after s h))
+    (le-or-lt (length r) 0) in
     let m = size-parts t in
     let j = length-append (storeOf (fourParts t)) r in
     let l = ap length (first-joined s) in

@@ -52,7 +52,11 @@ no-long =
     tokens-induct (λ (s : List ℕ). ((i : ℕ) → LongRun s i → ⊥) → longNames (tokens s) ≡ false)
     (λ s e f. rw (tokens-none s e))
     (λ s e i f.
-    let h : length (firstToken s .name) ≤ nameLimit = ⊎-elim (λ (k : length (firstToken s .name) ≤ nameLimit). k) (λ (k : nameLimit < length (firstToken s .name)). absurd (f (span whitespace s) (omega (arith, first-size s, size-parts (firstToken s), first-white s)))) (le-or-lt (length (firstToken s .name)) nameLimit) in
+    let h : length (firstToken s .name) ≤ nameLimit =
+    ⊎-elim (λ (k : length (firstToken s .name) ≤ nameLimit). k)
+    (λ (k : nameLimit < length (firstToken s .name)). absurd
+    (f (span whitespace s) (omega (arith, first-size s, size-parts (firstToken s), first-white s))))
+    (le-or-lt (length (firstToken s .name)) nameLimit) in
     rw (tokens-more s e, le-ltb nameLimit (length (firstToken s .name)) h) (i (λ j r. f (firstSize s + j) (rw (afterRun-drop s, drop-drop j (firstSize s) s) at r))))
 
 -- no long run starts before `at`
@@ -78,7 +82,8 @@ module _ (s : List ℕ) (at : ℕ) {k : ℕ} {l : List ℕ} (q : l ≡ take (at 
       ⊎-elim (λ (h : at + k ≤ i). h) (λ (h : i < at + k).
       let j : ℕ = at + k - 1 - i in
       let e : getD l (k - 1) 0 ≡ getD (drop i s) j 0 =
-      ap (λ (x : List ℕ). getD x (k - 1) 0) q ∙ getD-take (at + suc nameLimit - at) (drop at s) (k - 1) 0 (omega (arith, b .0)) ∙ getD-drop at s (k - 1) 0 ∙ ap (λ (m : ℕ). getD s m 0) (omega arith) ∙ sym (getD-drop i s j 0) in
+      ap (λ (x : List ℕ). getD x (k - 1) 0) q ∙ getD-take (at + suc nameLimit - at) (drop at s) (k - 1) 0 (omega (arith, b .0))
+      ∙ getD-drop at s (k - 1) 0 ∙ ap (λ (m : ℕ). getD s m 0) (omega arith) ∙ sym (getD-drop i s j 0) in
       let n = span-stops nonWhitespace (drop i s) j (omega (arith, length-drop i s, b .1)) (ap nonWhitespace (sym e) ∙ ap not w) in
       absurd (omega (arith, b .0))) (le-or-lt (at + k) i)
 

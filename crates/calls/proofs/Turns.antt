@@ -79,8 +79,10 @@ module _ {s : List ℕ} {n at : ℕ} {st : State} {p : Places} (l : Left s n at 
       let o : drop n (entries s) ≡ named b m ∷ entriesFrom st′ (tokens (drop (p .end) s)) = sym (l .rest) ∙ next-entry s at p (l .within) e st f ew em eq eb es in
       let d : drop (n + 1) (entries s) ≡ entriesFrom st′ (tokens (drop (p .end) s)) = sym (drop-drop 1 n (entries s)) ∙ ap (drop 1) o in
       let g = moves-on s at p (l .within) e f in
-      let c = ap (λ (xs : List SheetEntry). length xs) o in
-      (o ∙ ap (λ (xs : List SheetEntry). named b m ∷ xs) (sym d), record { within = g .1; few = omega (arith, g .0, l .few); below = omega (arith, length-drop n (entries s)); rest = sym d })
+      let c = ap (λ (xs : List SheetEntry). length xs) o in (
+        o ∙ ap (λ (xs : List SheetEntry). named b m ∷ xs) (sym d),
+        record { within = g .1; few = omega (arith, g .0, l .few); below = omega (arith, length-drop n (entries s)); rest = sym d },
+      )
 
 -- the lines of what is left
 pub lines-on : (σ : Sink) {es fs : List SheetEntry} {x : SheetEntry} {τ z : Sink} → es ≡ x ∷ fs → τ ≡ lineTo x σ → linesTo es σ ≡ z → linesTo fs τ ≡ z
@@ -97,7 +99,9 @@ pub found-here : {s : List ℕ} {n k a z at : ℕ} {b : Bool} {m : List ℕ} {st
 found-here {s} {n} {k} {b = b} o e f =
     record {
       there = sym (lt-ltb k (length (tokens s)) (omega (arith, o .1 .below, entries-length s)));
-      entry = λ t. ap (named b) (sym f) ∙ sym (ap (λ (xs : List SheetEntry). getD xs 0 noEntry) (o .0)) ∙ getD-drop n (entries s) 0 noEntry ∙ ap (λ (i : ℕ). getD (entries s) i noEntry) (add-zero n ∙ e);
+      entry = λ t.
+          ap (named b) (sym f) ∙ sym (ap (λ (xs : List SheetEntry). getD xs 0 noEntry) (o .0)) ∙ getD-drop n (entries s) 0 noEntry
+          ∙ ap (λ (i : ℕ). getD (entries s) i noEntry) (add-zero n ∙ e);
     }
 
 pub found-none : (s : List ℕ) {n k : ℕ} {r : Found} → r .found ≡ false → n ≤ k → n ≡ length (tokens s) → FoundAt s k r

@@ -138,7 +138,14 @@ number-test s (is-digits t h) = rw h
 number-test s (is-figure m a f x r h p e) =
     let d = plain-digits a h in
     let z = fraction-front f x p e in
-    rw (strip-minus m a (f ++ x) r d, lead-seam digit a (f ++ x) (digits-all a d) z, after-seam digit a (f ++ x) (digits-all a d) z, h, fraction-test f x p e) (or-true (isDigits (m ++ (a ++ (f ++ x)))))
+    rw (
+      strip-minus m a (f ++ x) r d,
+      lead-seam digit a (f ++ x) (digits-all a d) z,
+      after-seam digit a (f ++ x) (digits-all a d) z,
+      h,
+      fraction-test f x p e,
+    )
+    (or-true (isDigits (m ++ (a ++ (f ++ x)))))
 
 -- ---- with one %
 

@@ -43,7 +43,9 @@ first k = cond (newWord (suc k)) (firstRow (suc k)) (not (firstRow (suc k)))
 pub first-row : (k : ℕ) → (k ≡ 0 → ⊥) → newWord k ≡ firstRow k
 unfolding first lexicon wordNumbers before unitWords unitAbbreviations
 first-row zero h = absurd (h refl)
-first-row (suc k) h = ⊎-elim (λ (g : 21 ≤ k). rw (le-ltb (suc k) 22 (omega arith))) (λ (g : k < 21). agree (newWord (suc k)) (firstRow (suc k)) (below first 21 tt k g)) (le-or-lt 21 k)
+first-row (suc k) h =
+    ⊎-elim (λ (g : 21 ≤ k). rw (le-ltb (suc k) 22 (omega arith)))
+    (λ (g : k < 21). agree (newWord (suc k)) (firstRow (suc k)) (below first 21 tt k g)) (le-or-lt 21 k)
 
 -- where the lexicon has the words of the tables
 abbrev numberAt : ℕ → ℕ

@@ -55,7 +55,8 @@ unfolding before
 before-at t [] h = absurd (omega arith)
 before-at t (s ∷ ss) h = go (same s t) refl h (before-at t ss)
   where
-    go : (b : Bool) → same s t ≡ b → cond b 0 (suc (before t ss)) < suc (length ss) → (before t ss < length ss → getD ss (before t ss) [] ≡ t) → getD (s ∷ ss) (cond b 0 (suc (before t ss))) [] ≡ t
+    go : (b : Bool) → same s t ≡ b → cond b 0 (suc (before t ss)) < suc (length ss)
+        → (before t ss < length ss → getD ss (before t ss) [] ≡ t) → getD (s ∷ ss) (cond b 0 (suc (before t ss))) [] ≡ t
     go true e h i = same-true s t e
     go false e h i = i (omega arith)
 

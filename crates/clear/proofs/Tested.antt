@@ -13,7 +13,8 @@ use Rattle.clear.proofs.Initials.{test-initials, initials-test}
 use Rattle.clear.proofs.Words.{test-word, word-test}
 
 -- the first kind whose test passes
-chain : {X : Type 0} (a b c d e f g h : Bool) → (a ≡ true → X) → (b ≡ true → X) → (c ≡ true → X) → (d ≡ true → X) → (e ≡ true → X) → (f ≡ true → X) → (g ≡ true → X) → (h ≡ true → X)
+chain : {X : Type 0} (a b c d e f g h : Bool) → (a ≡ true → X) → (b ≡ true → X) → (c ≡ true → X) → (d ≡ true → X) → (e ≡ true → X)
+    → (f ≡ true → X) → (g ≡ true → X) → (h ≡ true → X)
     → (a || b || c || d || e || f || g || h) ≡ true → X
 chain true b c d e f g h i j k l m n o p r = i refl
 chain false true c d e f g h i j k l m n o p r = j refl

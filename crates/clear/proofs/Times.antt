@@ -110,7 +110,9 @@ test-meridiem s h =
     let n = butLastTwo s in
     let p = ands (same (lastTwo s) (bytes "am") || same (lastTwo s) (bytes "pm")) (isPlainTime n) h in
     let t = test-plain n (p .1) in
-    let e : hour n ++ (bytes ":" ++ (minute n ++ lastTwo s)) ≡ s = sym (append-assoc (hour n) (bytes ":" ++ minute n) (lastTwo s)) ∙ ap (λ (r : List ℕ). r ++ lastTwo s) (t .whole) ∙ take-append-drop (length s - 2) s in
+    let e : hour n ++ (bytes ":" ++ (minute n ++ lastTwo s)) ≡ s =
+    sym (append-assoc (hour n) (bytes ":" ++ minute n) (lastTwo s)) ∙ ap (λ (r : List ℕ). r ++ lastTwo s) (t .whole)
+    ∙ take-append-drop (length s - 2) s in
     rw e at (is-meridiem (hour n) (minute n) (lastTwo s) (t .hours) (t .minutes) (half-day (lastTwo s) (p .0)))
 
 half-test : (x : List ℕ) → HalfDay x → (length x ≡ 2) × ((same x (bytes "am") || same x (bytes "pm")) ≡ true)

@@ -68,7 +68,8 @@ e-is = record { fine = record { again = refl; whole = refl; ending = refl }; byt
 -- a text that a sign leads, if it is not empty, and its words
 pub data Tail : List ℕ → List Word → Type 0 where
   none : Tail [] []
-  part : (w : Word) (c : ℕ) (a : List Word) (d : List ℕ) {t : List ℕ} {r : List Word} → Sign w c → Every Numeral a → hearAfter c a ≡ d → Tail t r → Tail (c ∷ (d ++ t)) (w ∷ (a ++ r))
+  part : (w : Word) (c : ℕ) (a : List Word) (d : List ℕ) {t : List ℕ} {r : List Word} → Sign w c → Every Numeral a → hearAfter c a ≡ d
+      → Tail t r → Tail (c ∷ (d ++ t)) (w ∷ (a ++ r))
 
 numerals-pending : (a r : List Word) → Every Numeral a → hears (a ++ r) ≡ record { pending = a ++ hears r .pending; bytes = hears r .bytes }
 unfolding hears dictionary
@@ -95,7 +96,8 @@ plain-after : (c : ℕ) (s : List ℕ) → eqb c (code ".") ≡ false → plain 
 unfolding hearAfter
 plain-after c s n h = let p = plain-some s h in rw (p .2) (rw (n, ← p .2) (hear-plain s h))
 
-pub plain-part : {w : Word} {c : ℕ} → Sign w c → eqb c (code ".") ≡ false → (x : List ℕ) → plain x ≡ true → {t : List ℕ} {r : List Word} → Tail t r → Tail (c ∷ (x ++ t)) (w ∷ (cardinal x ++ r))
+pub plain-part : {w : Word} {c : ℕ} → Sign w c → eqb c (code ".") ≡ false → (x : List ℕ) → plain x ≡ true → {t : List ℕ} {r : List Word}
+    → Tail t r → Tail (c ∷ (x ++ t)) (w ∷ (cardinal x ++ r))
 plain-part {w} {c} s n x h k = part w c (cardinal x) x s (cardinal-numerals x) (plain-after c x n h) k
 
 digits-back : (s : List ℕ) → map digitOf (digits s) ≡ clean s

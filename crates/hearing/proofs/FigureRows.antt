@@ -94,7 +94,15 @@ unsigned-is a h {f} {x} no-point e =
     let s = exponent-start e in
     rw (digits-span a x h (s .0), drop-append-seam a x, s .1, ne-eqb (length a) 0 (λ o. omega (arith, digits-some a h))) (exponent-is e)
 unsigned-is a h {x = x} (a-point f k) e =
-    rw (digits-span a (code "." ∷ (f ++ x)) h refl, drop-append-seam a (code "." ∷ (f ++ x)), starts-cons (code ".") (code ".") (f ++ x), digits-span f x k (exponent-start e .0), drop-append-seam f x, ne-eqb (length a) 0 (λ o. omega (arith, digits-some a h))) (exponent-is e)
+    rw (
+      digits-span a (code "." ∷ (f ++ x)) h refl,
+      drop-append-seam a (code "." ∷ (f ++ x)),
+      starts-cons (code ".") (code ".") (f ++ x),
+      digits-span f x k (exponent-start e .0),
+      drop-append-seam f x,
+      ne-eqb (length a) 0 (λ o. omega (arith, digits-some a h)),
+    )
+    (exponent-is e)
 
 figure-double : {m f x : List ℕ} → Minus m → (a : List ℕ) → isDigits a ≡ true → Fraction f → Exponent x → isDouble (m ++ (a ++ (f ++ x))) ≡ true
 figure-double {f = f} {x = x} no-minus a h t e = rw (starts-digits (code "-") a (f ++ x) refl h) (unsigned-is a h t e)
@@ -114,7 +122,11 @@ marked : (a : List ℕ) (c : ℕ) (r : List ℕ) → digit c ≡ false → isLea
 unfolding all
 marked a c r n =
     let s = a ++ c ∷ r in
-    untaken (isLeadingZeroDigits s) (λ e. true≢false (sym (digits-all s (and-eq-true-iff (ltb 1 (length s) && starts (code "0") s) (isDigits s) .0 e .1)) ∙ all-append digit a (c ∷ r) ∙ rw n (and-false (all digit a))))
+    untaken (isLeadingZeroDigits s)
+    (λ e.
+    true≢false
+    (sym (digits-all s (and-eq-true-iff (ltb 1 (length s) && starts (code "0") s) (isDigits s) .0 e .1)) ∙ all-append digit a (c ∷ r)
+    ∙ rw n (and-false (all digit a))))
 
 figure-leading : {m f x : List ℕ} → Minus m → (a : List ℕ) → plain a ≡ true → Fraction f → Exponent x → isLeadingZeroDigits (m ++ (a ++ (f ++ x))) ≡ false
 figure-leading {f = f} {x = x} a-minus a h t e = marked [] (code "-") (a ++ (f ++ x)) refl

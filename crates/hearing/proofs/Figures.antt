@@ -124,7 +124,8 @@ module _ {s : List ℕ} {ws : List Word} (o : Spoken s ws) where
   unfolding spelled
   fine-last =
       let l = length-map ws spell in
-      every-at (λ w. plainEnd w ≡ true) (spelled ws) (length (spelled ws) - 1) [] (omega (arith, o .some)) (every-map Fine (λ w. plainEnd w ≡ true) spell (λ w f. f .ending) ws (o .fine))
+      every-at (λ w. plainEnd w ≡ true) (spelled ws) (length (spelled ws) - 1) [] (omega (arith, o .some))
+      (every-map Fine (λ w. plainEnd w ≡ true) spell (λ w f. f .ending) ws (o .fine))
 
   hear-number : hear (spelled ws) ≡ s
   unfolding hear
@@ -160,7 +161,8 @@ module _ {s : List ℕ} {ws : List Word} (o : Spoken s ws) where
       let n = length-append (spelled ws) v in
       let m = length-map ws spell in
       let f : firstWord (spelled ws ++ v) ≡ firstWord (spelled ws) = List·getD-append (spelled ws) v [] 0 (omega (arith, o .some)) in
-      let l : lastWord (spelled ws ++ v) ≡ bytes "cent" = rw (← append-snoc (spelled ws) (bytes "per") (bytes "cent" ∷ [])) (last-word (spelled ws ++ bytes "per" ∷ []) (bytes "cent")) in
+      let l : lastWord (spelled ws ++ v) ≡ bytes "cent" =
+      rw (← append-snoc (spelled ws) (bytes "per") (bytes "cent" ∷ [])) (last-word (spelled ws ++ bytes "per" ∷ []) (bytes "cent")) in
       rw (said-percent, not-lone (spelled ws ++ v) (omega (arith, o .some)), f, o .first, l, but-last (spelled ws) v, fine-known, o .heard)
 
 pub number-heeded : (s : List ℕ) → Number s → Heeded s
@@ -170,11 +172,14 @@ percent-words : (s : List ℕ) → read (s ++ bytes "%") .words ≡ read s .word
 percent-words s =
     let n = length-append s (bytes "%") in
     let t : take (length (s ++ bytes "%") - 1) (s ++ bytes "%") ≡ s = take-at s (bytes "%") (length (s ++ bytes "%") - 1) (omega arith) in
-    let e : ends (code "%") (s ++ bytes "%") ≡ true = rw (getD-at s (code "%") [] 0 (length (s ++ bytes "%") - 1) (omega arith), ne-eqb (length (s ++ bytes "%")) 0 (λ z. omega arith)) in
+    let e : ends (code "%") (s ++ bytes "%") ≡ true =
+    rw (getD-at s (code "%") [] 0 (length (s ++ bytes "%") - 1) (omega arith), ne-eqb (length (s ++ bytes "%")) 0 (λ z. omega arith)) in
     rw (percent-read (s ++ bytes "%") e, t)
 
 pub percent-heeded : (s : List ℕ) → Number s → Heeded (s ++ bytes "%")
 unfolding spelled spell all
 percent-heeded s n =
     let o = number-spoken s n in
-    heeded (s ++ bytes "%") (read s .words ++ perCent) (percent-words s) (hear-percent o) (rw (said-percent o) (every-append (λ w. solid w ≡ true) (spelled (read s .words)) (bytes "per" ∷ bytes "cent" ∷ []) (fine-solid o) (refl, (refl, tt))))
+    heeded (s ++ bytes "%") (read s .words ++ perCent) (percent-words s) (hear-percent o)
+    (rw (said-percent o)
+    (every-append (λ w. solid w ≡ true) (spelled (read s .words)) (bytes "per" ∷ bytes "cent" ∷ []) (fine-solid o) (refl, (refl, tt))))

@@ -79,7 +79,8 @@ dotted-keep : (c : ℕ) (cs : List ℕ) → all capital (c ∷ cs) ≡ true → 
 unfolding dotted keep all
 dotted-keep c [] h = rw (no-point c (and-eq-true-iff (capital c) true .0 h .0))
 dotted-keep c (d ∷ cs) h =
-    rw (no-point c (and-eq-true-iff (capital c) (all capital (d ∷ cs)) .0 h .0)) (ap (λ (s : List ℕ). c ∷ s) (dotted-keep d cs (and-eq-true-iff (capital c) (all capital (d ∷ cs)) .0 h .1)))
+    rw (no-point c (and-eq-true-iff (capital c) (all capital (d ∷ cs)) .0 h .0))
+    (ap (λ (s : List ℕ). c ∷ s) (dotted-keep d cs (and-eq-true-iff (capital c) (all capital (d ∷ cs)) .0 h .1)))
 
 -- ---- its letters
 
@@ -91,7 +92,9 @@ spelled-initials (b ∷ s) = ap (λ (ws : List (List ℕ)). initial b ∷ ws) (s
 capitals : (s : List ℕ) → all capital s ≡ true → map capitalOf (map initial s) ≡ s
 unfolding all
 capitals [] h = refl
-capitals (b ∷ s) h = ap₂ (λ (x : ℕ) (t : List ℕ). x ∷ t) (same-capital b (and-eq-true-iff (capital b) (all capital s) .0 h .0)) (capitals s (and-eq-true-iff (capital b) (all capital s) .0 h .1))
+capitals (b ∷ s) h =
+    ap₂ (λ (x : ℕ) (t : List ℕ). x ∷ t) (same-capital b (and-eq-true-iff (capital b) (all capital s) .0 h .0))
+    (capitals s (and-eq-true-iff (capital b) (all capital s) .0 h .1))
 
 all-solid : (s : List ℕ) → all capital s ≡ true → Every (λ w. solid w ≡ true) (map initial s)
 unfolding all
@@ -118,7 +121,8 @@ module _ (c d : ℕ) (cs : List ℕ) (h : all capital (c ∷ d ∷ cs) ≡ true)
   unfolding hear hearInitials all
   letters-heard =
       let p = and-eq-true-iff (capital c) (all capital (d ∷ cs)) .0 h .0 in
-      rw (not-lone (map initial (c ∷ d ∷ cs)) (omega arith), is-letter c p) (ap₂ dotted (same-capital c p) (capitals (d ∷ cs) (and-eq-true-iff (capital c) (all capital (d ∷ cs)) .0 h .1)))
+      rw (not-lone (map initial (c ∷ d ∷ cs)) (omega arith), is-letter c p)
+      (ap₂ dotted (same-capital c p) (capitals (d ∷ cs) (and-eq-true-iff (capital c) (all capital (d ∷ cs)) .0 h .1)))
 
 pub initials-heeded : (c d : ℕ) (cs : List ℕ) → all capital (c ∷ d ∷ cs) ≡ true → Heeded (dotted c (d ∷ cs))
 initials-heeded c d cs h =

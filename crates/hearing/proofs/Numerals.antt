@@ -78,8 +78,13 @@ teen-in d h = (10 + d, omega arith, sym (counted-past one 0 10 d fromTeens ∙ c
 ten-in : (d : ℕ) → suc d < 10 → Numeral (ten (suc d))
 unfolding vocabulary counted
 ten-in d h =
-    let e : 10 + (9 + d) ≡ 19 + d = omega arith in
-    (19 + d, omega arith, sym (rw e at (counted-past one 0 10 (9 + d) fromTeens) ∙ counted-past teen 1 9 d fromTens ∙ counted-in ten 1 9 d (hundred ∷ counted scale 1 3) (omega arith) ∙ ap ten (omega arith)))
+    let e : 10 + (9 + d) ≡ 19 + d = omega arith in (
+      19 + d,
+      omega arith,
+      sym
+          (rw e at (counted-past one 0 10 (9 + d) fromTeens) ∙ counted-past teen 1 9 d fromTens
+          ∙ counted-in ten 1 9 d (hundred ∷ counted scale 1 3) (omega arith) ∙ ap ten (omega arith)),
+    )
 
 hundred-in : Numeral hundred
 unfolding vocabulary counted
@@ -112,7 +117,9 @@ few-numerals = recur-induct (λ s ws. Digits s → Every Numeral ws) [] cardinal
     step f [] h d = tt
     step f (a ∷ []) h d = (one-in a (d .0), tt)
     step f (a ∷ b ∷ []) h d = pair-in a b (d .0) (d .1 .0)
-    step f (a ∷ b ∷ c ∷ []) h d = cond-elim (Every Numeral) (eqb a 0) (λ e. h (b ∷ c ∷ []) (omega arith) (d .1)) (λ e. (one-in a (d .0), (hundred-in, pair-in b c (d .1 .0) (d .1 .1 .0))))
+    step f (a ∷ b ∷ c ∷ []) h d =
+        cond-elim (Every Numeral) (eqb a 0) (λ e. h (b ∷ c ∷ []) (omega arith) (d .1))
+        (λ e. (one-in a (d .0), (hundred-in, pair-in b c (d .1 .0) (d .1 .1 .0))))
     step f (a ∷ b ∷ c ∷ e ∷ s) h d =
         let t = a ∷ b ∷ c ∷ e ∷ s in
         let n = splitAt (length t) in

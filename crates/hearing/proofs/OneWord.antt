@@ -91,7 +91,10 @@ module _ (b : ℕ) (t : List ℕ) (h : all small (b ∷ t) ≡ true) where
   not-meridiem : isMeridiemTime (b ∷ t) ≡ false
   not-meridiem =
       let u = timeOf (b ∷ t) in
-      let e : span colonNorPoint u ≡ length u = all-span colonNorPoint u (all-within small colonNorPoint (λ b k. rw (not-byte (code ":") refl b k, not-byte (code ".") refl b k)) u (all-parted small (length (b ∷ t) - 2) (b ∷ t) h .0)) in
+      let e : span colonNorPoint u ≡ length u =
+      all-span colonNorPoint u
+      (all-within small colonNorPoint (λ b k. rw (not-byte (code ":") refl b k, not-byte (code ".") refl b k)) u
+      (all-parted small (length (b ∷ t) - 2) (b ∷ t) h .0)) in
       rw (le-ltb (span colonNorPoint u) (length u) (omega arith)) (and-false (endsInMeridiem (b ∷ t)))
 
   not-digits : isDigits (b ∷ t) ≡ false
@@ -121,7 +124,20 @@ module _ (b : ℕ) (t : List ℕ) (h : all small (b ∷ t) ≡ true) where
   unfolding readStep
   word-read =
       read-eq (b ∷ t)
-      ∙ rw (not-dotted, not-comma, not-time, not-meridiem, not-zeros, not-digits, not-double, not-ordinal, ends-otherwise small (code "%") (b ∷ t) refl h, no-unit, lowered (b ∷ t) h, ne-eqb (suc (length t)) 0 (omega arith))
+      ∙ rw (
+        not-dotted,
+        not-comma,
+        not-time,
+        not-meridiem,
+        not-zeros,
+        not-digits,
+        not-double,
+        not-ordinal,
+        ends-otherwise small (code "%") (b ∷ t) refl h,
+        no-unit,
+        lowered (b ∷ t) h,
+        ne-eqb (suc (length t)) 0 (omega arith),
+      )
 
 pub word-heeded : (s : List ℕ) → 2 ≤ length s → all small s ≡ true → listed s tableWords ≡ false → Heeded s
 unfolding hear spelled spell

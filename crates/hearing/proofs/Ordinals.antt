@@ -78,7 +78,8 @@ module _ (s : List ℕ) (p : plain s ≡ true) where
   words : read name .words ≡ ordinal s
   unfolding all
   words =
-      read-ordinal s u (plain-digits s p) (suffix-elim (λ u. all letter u ≡ true) refl refl refl refl s) (suffix-elim (λ u. all doubleByte u ≡ false) refl refl refl refl s) is-ordinal
+      read-ordinal s u (plain-digits s p) (suffix-elim (λ u. all letter u ≡ true) refl refl refl refl s)
+      (suffix-elim (λ u. all doubleByte u ≡ false) refl refl refl refl s) is-ordinal
       ∙ rw (before-suffix, take-at s u (length s) refl)
 
 -- ---- the forms

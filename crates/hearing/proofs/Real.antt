@@ -63,12 +63,20 @@ module _ (s : List ℕ) (m : starts (code "-") s ≡ false) (p : starts (code "+
   real-pointed : real s ≡ pointed s
   real-pointed = real-plain s m p (omega (arith, all-span notE s n))
 
-  real-e : (r : List ℕ) → starts (code "-") (s ++ (bytes "e" ++ r)) ≡ false → starts (code "+") (s ++ (bytes "e" ++ r)) ≡ false → real (s ++ (bytes "e" ++ r)) ≡ real s ++ other (bytes "e") ∷ real r
+  real-e : (r : List ℕ) → starts (code "-") (s ++ (bytes "e" ++ r)) ≡ false → starts (code "+") (s ++ (bytes "e" ++ r)) ≡ false
+      → real (s ++ (bytes "e" ++ r)) ≡ real s ++ other (bytes "e") ∷ real r
   unfolding realStep
   real-e r a b =
       let e : eAt (s ++ code "e" ∷ r) ≡ length s = span-before notE s (code "e") r refl ∙ all-span notE s n in
       real-eq (s ++ code "e" ∷ r)
-      ∙ rw (a, b, e, lt-ltb (length s) (length (s ++ code "e" ∷ r)) (omega (arith, length-append s (code "e" ∷ r))), take-append-seam s (code "e" ∷ r), drop-append-add s (code "e" ∷ r) 1)
+      ∙ rw (
+        a,
+        b,
+        e,
+        lt-ltb (length s) (length (s ++ code "e" ∷ r)) (omega (arith, length-append s (code "e" ∷ r))),
+        take-append-seam s (code "e" ∷ r),
+        drop-append-add s (code "e" ∷ r) 1,
+      )
 
 -- digits alone
 pub real-digits : (s : List ℕ) → isDigits s ≡ true → real s ≡ cardinal s
@@ -122,7 +130,9 @@ module _ (a : List ℕ) (h : isDigits a ≡ true) where
     real-exponent : {x : List ℕ} (e : Exponent x) → real (a ++ (f ++ x)) ≡ cardinal a ++ (fractionWords t ++ exponentWords e)
     real-exponent no-exponent = rw (append-nil f, append-nil (fractionWords t)) real-fraction
     real-exponent (an-exponent g x s k) =
-        let whole : (c : ℕ) → digit c ≡ false → starts c ((a ++ f) ++ (bytes "e" ++ (g ++ x))) ≡ false = λ c n. rw (append-assoc a f (bytes "e" ++ (g ++ x))) (starts-digits c a (f ++ (bytes "e" ++ (g ++ x))) n h) in
+        let whole : (c : ℕ) → digit c ≡ false
+        → starts c ((a ++ f) ++ (bytes "e" ++ (g ++ x))) ≡ false = λ c n.
+        rw (append-assoc a f (bytes "e" ++ (g ++ x))) (starts-digits c a (f ++ (bytes "e" ++ (g ++ x))) n h) in
         ap real (sym (append-assoc a f (bytes "e" ++ (g ++ x))))
         ∙ real-e (a ++ f) (start (code "-") refl) (start (code "+") refl) notE-all (g ++ x) (whole (code "-") refl) (whole (code "+") refl)
         ∙ rw (real-fraction, real-sign s x, real-digits x (plain-digits x k)) (append-assoc (cardinal a) (fractionWords t) (other (bytes "e") ∷ (signWords s ++ cardinal x)))

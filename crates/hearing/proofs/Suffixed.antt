@@ -81,7 +81,9 @@ module _ (s u : List ℕ) (h : isDigits s ≡ true) (l : all letter u ≡ true) 
   no-meridiem : isMeridiemTime name ≡ false
   no-meridiem =
       let t = timeOf name in
-      let e : span colonNorPoint t ≡ length t = all-span colonNorPoint t (all-within letterOrDigit colonNorPoint no-mark t (all-split letterOrDigit name (length name - 2) plain-bytes .0)) in
+      let e : span colonNorPoint t ≡ length t =
+      all-span colonNorPoint t
+      (all-within letterOrDigit colonNorPoint no-mark t (all-split letterOrDigit name (length name - 2) plain-bytes .0)) in
       rw (e, le-ltb (length t) (length t) (omega arith)) (and-false (endsInMeridiem name))
 
   not-double : all doubleByte name ≡ true → ⊥
@@ -94,7 +96,10 @@ module _ (s u : List ℕ) (h : isDigits s ≡ true) (l : all letter u ≡ true) 
   no-double = untaken (isDouble name) (λ e. not-double (double-bytes name e))
 
   no-percent : ends (code "%") name ≡ false
-  no-percent = rw (apart letterOrDigit (code "%") (getD name (length name - 1) 0) refl (all-at letterOrDigit name (length name - 1) plain-bytes (omega (arith, some)))) (and-false (not (eqb (length name) 0)))
+  no-percent =
+      rw (apart letterOrDigit (code "%") (getD name (length name - 1) 0) refl
+      (all-at letterOrDigit name (length name - 1) plain-bytes (omega (arith, some))))
+      (and-false (not (eqb (length name) 0)))
 
   no-leading : isLeadingZeroDigits name ≡ false
   no-leading = rw no-digits (and-false (ltb 1 (length name) && starts (code "0") name))

@@ -71,8 +71,11 @@ module _ (h t : List ℕ) (p : isHour h ≡ true) where
 
   -- the rows before row 4
   first-rows : (eqb (length name) 0 ≡ false) × (isDottedAbbrev name ≡ false) × (isCommaInt name ≡ false)
-  first-rows =
-      (ne-eqb (length name) 0 (λ z. omega (arith, name-length)), outside (isDottedAbbrev name) dottedByte (code ":") name (dotted-bytes name) refl has-colon, outside (isCommaInt name) digitOrComma (code ":") name (comma-bytes name) refl has-colon)
+  first-rows = (
+    ne-eqb (length name) 0 (λ z. omega (arith, name-length)),
+    outside (isDottedAbbrev name) dottedByte (code ":") name (dotted-bytes name) refl has-colon,
+    outside (isCommaInt name) digitOrComma (code ":") name (comma-bytes name) refl has-colon,
+  )
 
 time-row : (h m : List ℕ) → isHour h ≡ true → isMinute m ≡ true → read (h ++ (bytes ":" ++ m)) ≡ by Time (clock h m)
 unfolding readStep splitOnce
@@ -81,10 +84,23 @@ time-row h m p q =
     let at : span (except (code ":")) s ≡ length h = colon-at (except (code ":")) refl no-colon h m p in
     let n = name-length h m p in
     let (a, b, c) = first-rows h m p in
-    read-eq s ∙ rw (a, b, c, at, take-append-seam h (bytes ":" ++ m), past-byte h 58 m, hour-minute h m p q, lt-ltb (length h) (length s) (omega arith), drop-append-seam h (bytes ":" ++ m))
+    read-eq s
+    ∙ rw (
+      a,
+      b,
+      c,
+      at,
+      take-append-seam h (bytes ":" ++ m),
+      past-byte h 58 m,
+      hour-minute h m p q,
+      lt-ltb (length h) (length s) (omega arith),
+      drop-append-seam h (bytes ":" ++ m),
+    )
 
 -- am and pm are lowered already, and end in "m"
-half-day : (x : List ℕ) → HalfDay x → (length x ≡ 2) × ((sameBy lower x (bytes "am") || sameBy lower x (bytes "pm")) ≡ true) × (has (code "m") x ≡ true) × Every (λ w. solid w ≡ true) (spelled (letters x))
+half-day : (x : List ℕ) → HalfDay x
+    → (length x ≡ 2) × ((sameBy lower x (bytes "am") || sameBy lower x (bytes "pm")) ≡ true) × (has (code "m") x ≡ true) × Every
+    (λ w. solid w ≡ true) (spelled (letters x))
 unfolding sameBy has letters letterWord chars spelled spell all
 half-day x am = (refl, refl, refl, (refl, (refl, tt)))
 half-day x pm = (refl, refl, refl, (refl, (refl, tt)))
@@ -112,13 +128,26 @@ module _ (h m x : List ℕ) (p : isHour h ≡ true) (q : isMinute m ≡ true) (d
   at = colon-at colonNorPoint refl no-separator h m p
 
   is-meridiem : isMeridiemTime whole ≡ true
-  is-meridiem = rw (back, front, at, le-leb 2 (length whole) (omega (arith, whole-length)), half-day x d .1, take-append-seam h (bytes ":" ++ m), past-byte h 58 m, hour-minute h m p q, lt-ltb (length h) (length time) (omega (arith, name-length h m p)))
+  is-meridiem =
+      rw (
+        back,
+        front,
+        at,
+        le-leb 2 (length whole) (omega (arith, whole-length)),
+        half-day x d .1,
+        take-append-seam h (bytes ":" ++ m),
+        past-byte h 58 m,
+        hour-minute h m p q,
+        lt-ltb (length h) (length time) (omega (arith, name-length h m p)),
+      )
 
   meridiem-row : read whole ≡ by Meridiem (clock h m ++ letters x)
   unfolding readStep timeParts clockLetters
   meridiem-row =
       let (a, b, c) = first-rows h (m ++ x) p in
-      let e = outside (isTime whole) timeByte (code "m") whole (time-bytes whole) refl (has-right (code "m") h (bytes ":" ++ (m ++ x)) (has-right (code "m") (bytes ":" ++ m) x (half-day x d .2))) in
+      let e =
+      outside (isTime whole) timeByte (code "m") whole (time-bytes whole) refl
+      (has-right (code "m") h (bytes ":" ++ (m ++ x)) (has-right (code "m") (bytes ":" ++ m) x (half-day x d .2))) in
       read-eq whole ∙ rw (a, b, c, e, is-meridiem, front, back, at, take-append-seam h (bytes ":" ++ m), past-byte h 58 m)
 
 -- ---- what is heard

@@ -113,15 +113,21 @@ module _ (h m : List ℕ) (q : isMinute m ≡ true) where
 
   clock-known : known (spelled (clock h m)) ≡ clock h m
   unfolding know knowIn vocabulary counted spell lexicon
-  clock-known = every-known (clock h m) (every-imply TimeWord (λ w. know (spell w) ≡ w) (λ w. ⊎-elim (numeral-known w) (λ (e : w ≡ oh). ap (λ v. know (spell v)) e ∙ sym e)) (clock h m) clock-words)
+  clock-known =
+      every-known (clock h m)
+      (every-imply TimeWord (λ w. know (spell w) ≡ w) (λ w. ⊎-elim (numeral-known w) (λ (e : w ≡ oh). ap (λ v. know (spell v)) e ∙ sym e))
+      (clock h m) clock-words)
 
   pub clock-solid : Every (λ w. solid w ≡ true) (spelled (clock h m))
   unfolding vocabulary counted spell lexicon all
   clock-solid = clock-test solid refl refl
 
   -- each of them fails a test that the vocabulary fails
-  clock-fails : (p : List ℕ → Bool) → allWords (λ w. not (p (spell w))) vocabulary ≡ true → not (p (bytes "oh")) ≡ true → (i : ℕ) → i < length (clock h m) → p (getD (spelled (clock h m)) i []) ≡ false
-  clock-fails p a b i l = not-true (p (getD (spelled (clock h m)) i [])) (every-at (λ w. not (p w) ≡ true) (spelled (clock h m)) i [] (rw spelled-length l) (clock-test (λ w. not (p w)) a b))
+  clock-fails : (p : List ℕ → Bool) → allWords (λ w. not (p (spell w))) vocabulary ≡ true → not (p (bytes "oh")) ≡ true → (i : ℕ)
+      → i < length (clock h m) → p (getD (spelled (clock h m)) i []) ≡ false
+  clock-fails p a b i l =
+      not-true (p (getD (spelled (clock h m)) i []))
+      (every-at (λ w. not (p w) ≡ true) (spelled (clock h m)) i [] (rw spelled-length l) (clock-test (λ w. not (p w)) a b))
 
   -- with a minute the words are told as a time
   module _ (p : isHour h ≡ true) (n : m ≡ bytes "00" → ⊥) where

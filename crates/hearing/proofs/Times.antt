@@ -38,8 +38,11 @@ hour-parts h e = ((and-eq-true-iff (plain h) (leb (length h) 2) .0 e .0), leb-tr
 
 pub minute-parts : (m : List ℕ) → isMinute m ≡ true → (isDigits m ≡ true) × (length m ≡ 2) × (getD m 0 0 ≤ 53)
 minute-parts m e =
-    let p : isNDigits 2 m ≡ true = and-eq-true-iff (isNDigits 2 m) (leb (getD m 0 0) 53) .0 e .0 in
-    ((and-eq-true-iff (eqb (length m) 2) (isDigits m) .0 p .1), eqb-true (length m) 2 (and-eq-true-iff (eqb (length m) 2) (isDigits m) .0 p .0), leb-true (getD m 0 0) 53 (and-eq-true-iff (isNDigits 2 m) (leb (getD m 0 0) 53) .0 e .1))
+    let p : isNDigits 2 m ≡ true = and-eq-true-iff (isNDigits 2 m) (leb (getD m 0 0) 53) .0 e .0 in (
+      (and-eq-true-iff (eqb (length m) 2) (isDigits m) .0 p .1),
+      eqb-true (length m) 2 (and-eq-true-iff (eqb (length m) 2) (isDigits m) .0 p .0),
+      leb-true (getD m 0 0) 53 (and-eq-true-iff (isNDigits 2 m) (leb (getD m 0 0) 53) .0 e .1),
+    )
 
 -- the bytes of an hour and of a minute
 abbrev hourBytes : ℕ → List ℕ
@@ -148,7 +151,9 @@ heard h m (w ∷ v ∷ u ∷ ws) vs p q = absurd (false≢true p)
 small-append : (ws vs : List Word) → allSmall ws ≡ true → allSmall vs ≡ true → allSmall (ws ++ vs) ≡ true
 unfolding allSmall
 small-append [] vs p q = q
-small-append (w ∷ ws) vs p q = rw (and-eq-true-iff (ltb (smallValue w) 100) (allSmall ws) .0 p .0) (small-append ws vs (and-eq-true-iff (ltb (smallValue w) 100) (allSmall ws) .0 p .1) q)
+small-append (w ∷ ws) vs p q =
+    rw (and-eq-true-iff (ltb (smallValue w) 100) (allSmall ws) .0 p .0)
+    (small-append ws vs (and-eq-true-iff (ltb (smallValue w) 100) (allSmall ws) .0 p .1) q)
 
 late-append : (ws vs : List Word) → anyLate vs ≡ true → anyLate (ws ++ vs) ≡ true
 unfolding anyLate

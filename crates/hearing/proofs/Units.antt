@@ -103,7 +103,15 @@ module _ (s : List ℕ) (k : ℕ) (p : plain s ≡ true) (h : k < length unitWor
 
   with-unit : hasUnit name ≡ true
   unfolding hasUnit
-  with-unit = rw (unit-at, take-at s u (length s) refl, drop-at s u (length s) refl, in-table k h, all-within digit digitOrComma (λ b d. rw d) s digits-s, ne-eqb (length s) 0 (omega (arith, digits-some s (plain-digits s p))))
+  with-unit =
+      rw (
+        unit-at,
+        take-at s u (length s) refl,
+        drop-at s u (length s) refl,
+        in-table k h,
+        all-within digit digitOrComma (λ b d. rw d) s digits-s,
+        ne-eqb (length s) 0 (omega (arith, digits-some s (plain-digits s p))),
+      )
 
   words : read name .words ≡ cardinal s ++ other (rowWord k) ∷ []
   words =

@@ -49,7 +49,12 @@ ones-sound : (s : List ℕ) → Digits s → Sound (map one s)
 unfolding allSmall anyLate smallValue
 ones-sound [] h = record { untimely = refl; alone = refl }
 ones-sound (d ∷ []) h = single-sound (one d) (omega (arith, h .0))
-ones-sound (d ∷ b ∷ s) h = record { untimely = rw (ones-late (b ∷ s) (h .1)) (and-false (allSmall (map one (d ∷ b ∷ s)))); alone = rw (ne-eqb (length (map one (d ∷ b ∷ s))) 1 (λ e. omega arith)) }
+ones-sound (d ∷ b ∷ s) h =
+    record {
+      untimely = rw (ones-late (b ∷ s) (h .1)) (and-false (allSmall (map one (d ∷ b ∷ s))));
+      alone =
+          rw (ne-eqb (length (map one (d ∷ b ∷ s))) 1 (λ e. omega arith));
+    }
 
 join-sound : (l : List Word) (k : ℕ) (r : List Word) → Sound r → Sound (join l (scale k) r)
 unfolding join smallValue

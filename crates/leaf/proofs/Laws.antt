@@ -91,7 +91,9 @@ one-initial : (b : ℕ) (s : List ℕ) → initials (b ∷ s) ≡ initials (b �
 unfolding initials keep
 one-initial b s = go (except (code ".") b)
   where
-    go : (t : Bool) → map (λ b. other (letterWord (b ∷ []))) (cond t (b ∷ keep (except (code ".")) s) (keep (except (code ".")) s)) ≡ map (λ b. other (letterWord (b ∷ []))) (cond t (b ∷ []) []) ++ map (λ b. other (letterWord (b ∷ []))) (keep (except (code ".")) s)
+    go : (t : Bool)
+        → map (λ b. other (letterWord (b ∷ []))) (cond t (b ∷ keep (except (code ".")) s) (keep (except (code ".")) s)) ≡ map
+        (λ b. other (letterWord (b ∷ []))) (cond t (b ∷ []) []) ++ map (λ b. other (letterWord (b ∷ []))) (keep (except (code ".")) s)
     go true = refl
     go false = refl
 

@@ -55,7 +55,9 @@ pub split-two : (c : ℕ) (s : List ℕ) → leb 2 (length (split c s)) ≡ ltb 
 split-two c s = go (ltb (span (except c) s) (length s)) refl
   where
     go : (t : Bool) → ltb (span (except c) s) (length s) ≡ t → leb 2 (length (split c s)) ≡ t
-    go true e = rw (split-more c s (ltb-true _ _ e)) (le-leb 2 (suc (length (split c (drop (span (except c) s + 1) s)))) (omega (arith, split-some c (drop (span (except c) s + 1) s))))
+    go true e =
+        rw (split-more c s (ltb-true _ _ e))
+        (le-leb 2 (suc (length (split c (drop (span (except c) s + 1) s)))) (omega (arith, split-some c (drop (span (except c) s + 1) s))))
     go false e = rw (split-last c s (ltb-false _ _ e))
 
 -- the first part fails
@@ -73,7 +75,8 @@ unfolding allParts
 parts-end p c s f h = let q : p s ≡ true = rw (take-all (span (except c) s) s h) at f in rw (split-last c s h, q)
 
 -- the first part passes, and the others decide
-pub parts-more : (p : List ℕ → Bool) (c : ℕ) (s : List ℕ) → p (take (span (except c) s) s) ≡ true → span (except c) s < length s → allParts p (split c s) ≡ allParts p (split c (drop (span (except c) s + 1) s))
+pub parts-more : (p : List ℕ → Bool) (c : ℕ) (s : List ℕ) → p (take (span (except c) s) s) ≡ true → span (except c) s < length s
+    → allParts p (split c s) ≡ allParts p (split c (drop (span (except c) s + 1) s))
 unfolding allParts
 parts-more p c s f h = rw (split-more c s h, f)
 

@@ -73,7 +73,9 @@ unfolding afterLast
 last-snoc p [] x = refl
 last-snoc p (y ∷ s) x = rw (last-snoc p s x) (go (p x))
   where
-    go : (b : Bool) → cond (eqb (cond b (suc (length s)) (afterLast p s)) 0) (cond (p y) 1 0) (suc (cond b (suc (length s)) (afterLast p s))) ≡ cond b (suc (suc (length s))) (cond (eqb (afterLast p s) 0) (cond (p y) 1 0) (suc (afterLast p s)))
+    go : (b : Bool)
+        → cond (eqb (cond b (suc (length s)) (afterLast p s)) 0) (cond (p y) 1 0) (suc (cond b (suc (length s)) (afterLast p s))) ≡ cond b
+        (suc (suc (length s))) (cond (eqb (afterLast p s) 0) (cond (p y) 1 0) (suc (afterLast p s)))
     go true = rw (ne-eqb (suc (length s)) 0 (omega arith))
     go false = refl
 
@@ -96,7 +98,8 @@ last-rest p q f (b ∷ s) = go (afterLast p s) (p b) refl (last-rest p q f s)
     go zero false e h = rw (f b e, h)
     go (suc n) t e h = rw (ne-eqb (suc n) 0 (omega arith)) h
 
-pub same-more : (f : ℕ → ℕ) (x y : List ℕ) (i : ℕ) → i < length x → i < length y → sameBy f (drop i x) (drop i y) ≡ eqb (f (getD x i 0)) (getD y i 0) && sameBy f (drop (i + 1) x) (drop (i + 1) y)
+pub same-more : (f : ℕ → ℕ) (x y : List ℕ) (i : ℕ) → i < length x → i < length y
+    → sameBy f (drop i x) (drop i y) ≡ eqb (f (getD x i 0)) (getD y i 0) && sameBy f (drop (i + 1) x) (drop (i + 1) y)
 unfolding sameBy
 same-more f x y i h k = rw (add-one, drop-cons x i 0, drop-cons y i 0)
 
@@ -200,7 +203,8 @@ unfolding span
 span-fails p [] h = absurd (omega arith)
 span-fails p (b ∷ s) h = go (p b) refl h (span-fails p s)
   where
-    go : (t : Bool) → p b ≡ t → cond t (suc (span p s)) 0 < suc (length s) → (span p s < length s → p (getD s (span p s) 0) ≡ false) → p (getD (b ∷ s) (cond t (suc (span p s)) 0) 0) ≡ false
+    go : (t : Bool) → p b ≡ t → cond t (suc (span p s)) 0 < suc (length s) → (span p s < length s → p (getD s (span p s) 0) ≡ false)
+        → p (getD (b ∷ s) (cond t (suc (span p s)) 0) 0) ≡ false
     go true e h i = i (omega arith)
     go false e h i = e
 

@@ -37,7 +37,9 @@ sets-append l i (a ∷ vs) ws =
 pub sets-take-suc : (l : List ℕ) (i : ℕ) (vs : List ℕ) (j : ℕ) → j < length vs → length (take j vs) ≡ j
     → set (sets l i (take j vs)) (i + j) (getD vs j 0) ≡ sets l i (take (j + 1) vs)
 sets-take-suc l i vs j h e =
-    sym (ap (λ (k : ℕ). sets l i (take k vs)) (add-one j) ∙ ap (sets l i) (take-suc vs j 0 h) ∙ sets-append l i (take j vs) (getD vs j 0 ∷ []) ∙ ap (λ (k : ℕ). set (sets l i (take j vs)) (i + k) (getD vs j 0)) e)
+    sym
+    (ap (λ (k : ℕ). sets l i (take k vs)) (add-one j) ∙ ap (sets l i) (take-suc vs j 0 h) ∙ sets-append l i (take j vs) (getD vs j 0 ∷ [])
+    ∙ ap (λ (k : ℕ). set (sets l i (take j vs)) (i + k) (getD vs j 0)) e)
 
 -- what falls past the end may be left off
 pub sets-clip : (l : List ℕ) (i : ℕ) (vs : List ℕ) (k : ℕ) → length l ≤ i + k → sets l i (take k vs) ≡ sets l i vs

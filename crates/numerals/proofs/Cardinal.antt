@@ -44,7 +44,10 @@ cardinal-local f g (a ∷ b ∷ c ∷ []) h = ap (λ (ws : List Word). cond (eqb
 cardinal-local f g (a ∷ b ∷ c ∷ d ∷ s) h =
     let t = a ∷ b ∷ c ∷ d ∷ s in
     let p = split-parts (length t) (omega arith) in
-    rw (h (take (splitAt (length t)) t) (omega (arith, length-take (splitAt (length t)) t, p .left)), h (drop (splitAt (length t)) t) (omega (arith, length-drop (splitAt (length t)) t, p .whole, p .right)))
+    rw (
+      h (take (splitAt (length t)) t) (omega (arith, length-take (splitAt (length t)) t, p .left)),
+      h (drop (splitAt (length t)) t) (omega (arith, length-drop (splitAt (length t)) t, p .whole, p .right)),
+    )
 
 pub cardinal-eq : (s : List ℕ) → cardinalFew s ≡ cardinalStep cardinalFew s
 unfolding cardinalFew
@@ -164,7 +167,8 @@ module _ (s : List ℕ) (h : HeldSink) where
   hold-2 e p = rw (cardinal-2 s e) p
 
   -- three digits: the hundreds, and the rest read again
-  pub hold-3 : length s ≡ 3 → {g r : HeldSink} → g ≡ holdAll (map numberOf (hundreds (getD s 0 0))) h → r ≡ holdAll (map numberOf (cardinalFew (drop 1 s))) g → r ≡ holdAll (map numberOf (cardinalFew s)) h
+  pub hold-3 : length s ≡ 3 → {g r : HeldSink} → g ≡ holdAll (map numberOf (hundreds (getD s 0 0))) h
+      → r ≡ holdAll (map numberOf (cardinalFew (drop 1 s))) g → r ≡ holdAll (map numberOf (cardinalFew s)) h
   hold-3 e p q = rw (cardinal-3 s e, holds-append (hundreds (getD s 0 0)) (cardinalFew (drop 1 s)) h, ← p) q
 
   -- more digits: the left part, the scale, the right part
@@ -177,11 +181,16 @@ module _ (s : List ℕ) (h : HeldSink) where
       let n = length s - 3 * k in
       let l = cardinalFew (take n s) in
       let v = scaleWord (take n s) k in
-      let c : cardinalFew s ≡ l ++ (v ++ cardinalFew (drop n s)) = subst⁻¹ (λ (j : ℕ). cardinalFew s ≡ cardinalFew (take (length s - 3 * j) s) ++ (scaleWord (take (length s - 3 * j) s) j ++ cardinalFew (drop (length s - 3 * j) s))) e (cardinal-more s z m) in
+      let c : cardinalFew s ≡ l ++ (v ++ cardinalFew (drop n s)) =
+      subst⁻¹
+      (λ (j : ℕ). cardinalFew s ≡ cardinalFew (take (length s - 3 * j) s)
+      ++ (scaleWord (take (length s - 3 * j) s) j ++ cardinalFew (drop (length s - 3 * j) s))) e
+      (cardinal-more s z m) in
       rw (c, holds-append l (v ++ cardinalFew (drop n s)) h, ← p, holds-append v (cardinalFew (drop n s)) f, ← q) w
 
 -- both parts of a split are shorter
-pub parts-shorter : (s : List ℕ) (k : ℕ) → 3 < length s → k ≡ scaleFor (length s) → (3 * k < length s) × (length (take (length s - 3 * k) s) < length s) × (length (drop (length s - 3 * k) s) < length s)
+pub parts-shorter : (s : List ℕ) (k : ℕ) → 3 < length s → k ≡ scaleFor (length s)
+    → (3 * k < length s) × (length (take (length s - 3 * k) s) < length s) × (length (drop (length s - 3 * k) s) < length s)
 parts-shorter s k h e =
     let p = split-parts (length s) h in
     let r : 3 * k < length s = rw e (p .right) in

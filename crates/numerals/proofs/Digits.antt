@@ -71,7 +71,8 @@ unfolding clean keep
 clean-commas [] = refl
 clean-commas (b ∷ s) = go (eqb b 44) refl (clean-commas s) ∙ sym (clean-cons b s)
   where
-    go : (t : Bool) → eqb b 44 ≡ t → clean (keep (except 44) s) ≡ clean s → clean (cond (not t) (b ∷ keep (except 44) s) (keep (except 44) s)) ≡ cond (digit b) (digitValue b ∷ clean s) (clean s)
+    go : (t : Bool) → eqb b 44 ≡ t → clean (keep (except 44) s) ≡ clean s
+        → clean (cond (not t) (b ∷ keep (except 44) s) (keep (except 44) s)) ≡ cond (digit b) (digitValue b ∷ clean s) (clean s)
     go true e r = r ∙ rw (eqb-true b 44 e)
     go false e r = clean-cons b (keep (except 44) s) ∙ rw r
 
@@ -101,7 +102,8 @@ unfolding afterLast
 last-none [] e = no-clean
 last-none (b ∷ s) e = go (digit b) (eqb (afterLast digit s) 0) refl refl e (last-none s)
   where
-    go : (t u : Bool) → digit b ≡ t → eqb (afterLast digit s) 0 ≡ u → cond u (cond t 1 0) (suc (afterLast digit s)) ≡ 0 → (afterLast digit s ≡ 0 → clean s ≡ []) → clean (b ∷ s) ≡ []
+    go : (t u : Bool) → digit b ≡ t → eqb (afterLast digit s) 0 ≡ u → cond u (cond t 1 0) (suc (afterLast digit s)) ≡ 0
+        → (afterLast digit s ≡ 0 → clean s ≡ []) → clean (b ∷ s) ≡ []
     go true true d z e r = absurd (omega arith)
     go false true d z e r = clean-cons b s ∙ rw d (r (eqb-true (afterLast digit s) 0 z))
     go t false d z e r = absurd (omega arith)
@@ -114,7 +116,8 @@ clean-last (b ∷ s) n = go (digit b) (eqb (afterLast digit s) 0) refl refl n (c
     k : ℕ
     k = afterLast digit s
 
-    more : (m : ℕ) → k ≡ suc m → clean s ≡ clean (take m s) ++ digitValue (getD s m 0) ∷ [] → clean (b ∷ s) ≡ clean (take (suc k - 1) (b ∷ s)) ++ digitValue (getD (b ∷ s) (suc k - 1) 0) ∷ []
+    more : (m : ℕ) → k ≡ suc m → clean s ≡ clean (take m s) ++ digitValue (getD s m 0) ∷ []
+        → clean (b ∷ s) ≡ clean (take (suc k - 1) (b ∷ s)) ++ digitValue (getD (b ∷ s) (suc k - 1) 0) ∷ []
     more m e r =
         let q : suc k - 1 ≡ suc m = omega arith in
         clean-append (b ∷ []) s ∙ rw (q, r, clean-append (b ∷ []) (take m s)) (sym (append-assoc (clean (b ∷ [])) (clean (take m s)) (digitValue (getD s m 0) ∷ [])))

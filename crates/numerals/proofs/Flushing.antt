@@ -78,4 +78,15 @@ pub long-said : (s t : List ℕ) (d : ℕ) (σ : Sink) {ρ τ : Sink} → 12 < l
 unfolding ordinal cardinal cardinalOf digits emitAll spelled spell
 long-said s t d σ h e p q =
     let z : d < 10 = every-last (λ b. b < 10) (clean t) d (rw e at (clean-digits s)) in
-    q ∙ rw (p, clean-commas s, lt-leb (length (clean s)) 12 h, e, map-append one (clean t) (d ∷ []), onLast-snoc (map one (clean t)) (one d), spelled-append (map one (clean t)) (other (ordinalForm (spell (one d))) ∷ []), emitAll-append (spelled (map one (clean t))) (ordinalForm (spell (one d)) ∷ []) σ, form-number d (omega arith))
+    q
+    ∙ rw (
+      p,
+      clean-commas s,
+      lt-leb (length (clean s)) 12 h,
+      e,
+      map-append one (clean t) (d ∷ []),
+      onLast-snoc (map one (clean t)) (one d),
+      spelled-append (map one (clean t)) (other (ordinalForm (spell (one d))) ∷ []),
+      emitAll-append (spelled (map one (clean t))) (ordinalForm (spell (one d)) ∷ []) σ,
+      form-number d (omega arith),
+    )

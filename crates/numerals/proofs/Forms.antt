@@ -104,7 +104,9 @@ module _ (D : ℕ → Type 0) (P : Word → Type 0) (r : Says D P) where
       let p = split-parts (length t) (omega arith) in
       let x = shorter-every m (take i t) (omega (arith, length-take i t, p .left)) (every-take D i t h) in
       let y = shorter-every m (drop i t) (omega (arith, length-drop i t, p .whole, p .right)) (every-drop D i t h) in
-      rw (cardinal-eq (a ∷ b ∷ c ∷ d ∷ s)) (join-every (cardinalFew (take i t)) (scale (scaleFor (length t))) (cardinalFew (drop i t)) x (r .scales (scaleFor (length t)) (scale-small (length t))) y)
+      rw (cardinal-eq (a ∷ b ∷ c ∷ d ∷ s))
+      (join-every (cardinalFew (take i t)) (scale (scaleFor (length t))) (cardinalFew (drop i t)) x
+      (r .scales (scaleFor (length t)) (scale-small (length t))) y)
 
   pub few-every : (s : List ℕ) → Every D s → Every P (cardinalFew s)
   few-every s h = shorter-every (suc (length s)) s (omega arith) h

@@ -154,7 +154,11 @@ digits-room s = omega (arith, ones-room (clean s) (clean-digits s), clean-le s)
 -- an ordinal form has at most three bytes more than its word
 form-small : (w : Word) → Formed w → length (ordinalForm (spell w)) ≤ length (spell w) + 3
 unfolding ordinalForm formIn lexicon
-form-small w f = rw (formed-spell w f) (leb→le _ _ (below (λ k. leb (length (ordinalForm (wordOf (onesAt + k)))) (length (wordOf (onesAt + k)) + 3)) ordinalStep tt (f .place) (f .within)))
+form-small w f =
+    rw (formed-spell w f)
+    (leb→le _ _
+    (below (λ k. leb (length (ordinalForm (wordOf (onesAt + k)))) (length (wordOf (onesAt + k)) + 3)) ordinalStep tt (f .place)
+    (f .within)))
 
 last-room : (ws : List Word) → Every Formed ws → Room (length ws) (width ws + 3) (onLast ws)
 unfolding onLast spell

@@ -11,6 +11,7 @@ unfolding emitAll spelled
 said-word w σ d = d
 
 -- one run of words after another
-pub says-more : (ws vs : List Word) {us : List Word} → us ≡ ws ++ vs → (σ : Sink) {ρ τ : Sink} → ρ ≡ emitAll (spelled ws) σ → τ ≡ emitAll (spelled vs) ρ → τ ≡ emitAll (spelled us) σ
+pub says-more : (ws vs : List Word) {us : List Word} → us ≡ ws ++ vs → (σ : Sink) {ρ τ : Sink} → ρ ≡ emitAll (spelled ws) σ
+    → τ ≡ emitAll (spelled vs) ρ → τ ≡ emitAll (spelled us) σ
 unfolding spelled
 says-more ws vs e σ p q = q ∙ rw (p, e, map-append) (sym (emitAll-append (map spell ws) (map spell vs) σ))

@@ -36,7 +36,8 @@ maximum (v ∷ vs) = max v (maximum vs)
 ltb-max : (v w m : ℕ) → (ltb v w || ltb v m) ≡ ltb v (max w m)
 ltb-max v w m =
     ⊎-elim
-    (λ (h : w ≤ v). ⊎-elim (λ (k : m ≤ v). rw (le-ltb v w h, le-ltb v m k) (sym (le-ltb v (max w m) (omega arith)))) (λ (k : v < m). rw (le-ltb v w h, lt-ltb v m k) (sym (lt-ltb v (max w m) (omega arith)))) (le-or-lt m v))
+    (λ (h : w ≤ v). ⊎-elim (λ (k : m ≤ v). rw (le-ltb v w h, le-ltb v m k) (sym (le-ltb v (max w m) (omega arith))))
+    (λ (k : v < m). rw (le-ltb v w h, lt-ltb v m k) (sym (lt-ltb v (max w m) (omega arith)))) (le-or-lt m v))
     (λ (h : v < w). rw (lt-ltb v w h) (sym (lt-ltb v (max w m) (omega arith)))) (le-or-lt w v)
 
 larger-max : (v : ℕ) (vs : List ℕ) → larger v vs ≡ ltb v (maximum vs)

@@ -35,7 +35,8 @@ chars-count : (s : List ℕ) → length (chars s) ≤ length s
 unfolding chars
 chars-count [] = omega arith
 chars-count (b ∷ s) =
-    cond-elim (λ (cs : List (List ℕ)). length cs ≤ suc (length s)) (continuation (getD s 0 0)) (λ e. omega (arith, onto-count b (chars s), chars-count s)) (λ e. omega (arith, chars-count s))
+    cond-elim (λ (cs : List (List ℕ)). length cs ≤ suc (length s)) (continuation (getD s 0 0))
+    (λ e. omega (arith, onto-count b (chars s), chars-count s)) (λ e. omega (arith, chars-count s))
 
 -- a word a character, "_a" the only one that is longer
 pub letters-room : (s : List ℕ) → Room (length s) (3 * length s) (letters s)

@@ -28,7 +28,9 @@ module _ (s : List ℕ) (σ : Sink) {n : ℕ} (e : n ≡ pointAt s) where
       → τ ≡ emitAll (spelled (cardinal w)) σ → υ ≡ emit (wordOf 85) τ → φ ≡ emitAll (spelled (digits f)) υ → φ ≡ emitAll (spelled (pointed s)) σ
   unfolding pointed spell lexicon
   pointed-parts h {w} {f} {τ} p q a b c =
-      rw (← e, lt-ltb n (length s) h, ← p, ← q) (says-more (cardinal w) (other (bytes "point") ∷ digits f) refl σ a (says-more (other (bytes "point") ∷ []) (digits f) refl τ (said-word (other (bytes "point")) τ b) c))
+      rw (← e, lt-ltb n (length s) h, ← p, ← q)
+      (says-more (cardinal w) (other (bytes "point") ∷ digits f) refl σ a
+      (says-more (other (bytes "point") ∷ []) (digits f) refl τ (said-word (other (bytes "point")) τ b) c))
 
 -- what a turn answers: the words are said, and their bytes are counted
 module _ (s : List ℕ) (σ : Sink) where

@@ -42,7 +42,9 @@ real-local f g s h =
     cond-cong (starts (code "+") s) (λ e. ap (λ (ws : List Word). other (bytes "plus") ∷ ws) (rest (code "+") e)) (λ m.
     cond-cong (ltb (eAt s) (length s)) (λ e.
     let l : eAt s < length s = ltb-true _ _ e in
-    ap₂ (λ (ws vs : List Word). ws ++ other (bytes "e") ∷ vs) (h (take (eAt s) s) (simp length-take (omega arith))) (h (drop (eAt s + 1) s) (simp length-drop (omega arith)))) (λ k. refl)))
+    ap₂ (λ (ws vs : List Word). ws ++ other (bytes "e") ∷ vs) (h (take (eAt s) s) (simp length-take (omega arith)))
+    (h (drop (eAt s + 1) s) (simp length-drop (omega arith))))
+    (λ k. refl)))
 
 pub real-eq : (s : List ℕ) → real s ≡ realStep real s
 unfolding real

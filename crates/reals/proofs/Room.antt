@@ -25,7 +25,9 @@ pointed-room s =
     let n = pointAt s in
     let a = take n s in
     let b = drop (n + 1) s in
-    cond-elim (RoomFor (length s)) (ltb n (length s)) (λ e. omega (arith, around s n e, together (cardinal a) (other (bytes "point") ∷ digits b), cardinal-room a, digits-room b)) (λ e. omega (arith, cardinal-room s))
+    cond-elim (RoomFor (length s)) (ltb n (length s))
+    (λ e. omega (arith, around s n e, together (cardinal a) (other (bytes "point") ∷ digits b), cardinal-room a, digits-room b))
+    (λ e. omega (arith, cardinal-room s))
 
 real-step : (f : List ℕ → List Word) (s : List ℕ) → ((t : List ℕ) → length t < length s → RoomFor (length t) (f t)) → RoomFor (length s) (realStep f s)
 unfolding realStep span spell

@@ -26,7 +26,8 @@ has-at c (b ∷ s) (suc i) h e = rw (has-at c s i (omega arith) e, or-true (eqb 
 -- a text has the byte that it ends in
 ends-has : (c : ℕ) (s : List ℕ) → ends c s ≡ true → has c s ≡ true
 ends-has c s e =
-    has-at c s (length s - 1) (omega (arith, ends-some c s e)) (eqb-true (getD s (length s - 1) 0) c (and-eq-true-iff (not (eqb (length s) 0)) (eqb (getD s (length s - 1) 0) c) .0 e .1))
+    has-at c s (length s - 1) (omega (arith, ends-some c s e))
+    (eqb-true (getD s (length s - 1) 0) c (and-eq-true-iff (not (eqb (length s) 0)) (eqb (getD s (length s - 1) 0) c) .0 e .1))
 
 -- the name meets none of the tests of rows 1 to 9
 pub record Untaken (s : List ℕ) : Type 0 where

@@ -141,7 +141,9 @@ dotted-bytes s h =
     let core = stripSuffix (code ".") s in
     all-suffixed dottedByte (code ".") s refl
     (sym (all-parts dottedByte (code ".") refl core)
-    ∙ parts-within isOneLetter (all dottedByte) (λ t k. all-within letter dottedByte (λ b e. or-left (letter b) (eqb b (code ".")) e) t (one-letter t k)) (split (code ".") core) (dotted-parts s h))
+    ∙ parts-within isOneLetter (all dottedByte)
+    (λ t k. all-within letter dottedByte (λ b e. or-left (letter b) (eqb b (code ".")) e) t (one-letter t k)) (split (code ".") core)
+    (dotted-parts s h))
 
 -- a letter leads a text where it leads the text's front
 first-letter : (n : ℕ) (s : List ℕ) → letter (getD (take n s) 0 0) ≡ true → letter (getD s 0 0) ≡ true
@@ -157,7 +159,9 @@ one-first (b ∷ s) h = and-eq-true-iff (letter b) (all letter s) .0 (one-letter
 -- a dotted abbreviation starts with a letter
 pub dotted-first : (s : List ℕ) → isDottedAbbrev s ≡ true → letter (getD s 0 0) ≡ true
 dotted-first s h =
-    go (ends (code ".") s) (first-letter (span (except (code ".")) core) core (one-first (take (span (except (code ".")) core) core) (parts-first isOneLetter (code ".") core (dotted-parts s h))))
+    go (ends (code ".") s)
+    (first-letter (span (except (code ".")) core) core
+    (one-first (take (span (except (code ".")) core) core) (parts-first isOneLetter (code ".") core (dotted-parts s h))))
   where
     core : List ℕ
     core = stripSuffix (code ".") s
@@ -212,7 +216,9 @@ all-clock p q f g s h =
 
 pub time-bytes : (s : List ℕ) → isTime s ≡ true → all timeByte s ≡ true
 unfolding splitOnce
-time-bytes s h = all-clock timeByte (except (code ":")) (λ b e. or-left (digit b) (eqb b (code ":")) e) (λ b e. or-right (digit b) (eqb b (code ":")) (not-false (eqb b (code ":")) e)) s h
+time-bytes s h =
+    all-clock timeByte (except (code ":")) (λ b e. or-left (digit b) (eqb b (code ":")) e)
+    (λ b e. or-right (digit b) (eqb b (code ":")) (not-false (eqb b (code ":")) e)) s h
 
 pub colon-needed : (s : List ℕ) → isTime s ≡ true → has (code ":") s ≡ true
 unfolding splitOnce
@@ -249,8 +255,10 @@ ends-lowered : (c d : ℕ) (s : List ℕ) → all small (c ∷ d ∷ []) ≡ tru
     → (all letter (drop (length s - 2) s) ≡ true) × (lower (getD s (length s - 1) 0) ≡ d)
 ends-lowered c d s k h =
     let x = and-eq-true-iff (leb 2 (length s)) (sameBy lower (drop (length s - 2) s) (c ∷ d ∷ [])) .0 h in
-    let n : length s - 2 + 1 ≡ length s - 1 = omega (arith, leb-true 2 (length s) (x .0)) in
-    (lowered-letters (drop (length s - 2) s) (c ∷ d ∷ []) k (x .1), ap lower (ap (λ (i : ℕ). getD s i 0) (sym n) ∙ sym (getD-drop (length s - 2) s 1 0)) ∙ second lower c d (drop (length s - 2) s) (x .1))
+    let n : length s - 2 + 1 ≡ length s - 1 = omega (arith, leb-true 2 (length s) (x .0)) in (
+      lowered-letters (drop (length s - 2) s) (c ∷ d ∷ []) k (x .1),
+      ap lower (ap (λ (i : ℕ). getD s i 0) (sym n) ∙ sym (getD-drop (length s - 2) s 1 0)) ∙ second lower c d (drop (length s - 2) s) (x .1),
+    )
 
 meridiem-end : (s : List ℕ) → endsInMeridiem s ≡ true → (all letter (drop (length s - 2) s) ≡ true) × (lower (getD s (length s - 1) 0) ≡ code "m")
 unfolding all
@@ -262,8 +270,14 @@ separator b h = or-elim (eqb b (code ":")) (eqb b (code "."))
     (not-false (eqb b (code ":") || eqb b (code ".")) h)
 
 meridiem-parts : (s : List ℕ) → isMeridiemTime s ≡ true
-    → (endsInMeridiem s ≡ true) × ((ltb (separatorAt (timeOf s)) (length (timeOf s)) && isHourMinute (take (separatorAt (timeOf s)) (timeOf s)) (drop (separatorAt (timeOf s) + 1) (timeOf s))) ≡ true)
-meridiem-parts s h = and-eq-true-iff (endsInMeridiem s) (ltb (separatorAt (timeOf s)) (length (timeOf s)) && isHourMinute (take (separatorAt (timeOf s)) (timeOf s)) (drop (separatorAt (timeOf s) + 1) (timeOf s))) .0 h
+    → (endsInMeridiem s ≡ true)
+    × ((ltb (separatorAt (timeOf s)) (length (timeOf s)) && isHourMinute (take (separatorAt (timeOf s)) (timeOf s))
+    (drop (separatorAt (timeOf s) + 1) (timeOf s)))
+    ≡ true)
+meridiem-parts s h =
+    and-eq-true-iff (endsInMeridiem s)
+    (ltb (separatorAt (timeOf s)) (length (timeOf s)) && isHourMinute (take (separatorAt (timeOf s)) (timeOf s))
+    (drop (separatorAt (timeOf s) + 1) (timeOf s))) .0 h
 
 pub meridiem-bytes : (s : List ℕ) → isMeridiemTime s ≡ true → all meridiemByte s ≡ true
 meridiem-bytes s h =
@@ -323,7 +337,9 @@ unsigned-bytes s h = all-joined doubleByte (span digit s) s (front s) (go (start
         → cond t (not (eqb (span digit s) 0 && eqb (span digit frac) 0) && isExponent (drop (span digit frac) frac)) (not (eqb (span digit s) 0) && isExponent rest) ≡ true
         → all doubleByte rest ≡ true
     go true e k =
-        let x = exponent-bytes (drop (span digit frac) frac) (and-eq-true-iff (not (eqb (span digit s) 0 && eqb (span digit frac) 0)) (isExponent (drop (span digit frac) frac)) .0 k .1) in
+        let x =
+        exponent-bytes (drop (span digit frac) frac)
+        (and-eq-true-iff (not (eqb (span digit s) 0 && eqb (span digit frac) 0)) (isExponent (drop (span digit frac) frac)) .0 k .1) in
         all-prefixed doubleByte (code ".") rest refl e (all-joined doubleByte (span digit frac) frac (front frac) x)
     go false e k = exponent-bytes rest (and-eq-true-iff (not (eqb (span digit s) 0)) (isExponent rest) .0 k .1)
 

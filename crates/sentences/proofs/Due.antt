@@ -51,7 +51,8 @@ both-due n (r when h ∷ a) (q when k ∷ b) e =
     let y = first (number r) (firstDue b) (omega (arith, e .0)) (l .1) in
     rw (← e .1) (go (number r) (firstDue a) (firstDue b) h k (x .2) (y .0) (x .1) (both-due (number r) a b (e .2)))
   where
-    go : (i x y : ℕ) {z : ℕ} (h k : Bool) → smallerDue i i ≡ i → smallerDue i y ≡ i → smallerDue x i ≡ i → smallerDue x y ≡ z → smallerDue (cond h i x) (cond k i y) ≡ cond (h || k) i z
+    go : (i x y : ℕ) {z : ℕ} (h k : Bool) → smallerDue i i ≡ i → smallerDue i y ≡ i → smallerDue x i ≡ i → smallerDue x y ≡ z
+        → smallerDue (cond h i x) (cond k i y) ≡ cond (h || k) i z
     go i x y true true s l m e = s
     go i x y true false s l m e = l
     go i x y false true s l m e = m

@@ -27,7 +27,8 @@ pub refused-step : (s : State) (w n p : List ℕ) → (stepCall s w n p .refusal
 unfolding stepCall
 refused-step s w n p = go (firstDue (stepTests w n p)) (record { breaks = breaks s w n; state = kept n p })
   where
-    go : (k : ℕ) (given : Stepped) → (call (record { breaks = false; state = s }) k given .refusal ≡ 0 → ⊥) → call (record { breaks = false; state = s }) k given .value ≡ record { breaks = false; state = s }
+    go : (k : ℕ) (given : Stepped) → (call (record { breaks = false; state = s }) k given .refusal ≡ 0 → ⊥)
+        → call (record { breaks = false; state = s }) k given .value ≡ record { breaks = false; state = s }
     go zero given h = absurd (h refl)
     go (suc k) given h = refl
 

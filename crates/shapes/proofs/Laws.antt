@@ -15,11 +15,17 @@ use Rattle.units.specs.Units.{isUnit}
 use Rattle.units.proofs.Laws.{empty-none}
 
 -- a comma
-pub comma-more : (s : List ℕ) → span (except 44) s < length s → isCommaInt s ≡ isDigits (take (span (except 44) s) s) && leb (length (take (span (except 44) s) s)) 3 && allParts (isNDigits 3) (split 44 (drop (span (except 44) s + 1) s))
+pub comma-more : (s : List ℕ) → span (except 44) s < length s
+    → isCommaInt s ≡ isDigits (take (span (except 44) s) s) && leb (length (take (span (except 44) s) s)) 3 && allParts (isNDigits 3)
+    (split 44 (drop (span (except 44) s + 1) s))
 unfolding isCommaGroups
 comma-more s h =
     let g = split-some 44 (drop (span (except 44) s + 1) s) in
-    rw (split-more 44 s h, ne-eqb (length (split 44 (drop (span (except 44) s + 1) s))) 0 (λ z. omega arith), and-true (isDigits (take (span (except 44) s) s) && leb (length (take (span (except 44) s) s)) 3))
+    rw (
+      split-more 44 s h,
+      ne-eqb (length (split 44 (drop (span (except 44) s + 1) s))) 0 (λ z. omega arith),
+      and-true (isDigits (take (span (except 44) s) s) && leb (length (take (span (except 44) s) s)) 3),
+    )
 
 -- no comma
 pub comma-none : (s : List ℕ) → length s ≤ span (except 44) s → isCommaInt s ≡ false
@@ -43,7 +49,8 @@ unfolding split all allParts filled
 dash-all [] = refl
 dash-all (b ∷ s) = go (eqb b 45) (dash-all s)
   where
-    go : (t : Bool) → allParts isDigits (filled (split 45 s)) ≡ all digitOrDash s → allParts isDigits (filled (cond t ([] ∷ split 45 s) (onto b (split 45 s)))) ≡ (digit b || t) && all digitOrDash s
+    go : (t : Bool) → allParts isDigits (filled (split 45 s)) ≡ all digitOrDash s
+        → allParts isDigits (filled (cond t ([] ∷ split 45 s) (onto b (split 45 s)))) ≡ (digit b || t) && all digitOrDash s
     go true i = digits-part [] (split 45 s) ∙ rw (i, or-true (digit b))
     go false i = digits-onto b (split 45 s) ∙ rw (i, or-false (digit b))
 

@@ -30,7 +30,9 @@ pub entry-alone : (s old : List ℕ) (k : ℕ) → textRefusal textLimit s ≡ 0
 unfolding entryCall
 entry-alone s old k t h l r =
     let short : Bool = ltb (length old) (length (lineAt s k)) in
-    let d : firstDue (entryTests s k short) ≡ 0 = passed (textTests textLimit (s ∷ [])) _ (sym t) refl ∙ rw (lt-leb (length (tokens s)) k h, l, le-ltb (length old) (length (lineAt s k)) r) in
+    let d : firstDue (entryTests s k short) ≡ 0 =
+    passed (textTests textLimit (s ∷ [])) _ (sym t) refl
+    ∙ rw (lt-leb (length (tokens s)) k h, l, le-ltb (length old) (length (lineAt s k)) r) in
     let q = call-accepted _ _ _ (firstDue (entryTests s k short)) (sym d) refl in (
       sym (ap (λ (c : Call EntryGiven). c .refusal) q),
       sym (ap (λ (c : Call EntryGiven). take (c .value .bytes) (c .value .buffer)) q) ∙ take-append-seam (lineAt s k) (drop (length (lineAt s k)) old),

@@ -89,8 +89,13 @@ emitAll-is (w ∷ ws) s h k =
     let p : afterGap (s .spaced) (s .at) ≡ s .at + length g = let q = gap-place (s .spaced) (s .at) (omega arith) in omega arith in
     let a : min (afterGap (s .spaced) (s .at) + length w) top ≡ s .at + length g + length w = omega arith in
     let e : pairBytes * min (s .words + 1) top ≡ pairBytes * s .words + pairBytes = omega arith in
-    let es : after ws (emit w s) .store ≡ after (w ∷ ws) s .store = rw (a, p) (sym (sets-append (s .store) (s .at) g (w ++ b) ∙ sets-append (sets (s .store) (s .at) g) (s .at + length g) w b)) in
-    let et : after ws (emit w s) .table ≡ after (w ∷ ws) s .table = rw (a, p, e) (sym (sets-append (s .table) (pairBytes * s .words) (pairOf (s .at + length g) (length w)) (tableBy (s .spaced) (s .at + length g + length w) ws))) in
+    let es : after ws (emit w s) .store ≡ after (w ∷ ws) s .store =
+    rw (a, p) (sym (sets-append (s .store) (s .at) g (w ++ b) ∙ sets-append (sets (s .store) (s .at) g) (s .at + length g) w b)) in
+    let et : after ws (emit w s) .table ≡ after (w ∷ ws) s .table =
+    rw (a, p, e)
+    (sym
+    (sets-append (s .table) (pairBytes * s .words) (pairOf (s .at + length g) (length w))
+    (tableBy (s .spaced) (s .at + length g + length w) ws))) in
     let ea : after ws (emit w s) .at ≡ after (w ∷ ws) s .at = omega arith in
     let ew : after ws (emit w s) .words ≡ after (w ∷ ws) s .words = omega arith in
     emitAll-is ws (emit w s) (omega arith) (omega arith) ∙ (λ j. record { store = es j; table = et j; at = ea j; words = ew j; spaced = s .spaced })
@@ -125,7 +130,10 @@ measured ws a b ha hb x y x₀ y₀ {m} {p₀} e₀ e =
     let f : storeBy (p₀ .spaced) ws ≡ storeOf ws = ap (λ (p : Pen). storeBy (p .spaced) ws) e₀ ∙ store-plain ws in
     let n : m .at ≡ min (p₀ .at + length (storeOf ws)) top = rw f at (ap (λ (q : Sink). q .at) e ∙ emitAll-at ws s₀ (omega arith)) in
     let w : m .words ≡ min (p₀ .words + length ws) top = ap (λ (q : Sink). q .words) e ∙ emitAll-words ws s₀ (omega arith) in
-    rw (ltb-same (m .at) (length (storeOf ws)) a (λ h. omega arith) (λ h. omega arith), ltb-same (pairBytes * m .words) (pairBytes * length ws) b (λ h. omega arith) (λ h. omega arith))
+    rw (
+      ltb-same (m .at) (length (storeOf ws)) a (λ h. omega arith) (λ h. omega arith),
+      ltb-same (pairBytes * m .words) (pairBytes * length ws) b (λ h. omega arith) (λ h. omega arith),
+    )
 
 -- buffers that are long enough are not too short
 pub long-enough : (ws : List (List ℕ)) (a b : ℕ) → length (storeOf ws) ≤ a → pairBytes * length ws ≤ b → shortFor (length (storeOf ws)) (length ws) a b ≡ false
@@ -162,9 +170,12 @@ module _ (s : List ℕ) (ws : List (List ℕ)) (st tb : List ℕ) (n : ℕ) (due
       let ft : pairBytes * length ws ≤ length tb = ltb-false _ _ (or-right (ltb (length st) (length (storeOf ws))) (ltb (length tb) (pairBytes * length ws)) f) in
       let g = store-plain ws in
       let eg : length (storeBy false ws) ≡ length (storeOf ws) = ap (λ (t : List ℕ). length t) g in
-      let all : sink st′ tb′ p ≡ after ws (sink st tb startPen) = d ∙ ap (λ (k : Pen). emitAll ws (sink st tb k)) e₁ ∙ emitAll-is ws (sink st tb startPen) (omega arith) (omega arith) in
+      let all : sink st′ tb′ p ≡ after ws (sink st tb startPen) =
+      d ∙ ap (λ (k : Pen). emitAll ws (sink st tb k)) e₁ ∙ emitAll-is ws (sink st tb startPen) (omega arith) (omega arith) in
       let es : st′ ≡ over (storeOf ws) st = ap (λ (k : Sink). k .store) all ∙ ap (sets st 0) g ∙ sets-front st (storeOf ws) fs in
-      let et : tb′ ≡ over (tableOf 0 ws) tb = ap (λ (k : Sink). k .table) all ∙ ap (sets tb 0) (table-plain 0 ws) ∙ sets-front tb (tableOf 0 ws) (omega (arith, tableOf-length 0 ws)) in
+      let et : tb′ ≡ over (tableOf 0 ws) tb =
+      ap (λ (k : Sink). k .table) all ∙ ap (sets tb 0) (table-plain 0 ws)
+      ∙ sets-front tb (tableOf 0 ws) (omega (arith, tableOf-length 0 ws)) in
       let ea : p .at ≡ length (storeOf ws) = ap (λ (k : Sink). k .at) all ∙ zero-add (length (storeBy false ws)) ∙ eg in
       let ew : p .words ≡ length ws = ap (λ (k : Sink). k .words) all ∙ zero-add (length ws) in
       rw (q, passed text room due z, f) (λ j. record { refusal = 0; value = record { words = ew j; bytes = ea j; store = es j; table = et j } })

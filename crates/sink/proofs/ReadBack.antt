@@ -36,7 +36,10 @@ word-from p (w ∷ ws) (suc i) h l =
     let n = length-append w (storeOf ws) in
     let m = length-append p w in
     let r = word-from (p ++ w) ws i (omega arith) (omega arith) in
-    rw (after-pair (length p) (length w) (tableOf (length p + length w) ws) (2 * i) (2 * suc i) (omega arith), after-pair (length p) (length w) (tableOf (length p + length w) ws) (2 * i + 1) (2 * suc i + 1) (omega arith))
+    rw (
+      after-pair (length p) (length w) (tableOf (length p + length w) ws) (2 * i) (2 * suc i) (omega arith),
+      after-pair (length p) (length w) (tableOf (length p + length w) ws) (2 * i + 1) (2 * suc i + 1) (omega arith),
+    )
     (rw (m, append-assoc p w (storeOf ws)) at r)
 
 -- word i of an accepted call, where the store is below 4 GiB, as it is for every reading

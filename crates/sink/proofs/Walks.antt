@@ -8,7 +8,8 @@ use Rattle.sink.proofs.Finish.{emitAll-append}
 
 module _ (f : List ℕ → List (List ℕ)) (s : List ℕ) (i : ℕ) where
   -- a turn says the words g of the next n bytes
-  pub turn : (n : ℕ) (g : List (List ℕ)) → f (drop i s) ≡ g ++ f (drop (i + n) s) → (σ : Sink) {τ z : Sink} → τ ≡ emitAll g σ → emitAll (f (drop i s)) σ ≡ z → emitAll (f (drop (i + n) s)) τ ≡ z
+  pub turn : (n : ℕ) (g : List (List ℕ)) → f (drop i s) ≡ g ++ f (drop (i + n) s) → (σ : Sink) {τ z : Sink} → τ ≡ emitAll g σ
+      → emitAll (f (drop i s)) σ ≡ z → emitAll (f (drop (i + n) s)) τ ≡ z
   turn n g e σ d k =
       ap (emitAll (f (drop (i + n) s))) d ∙ sym (emitAll-append g (f (drop (i + n) s)) σ) ∙ ap (λ (ws : List (List ℕ)). emitAll ws σ) (sym e) ∙ k
 

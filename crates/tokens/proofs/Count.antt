@@ -33,7 +33,8 @@ unfolding runs span
 runs-run [] = refl
 runs-run (b ∷ s) = go (whitespace b) refl (runs-run s)
   where
-    go : (t : Bool) → whitespace b ≡ t → runs false s ≡ runs true (after nonWhitespace s) → runs false (b ∷ s) ≡ runs true (drop (cond (not t) (suc (span nonWhitespace s)) 0) (b ∷ s))
+    go : (t : Bool) → whitespace b ≡ t → runs false s ≡ runs true (after nonWhitespace s)
+        → runs false (b ∷ s) ≡ runs true (drop (cond (not t) (suc (span nonWhitespace s)) 0) (b ∷ s))
     go true e i = rw e
     go false e i = rw e (omega (arith, i))
 

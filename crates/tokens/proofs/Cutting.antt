@@ -31,7 +31,8 @@ cut-marks run m e h =
     )
 
 -- another one
-pub cut-named : (run : List ℕ) (ends : Bool) (m k : ℕ) → m ≡ span leadingMark run → (m ≡ length run → ⊥) → k ≡ afterLast unmarked (drop (m + 1) run) → CutAt run ends m ((m + 1) + k)
+pub cut-named : (run : List ℕ) (ends : Bool) (m k : ℕ) → m ≡ span leadingMark run → (m ≡ length run → ⊥)
+    → k ≡ afterLast unmarked (drop (m + 1) run) → CutAt run ends m ((m + 1) + k)
 unfolding cut
 cut-named run ends m k e h q =
     let s : span leadingMark run ≤ length run = span-le leadingMark run in
@@ -51,7 +52,15 @@ cut-named run ends m k e h q =
 
 -- the places of a token whose run is cut so
 pub cut-places : (at : ℕ) (w run : List ℕ) (ends : Bool) (n p : ℕ) → CutAt run ends n p
-    → record { whitespace = at; prepunctuation = at + length w; name = at + length w + n; punctuation = at + length w + p; end = at + length w + length run } ≡ placesOf at (cut w run ends)
+    → record {
+      whitespace = at;
+      prepunctuation = at + length w;
+      name = at + length w + n;
+      punctuation = at + length w + p;
+      end =
+          at + length w + length run;
+    }
+    ≡ placesOf at (cut w run ends)
 cut-places at w run ends n p c =
     let t : Token = cut w run ends in
     let q = cut-white w run ends in
@@ -127,6 +136,8 @@ module _ (s : List ℕ) (at q m r : ℕ) (eq : q ≡ span whitespace (drop at s)
       let d : List ℕ = drop at s in
       let c′ : CutAt (lead nonWhitespace (afterWhite d)) (eqb (length (afterRun d)) 0) n p = rw (run-lead, run-ends) at c in
       let lw : length (lead whitespace d) ≡ q = length-take-le (span whitespace d) d (span-le whitespace d) ∙ sym eq in
-      let lr : length (lead nonWhitespace (afterWhite d)) ≡ m + r = length-take-le (span nonWhitespace (afterWhite d)) (afterWhite d) (span-le nonWhitespace (afterWhite d)) ∙ ap (span nonWhitespace) (sym run-white) ∙ sym run-size in
+      let lr : length (lead nonWhitespace (afterWhite d)) ≡ m + r =
+      length-take-le (span nonWhitespace (afterWhite d)) (afterWhite d) (span-le nonWhitespace (afterWhite d))
+      ∙ ap (span nonWhitespace) (sym run-white) ∙ sym run-size in
       let e : end ≡ at + q + (m + r) = omega arith in
       rw e (rw (lw, lr) at (cut-places at (lead whitespace d) (lead nonWhitespace (afterWhite d)) (eqb (length (afterRun d)) 0) n p c′))

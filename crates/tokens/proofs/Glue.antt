@@ -94,7 +94,9 @@ run-closed s h =
     let x : List ℕ = afterWhite s in
     let k : ℕ = span nonWhitespace x in
     let n : k < length x = omega (arith, length-drop k x) in
-    let f : whitespace (getD (afterRun s) 0 0) ≡ true = ap whitespace (getD-drop k x 0 0 ∙ ap (λ (j : ℕ). getD x j 0) (add-zero k)) ∙ not-false (whitespace (getD x k 0)) (span-fails nonWhitespace x n) in
+    let f : whitespace (getD (afterRun s) 0 0) ≡ true =
+    ap whitespace (getD-drop k x 0 0 ∙ ap (λ (j : ℕ). getD x j 0) (add-zero k))
+    ∙ not-false (whitespace (getD x k 0)) (span-fails nonWhitespace x n) in
     omega (arith, last-span whitespace (afterRun s), span-some whitespace (afterRun s) h f)
 
 -- the first run is the last one where nothing follows it
@@ -122,7 +124,9 @@ tokens-closed a c w =
     a
   where
     go : (a : List ℕ) → all whitespace a ≡ false → (openEnd (afterRun a) ≡ false → tokens (afterRun a ++ c ∷ []) ≡ tokens (afterRun a)) → openEnd a ≡ false
-        → (e : Bool) → eqb (length (afterRun a)) 0 ≡ e → cut (lead whitespace a) (lead nonWhitespace (afterWhite a)) false ∷ tokens (afterRun a ++ c ∷ []) ≡ firstToken a ∷ tokens (afterRun a)
+        → (e : Bool) → eqb (length (afterRun a)) 0 ≡ e
+        → cut (lead whitespace a) (lead nonWhitespace (afterWhite a)) false ∷ tokens (afterRun a ++ c ∷ []) ≡ firstToken a ∷ tokens
+        (afterRun a)
     go a h i o true e =
         let x : List ℕ = afterWhite a in
         let k : ℕ = span nonWhitespace x in

@@ -36,7 +36,9 @@ unfolding joined
 tokens-joined =
     tokens-induct (λ s. joined (tokens s) ≡ take (afterLast nonWhitespace s) s)
     (λ s h. rw (tokens-none s h, last-white s h))
-    (λ s h i. rw (tokens-more s h, last-first s h, take-add (firstSize s), ← afterRun-drop s, i) (ap (λ (x : List ℕ). x ++ take (afterLast nonWhitespace (afterRun s)) (afterRun s)) (first-take s)))
+    (λ s h i.
+    rw (tokens-more s h, last-first s h, take-add (firstSize s), ← afterRun-drop s, i)
+    (ap (λ (x : List ℕ). x ++ take (afterLast nonWhitespace (afterRun s)) (afterRun s)) (first-take s)))
 
 -- the parts of all tokens in their order
 abbrev pub partsOf : List Token → List (List ℕ)
@@ -66,7 +68,8 @@ records-table at [] = refl
 records-table at (t ∷ ts) = rw (records-table (at + size t) ts) (sym (table-append at (parts t) (partsOf ts)))
 
 -- part j of token i among all parts
-parts-at : (ts : List Token) (none : Token) (i j : ℕ) → i < length ts → j < 4 → (4 * i + j < length (partsOf ts)) × (getD (partsOf ts) (4 * i + j) [] ≡ getD (parts (getD ts i none)) j [])
+parts-at : (ts : List Token) (none : Token) (i j : ℕ) → i < length ts → j < 4
+    → (4 * i + j < length (partsOf ts)) × (getD (partsOf ts) (4 * i + j) [] ≡ getD (parts (getD ts i none)) j [])
 unfolding flatMap
 parts-at [] none i j h k = absurd (omega arith)
 parts-at (t ∷ ts) none zero j h k =
@@ -90,14 +93,18 @@ table-front at ws u s i h = ap₂ (λ (a n : ℕ). take n (drop a s)) (number (2
         ap leValue (ap (take 4) (drop-append-le (4 * k) t u (omega arith)) ∙ take-append-le 4 (drop (4 * k) t) u (simp length-drop (omega arith)))
 
 -- part j of token i is where its pair says in the text
-pub part-read : (s : List ℕ) (none : Token) (i j : ℕ) → i < length (tokens s) → j < 4 → length s < 256 ^ 4 → wordAt (4 * i + j) (records 0 (tokens s)) s ≡ getD (parts (getD (tokens s) i none)) j []
+pub part-read : (s : List ℕ) (none : Token) (i j : ℕ) → i < length (tokens s) → j < 4 → length s < 256 ^ 4
+    → wordAt (4 * i + j) (records 0 (tokens s)) s ≡ getD (parts (getD (tokens s) i none)) j []
 unfolding storeOf
 part-read s none i j h k l =
     let ws : List (List ℕ) = partsOf (tokens s) in
     let z : List ℕ = drop (afterLast nonWhitespace s) s in
     let q = parts-at (tokens s) none i j h k in
-    let e : storeOf (ws ++ z ∷ []) ≡ s = store-append ws (z ∷ []) ∙ ap₂ _++_ (sym (joined-store (tokens s)) ∙ tokens-joined s) (append-nil z) ∙ take-append-drop (afterLast nonWhitespace s) s in
-    let r : wordAt (4 * i + j) (tableOf 0 (ws ++ z ∷ [])) (storeOf (ws ++ z ∷ [])) ≡ getD (ws ++ z ∷ []) (4 * i + j) [] = word-read (ws ++ z ∷ []) (4 * i + j) (simp length-append (omega arith)) (rw e l) in
+    let e : storeOf (ws ++ z ∷ []) ≡ s =
+    store-append ws (z ∷ []) ∙ ap₂ _++_ (sym (joined-store (tokens s)) ∙ tokens-joined s) (append-nil z)
+    ∙ take-append-drop (afterLast nonWhitespace s) s in
+    let r : wordAt (4 * i + j) (tableOf 0 (ws ++ z ∷ [])) (storeOf (ws ++ z ∷ [])) ≡ getD (ws ++ z ∷ []) (4 * i + j) [] =
+    word-read (ws ++ z ∷ []) (4 * i + j) (simp length-append (omega arith)) (rw e l) in
     rw records-table
     (sym (table-front 0 ws (tableOf (0 + length (storeOf ws)) (z ∷ [])) s (4 * i + j) (q .0))
     ∙ (rw (e, table-append 0 ws (z ∷ [])) at r)

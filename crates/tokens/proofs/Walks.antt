@@ -65,12 +65,14 @@ module _ (s : List ℕ) (at : ℕ) (p : Places) (h : at ≤ length s) (e : p ≡
   pub one-more : (p .prepunctuation ≡ length s → ⊥) → tokens (drop at s) ≡ firstToken (drop at s) ∷ tokens (drop (p .end) s)
   one-more f =
       tokens-more (drop at s) (is-more f)
-      ∙ ap (λ (r : List ℕ). firstToken (drop at s) ∷ tokens r) (sym (ap (λ (k : ℕ). drop k s) end-at ∙ sym (drop-drop (size (firstToken (drop at s))) at s) ∙ first-after (drop at s)))
+      ∙ ap (λ (r : List ℕ). firstToken (drop at s) ∷ tokens r)
+      (sym (ap (λ (k : ℕ). drop k s) end-at ∙ sym (drop-drop (size (firstToken (drop at s))) at s) ∙ first-after (drop at s)))
 
   pub moves-on : (p .prepunctuation ≡ length s → ⊥) → (at < p .end) × (p .end ≤ length s)
   moves-on f =
       let a = afterRun-less (drop at s) (is-more f) in
-      let b : size (firstToken (drop at s)) + length (afterRun (drop at s)) ≡ length (drop at s) = sym (length-append (storeOf (parts (firstToken (drop at s)))) (afterRun (drop at s))) ∙ ap length (first-joined (drop at s)) in
+      let b : size (firstToken (drop at s)) + length (afterRun (drop at s)) ≡ length (drop at s) =
+      sym (length-append (storeOf (parts (firstToken (drop at s)))) (afterRun (drop at s))) ∙ ap length (first-joined (drop at s)) in
       let n = length-drop at s in
       (omega (arith, end-at), omega (arith, end-at))
 
@@ -81,11 +83,13 @@ module _ (s : List ℕ) (at : ℕ) (p : Places) (h : at ≤ length s) (e : p ≡
   taken-parts =
       let t : Token = firstToken (drop at s) in
       let rest : List ℕ = afterRun (drop at s) in
-      let f : (t .whitespace ++ t .prepunctuation) ++ (t .name ++ (t .punctuation ++ rest)) ≡ drop at s = append-assoc (t .whitespace) (t .prepunctuation) _ ∙ first-split (drop at s) in
+      let f : (t .whitespace ++ t .prepunctuation) ++ (t .name ++ (t .punctuation ++ rest)) ≡ drop at s =
+      append-assoc (t .whitespace) (t .prepunctuation) _ ∙ first-split (drop at s) in
       let g : ((t .whitespace ++ t .prepunctuation) ++ t .name) ++ (t .punctuation ++ rest) ≡ drop at s = append-assoc (t .whitespace ++ t .prepunctuation) (t .name) _ ∙ f in
       let m = length-append (t .whitespace) (t .prepunctuation) in
       let n = length-append (t .whitespace ++ t .prepunctuation) (t .name) in
-      let q : (p .prepunctuation ≡ placesOf at t .prepunctuation) × (p .name ≡ placesOf at t .name) × (p .punctuation ≡ placesOf at t .punctuation) × (p .end ≡ placesOf at t .end) =
+      let q : (p .prepunctuation ≡ placesOf at t .prepunctuation) × (p .name ≡ placesOf at t .name)
+      × (p .punctuation ≡ placesOf at t .punctuation) × (p .end ≡ placesOf at t .end) =
       (ap (λ (r : Places). r .prepunctuation) e, ap (λ (r : Places). r .name) e, ap (λ (r : Places). r .punctuation) e, ap (λ (r : Places). r .end) e) in (
         part-of s [] (t .whitespace) _ at at (p .prepunctuation) (first-split (drop at s)) (omega arith) (omega (arith, q .0)),
         part-of s (t .whitespace ++ t .prepunctuation) (t .name) _ at (p .name) (p .punctuation) f (omega (arith, q .1, m)) (omega (arith, q .1, q .2)),

@@ -109,7 +109,8 @@ unfolding abbreviations unitAbbreviations
 named = refl
 
 -- the look-up from row k on: this row, or those after it
-pub index-more : (u : List ℕ) (k : ℕ) → Bytes u → k < 22 → before u (drop k abbreviations) ≡ cond (eqb (getD unitKeys k 0) (unitKey u)) 0 (suc (before u (drop (k + 1) abbreviations)))
+pub index-more : (u : List ℕ) (k : ℕ) → Bytes u → k < 22
+    → before u (drop k abbreviations) ≡ cond (eqb (getD unitKeys k 0) (unitKey u)) 0 (suc (before u (drop (k + 1) abbreviations)))
 unfolding before
 index-more u k b h = rw (row-same u k b h, add-one, drop-cons abbreviations k [] (rw named h))
 

@@ -12,7 +12,17 @@ use Rattle.voice.specs.declared.HwkEntry.{HwkEntry}
 -- each part by its offset and its length, in a text of n bytes; every number 0 where there is none
 abbrev pub partsAtC : ℕ → ℕ → TimeSplit → HwkTime
 partsAtC n number (At hour minute meridiem) =
-    record { refusal = number; yes = true; «hour_at» = 0; «hour_len» = hour; «minute_at» = minute; «minute_len» = meridiem - minute; «meridiem_at» = meridiem; «meridiem_len» = n - meridiem }
+    record {
+      refusal = number;
+      yes = true;
+      «hour_at» = 0;
+      «hour_len» = hour;
+      «minute_at» = minute;
+      «minute_len» =
+          meridiem - minute;
+      «meridiem_at» = meridiem;
+      «meridiem_len» = n - meridiem;
+    }
 partsAtC n number Nothing =
     record { refusal = number; yes = false; «hour_at» = 0; «hour_len» = 0; «minute_at» = 0; «minute_len» = 0; «meridiem_at» = 0; «meridiem_len» = 0 }
 

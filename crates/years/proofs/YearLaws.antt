@@ -35,7 +35,8 @@ clean-some (b ∷ s) h = go (digit b) h (clean-some s)
   where
     go : (t : Bool) → cond (not t) (suc (span nonDigit s)) 0 < suc (length s)
         → (span nonDigit s < length s → clean s ≡ digitValue (getD s (span nonDigit s) 0) ∷ clean (drop (span nonDigit s + 1) s))
-        → map digitValue (cond t (b ∷ keep digit s) (keep digit s)) ≡ digitValue (getD (b ∷ s) (cond (not t) (suc (span nonDigit s)) 0) 0) ∷ clean (drop (cond (not t) (suc (span nonDigit s)) 0 + 1) (b ∷ s))
+        → map digitValue (cond t (b ∷ keep digit s) (keep digit s)) ≡ digitValue
+        (getD (b ∷ s) (cond (not t) (suc (span nonDigit s)) 0) 0) ∷ clean (drop (cond (not t) (suc (span nonDigit s)) 0 + 1) (b ∷ s))
     go true h i = refl
     go false h i = i (omega arith) ∙ simp add-one
 
@@ -44,7 +45,8 @@ unfolding clean keep span
 clean-none [] h = refl
 clean-none (b ∷ s) h = go (digit b) h (clean-none s)
   where
-    go : (t : Bool) → suc (length s) ≤ cond (not t) (suc (span nonDigit s)) 0 → (length s ≤ span nonDigit s → clean s ≡ []) → map digitValue (cond t (b ∷ keep digit s) (keep digit s)) ≡ []
+    go : (t : Bool) → suc (length s) ≤ cond (not t) (suc (span nonDigit s)) 0 → (length s ≤ span nonDigit s → clean s ≡ [])
+        → map digitValue (cond t (b ∷ keep digit s) (keep digit s)) ≡ []
     go true h i = absurd (omega arith)
     go false h i = i (omega arith)
 
@@ -93,7 +95,9 @@ pub year-two : (a b : ℕ) → yearOf (a ∷ b ∷ []) ≡ cond (eqb a 0) (cond 
 unfolding yearStep cardinalOf
 year-two a b = year-eq (a ∷ b ∷ []) ∙ rw (cardinal-2 (a ∷ b ∷ []) refl) (go (eqb a 0) (eqb b 0))
   where
-    go : (t u : Bool) → cond (t && u) (one 0 ∷ one 0 ∷ []) (cond t (other (bytes "oh") ∷ one b ∷ []) (pair a b)) ≡ cond t (cond u (one 0 ∷ one 0 ∷ []) (other (bytes "oh") ∷ one b ∷ [])) (pair a b)
+    go : (t u : Bool)
+        → cond (t && u) (one 0 ∷ one 0 ∷ []) (cond t (other (bytes "oh") ∷ one b ∷ []) (pair a b)) ≡ cond t
+        (cond u (one 0 ∷ one 0 ∷ []) (other (bytes "oh") ∷ one b ∷ [])) (pair a b)
     go true true = refl
     go true false = refl
     go false u = refl
@@ -113,7 +117,9 @@ year-four (a ∷ b ∷ c ∷ d ∷ e ∷ s) h p q r = absurd (omega arith)
 year-four (a ∷ b ∷ c ∷ d ∷ []) h p q r =
     rw (p, q, r) (year-eq (a ∷ b ∷ c ∷ d ∷ []) ∙ go (eqb b 0) (eqb c 0) (eqb d 0) (cardinalFew (a ∷ b ∷ c ∷ d ∷ [])) (cardinalFew (a ∷ b ∷ [])) (yearOf (c ∷ d ∷ [])))
   where
-    go : (t u v : Bool) (ws fs ls : List Word) → cond (u && v) (cond t ws (fs ++ hundred ∷ [])) (cond (t && u) ws (fs ++ ls)) ≡ cond (t && u) ws (fs ++ cond (u && v) (hundred ∷ []) ls)
+    go : (t u v : Bool) (ws fs ls : List Word)
+        → cond (u && v) (cond t ws (fs ++ hundred ∷ [])) (cond (t && u) ws (fs ++ ls)) ≡ cond (t && u) ws
+        (fs ++ cond (u && v) (hundred ∷ []) ls)
     go true true true ws fs ls = refl
     go true true false ws fs ls = refl
     go true false v ws fs ls = refl
@@ -128,7 +134,15 @@ year-long [] n e h = absurd (omega arith)
 year-long (a ∷ []) n e h = absurd (omega arith)
 year-long (a ∷ b ∷ s) n e h =
     year-eq (a ∷ b ∷ s)
-    ∙ rw (cardinal-2 (a ∷ b ∷ []) refl, ← e, ne-eqb n 4 (λ k. omega arith), ne-eqb n 3 (λ k. omega arith), ne-eqb n 2 (λ k. omega arith), lt-leb n 2 (omega arith)) (go (eqb (n % 2) 1))
+    ∙ rw (
+      cardinal-2 (a ∷ b ∷ []) refl,
+      ← e,
+      ne-eqb n 4 (λ k. omega arith),
+      ne-eqb n 3 (λ k. omega arith),
+      ne-eqb n 2 (λ k. omega arith),
+      lt-leb n 2 (omega arith),
+    )
+    (go (eqb (n % 2) 1))
   where
     go : (t : Bool) → cond t (one a ∷ yearOf (b ∷ s)) (pair a b ++ yearOf s) ≡ leadWords t (a ∷ b ∷ s) ++ yearOf (drop (leadCount t) (a ∷ b ∷ s))
     go true = refl
@@ -158,7 +172,8 @@ as-three [] h = absurd (omega arith)
 as-three (a ∷ s) h = ap (λ (t : List ℕ). a ∷ t) (as-two s (omega arith))
 
 -- one digit picked after another
-pub picked-two : (s : List ℕ) (a b : Picked) → PickedFrom s a → PickedFrom (drop (a .next) s) b → (b .value ≡ getD (clean s) 1 0) × (clean (drop (a .next + b .next) s) ≡ drop 2 (clean s)) × (a .next + b .next ≤ length s)
+pub picked-two : (s : List ℕ) (a b : Picked) → PickedFrom s a → PickedFrom (drop (a .next) s) b
+    → (b .value ≡ getD (clean s) 1 0) × (clean (drop (a .next + b .next) s) ≡ drop 2 (clean s)) × (a .next + b .next ≤ length s)
 picked-two s a b p q =
     (q .digit ∙ rw (p .others, getD-drop), rw (← drop-drop, q .others, p .others, drop-drop), omega (arith, p .within, q .within, length-drop (a .next) s))
 

@@ -6,4 +6,8 @@ use Rattle.admit.proofs.admit.Tie as tie
 
 pub admit-spec : {M : Type 1} → statement M
 unfolding textTests
-admit-spec = tie.close (tie.spec (λ c. rw (lt-ltb _ _ (c .if1 .taken))) (λ c κs. search needs) (λ c. rw (le-ltb _ _ (c .before .before .if1 .left), ← c .before .is-utf8 .ensures, c .if2 .taken)) (λ c. rw (le-ltb _ _ (c .before .before .if1 .left), ← c .before .is-utf8 .ensures, c .if2 .left)))
+admit-spec =
+    tie.close
+    (tie.spec (λ c. rw (lt-ltb _ _ (c .if1 .taken))) (λ c κs. search needs)
+    (λ c. rw (le-ltb _ _ (c .before .before .if1 .left), ← c .before .is-utf8 .ensures, c .if2 .taken))
+    (λ c. rw (le-ltb _ _ (c .before .before .if1 .left), ← c .before .is-utf8 .ensures, c .if2 .left)))

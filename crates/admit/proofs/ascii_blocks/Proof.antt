@@ -35,5 +35,11 @@ ascii-blocks-spec =
     (λ c. (c .before .before .before .before .before .loop .inv .1, omega arith))
     (λ c. search needs)
     (λ c. search needs)
-    (λ c. (omega arith, runs (c .before .before .before .before .before .before .before .args .s .now) (c .before .before .before .before .before .loop .i) 32 (c .before .before .before .before .before .loop .inv .1) (rw (← c .before .before .before .tail .ensures, ← c .before .before .front .ensures, ← c .before .is-ascii .ensures) (not-false _ (c .if1 .left)))))
+    (λ c.
+    let at-front = c .before .before in
+    let at-loop = at-front .before .before .before in (
+      omega arith,
+      runs (at-loop .before .before .args .s .now) (at-loop .loop .i) 32 (at-loop .loop .inv .1)
+          (rw (← at-front .before .tail .ensures, ← at-front .front .ensures, ← c .before .is-ascii .ensures) (not-false _ (c .if1 .left))),
+    ))
     (λ c. (c .before .loop .inv .1, omega arith)))

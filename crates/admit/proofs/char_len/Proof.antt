@@ -11,4 +11,12 @@ char-len-spec =
     (λ c κs. search needs)
     (λ c κs. search needs)
     (λ c κs. search needs)
-    (λ c. rw (← c .before .before .before .before .byte-at .ensures, ← c .before .before .before .byte-at2 .ensures, ← c .before .before .byte-at3 .ensures, ← c .before .byte-at4 .ensures) (c .char-bytes .ensures)))
+    (λ c.
+    let at-byte-at3 = c .before .before in
+    rw (
+      ← at-byte-at3 .before .before .byte-at .ensures,
+      ← at-byte-at3 .before .byte-at2 .ensures,
+      ← at-byte-at3 .byte-at3 .ensures,
+      ← c .before .byte-at4 .ensures,
+    )
+    (c .char-bytes .ensures)))

@@ -19,4 +19,14 @@ abbrev μ-loop : tie.MeasureT-loop
 pub is-ascii-spec : {M : Type 1} → statement M
 is-ascii-spec =
     tie.close
-    (tie.spec Inv-loop μ-loop (λ c. (search needs, refl)) (λ c. search needs) (λ c. search needs) (λ c. search needs) (λ c. (omega arith, sym (ascii-more (c .before .before .loop .ok) (c .before .before .before .args .s .now) (c .before .before .loop .i) (omega arith)) ∙ c .before .before .loop .inv .1)) (λ c. sym (ascii-end (c .before .loop .ok) (c .before .before .args .s .now) (c .before .loop .i) (omega arith)) ∙ c .before .loop .inv .1))
+    (tie.spec Inv-loop μ-loop
+    (λ c. (search needs, refl))
+    (λ c. search needs)
+    (λ c. search needs)
+    (λ c. search needs)
+    (λ c.
+    let at-loop = c .before .before in
+    (omega arith, sym (ascii-more (at-loop .loop .ok) (at-loop .before .args .s .now) (at-loop .loop .i) (omega arith)) ∙ at-loop .loop .inv .1))
+    (λ c.
+    let at-loop = c .before in
+    sym (ascii-end (at-loop .loop .ok) (at-loop .before .args .s .now) (at-loop .loop .i) (omega arith)) ∙ at-loop .loop .inv .1))

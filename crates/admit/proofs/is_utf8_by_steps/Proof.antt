@@ -24,8 +24,21 @@ is-utf8-by-steps-spec =
     (λ c. refl)
     (λ c κs. search needs)
     (λ c κs. search needs)
-    (λ c. sym (c .before .before .before .before .loop .inv ∙ (utf8-on (c .before .before .before .before .before .before .args .s .now) (c .before .before .before .before .loop .i) (c .before .step .result) (omega arith) (rw (c .before .before .tail .ensures) at (c .before .step .ensures)) ∙ rw (eq-eqb _ _ (c .if1 .taken)))))
+    (λ c.
+    let at-step = c .before in
+    let at-loop = at-step .before .before .before in
+    sym
+    (at-loop .loop .inv
+    ∙ (utf8-on (at-loop .before .before .args .s .now) (at-loop .loop .i) (at-step .step .result) (omega arith)
+    (rw (at-step .before .tail .ensures) at (at-step .step .ensures))
+    ∙ rw (eq-eqb _ _ (c .if1 .taken)))))
     (λ c. omega (arith, c .before .step .ensures .few, simp length-drop at (rw (c .before .before .tail .ensures) at (c .before .step .ensures .few))))
     (λ c. search needs)
-    (λ c. c .before .before .before .before .loop .inv ∙ (utf8-on (c .before .before .before .before .before .before .args .s .now) (c .before .before .before .before .loop .i) (c .before .step .result) (omega arith) (rw (c .before .before .tail .ensures) at (c .before .step .ensures)) ∙ rw (ne-eqb _ _ (c .if1 .left))))
+    (λ c.
+    let at-step = c .before in
+    let at-loop = at-step .before .before .before in
+    at-loop .loop .inv
+    ∙ (utf8-on (at-loop .before .before .args .s .now) (at-loop .loop .i) (at-step .step .result) (omega arith)
+    (rw (at-step .before .tail .ensures) at (at-step .step .ensures))
+    ∙ rw (ne-eqb _ _ (c .if1 .left))))
     (λ c. sym (c .before .loop .inv ∙ utf8-end _ _ (c .loop-test .left))))

@@ -11,7 +11,10 @@ refusal-of-spec =
     tie.close
     (tie.spec
     (λ c κs. search needs)
-    (λ c. sym (text-accepted _ (c .before .before .before .before .args .s .now) (record { short = omega arith; good = utf8-all _ (sym (c .before .all-of .ensures) ∙ c .if2 .taken) })))
+    (λ c.
+    sym
+    (text-accepted _ (c .before .before .before .before .args .s .now)
+    (record { short = omega arith; good = utf8-all _ (sym (c .before .all-of .ensures) ∙ c .if2 .taken) })))
     (λ c κs. search needs)
     (λ c. search needs)
     (λ c κs. search needs)

@@ -10,4 +10,27 @@ use Rattle.admit.proofs.step.Tie as tie
 pub step-spec : {M : Type 1} → statement M
 step-spec =
     tie.close
-    (tie.spec (λ c κs. search needs) (λ c. record { few = omega (arith, c .before .ascii-blocks .ensures .1); decides = λ h. rw (ne-eqb _ _ (c .if1 .taken)) (utf8-run (c .before .ascii-blocks .result) (c .before .before .before .args .s .now) (c .before .ascii-blocks .ensures .0)) }) (λ c κs. search needs) (λ c. record { few = omega (arith, c .before .span-of .ensures, span-le ascii (c .before .before .before .before .before .args .s .now)); decides = λ h. rw (ne-eqb _ _ (c .if2 .taken)) (utf8-run (c .before .span-of .result) (c .before .before .before .before .before .args .s .now) (rw (c .before .span-of .ensures) (span-all ascii (c .before .before .before .before .before .args .s .now)))) }) (λ c κs. search needs) (λ c. record { few = omega (arith, c .char-len .ensures .1); decides = utf8-char _ _ (c .char-len .ensures .0) }))
+    (tie.spec
+    (λ c κs. search needs)
+    (λ c.
+    let at-ascii-blocks = c .before in
+    record {
+      few = omega (arith, at-ascii-blocks .ascii-blocks .ensures .1);
+      decides = λ h.
+          rw (ne-eqb _ _ (c .if1 .taken))
+          (utf8-run (at-ascii-blocks .ascii-blocks .result) (at-ascii-blocks .before .before .args .s .now)
+          (at-ascii-blocks .ascii-blocks .ensures .0));
+    })
+    (λ c κs. search needs)
+    (λ c.
+    let at-span-of = c .before in
+    let start = at-span-of .before .before .before .before in
+    record {
+      few = omega (arith, at-span-of .span-of .ensures, span-le ascii (start .args .s .now));
+      decides = λ h.
+          rw (ne-eqb _ _ (c .if2 .taken))
+          (utf8-run (at-span-of .span-of .result) (start .args .s .now)
+          (rw (at-span-of .span-of .ensures) (span-all ascii (start .args .s .now))));
+    })
+    (λ c κs. search needs)
+    (λ c. record { few = omega (arith, c .char-len .ensures .1); decides = utf8-char _ _ (c .char-len .ensures .0) }))

@@ -15,12 +15,31 @@ call-entry-spec =
     (tie.spec
     (λ c κs. search needs)
     (λ c κs. search needs)
-    (λ c. entry-refused (c .before .before .before .before .before .args .s .now) (c .before .before .before .before .before .args .out .now) (c .before .before .refusal-of .ensures) (c .before .before .before .before .before .args .k) (c .before .if1 .taken) (c .entry-refused .ensures))
+    (λ c.
+    let at-if1 = c .before in
+    let start = at-if1 .before .before .before .before in
+    entry-refused (start .args .s .now) (start .args .out .now) (at-if1 .before .refusal-of .ensures) (start .args .k) (at-if1 .if1 .taken) (c .entry-refused .ensures))
     (λ c κs. search needs)
     (λ c κs. search needs)
     (λ c κs. search needs)
-    (λ c. entry-none (c .before .before .before .before .before .before .before .before .before .args .s .now) (c .before .before .before .before .before .before .before .before .before .args .out .now) (c .before .before .before .before .before .before .refusal-of .ensures) (c .before .before .before .before .before .before .before .before .before .args .k) (c .before .before .before .before .before .if1 .left) (sym (c .before .before .before .before .find-entry .ensures .there) ∙ not-true _ (c .before .before .if2 .taken)) (c .entry-refused2 .ensures ∙ ap refusedEntry (c .before .number-of .ensures)))
+    (λ c.
+    let at-if2 = c .before .before in
+    let at-if1 = at-if2 .before .before .before in
+    let start = at-if1 .before .before .before .before in
+    entry-none (start .args .s .now) (start .args .out .now) (at-if1 .before .refusal-of .ensures) (start .args .k) (at-if1 .if1 .left)
+    (sym (at-if2 .before .before .find-entry .ensures .there) ∙ not-true _ (at-if2 .if2 .taken))
+    (c .entry-refused2 .ensures ∙ ap refusedEntry (c .before .number-of .ensures)))
     (λ c κs. search needs)
     (λ c κs. search needs)
     (λ c. search needs)
-    (λ c. c .before .before .call-name .ensures ∙ ap (λ (m : List ℕ). nameCall (named (c .before .before .before .before .before .before .before .find-entry .result .starts) m) (c .before .before .before .before .before .before .before .before .before .before .before .before .args .out .now)) (c .before .before .before .before .part .ensures) ∙ ap (λ (e : SheetEntry). nameCall e (c .before .before .before .before .before .before .before .before .before .before .before .before .args .out .now)) (c .before .before .before .before .before .before .before .find-entry .ensures .entry (not-false _ (c .before .before .before .before .before .if2 .left))) ∙ entry-there (c .before .before .before .before .before .before .before .before .before .before .before .before .args .s .now) (c .before .before .before .before .before .before .before .before .before .before .before .before .args .out .now) (c .before .before .before .before .before .before .before .before .before .refusal-of .ensures) (c .before .before .before .before .before .before .before .before .before .before .before .before .args .k) (c .before .before .before .before .before .before .before .before .if1 .left) (sym (c .before .before .before .before .before .before .before .find-entry .ensures .there) ∙ not-false _ (c .before .before .before .before .before .if2 .left))))
+    (λ c.
+    let at-part = c .before .before .before .before in
+    let at-find-entry = at-part .before .before .before in
+    let at-if1 = at-find-entry .before in
+    let start = at-if1 .before .before .before .before in
+    c .before .before .call-name .ensures
+    ∙ ap (λ (m : List ℕ). nameCall (named (at-find-entry .find-entry .result .starts) m) (start .args .out .now)) (at-part .part .ensures)
+    ∙ ap (λ (e : SheetEntry). nameCall e (start .args .out .now))
+    (at-find-entry .find-entry .ensures .entry (not-false _ (at-part .before .if2 .left)))
+    ∙ entry-there (start .args .s .now) (start .args .out .now) (at-if1 .before .refusal-of .ensures) (start .args .k) (at-if1 .if1 .left)
+    (sym (at-find-entry .find-entry .ensures .there) ∙ not-false _ (at-part .before .if2 .left))))

@@ -12,13 +12,29 @@ call-name-spec =
     (tie.spec
     (λ c κs. search needs)
     (λ c κs. search needs)
-    (λ c. name-long (named (c .before .before .before .before .before .args .starts) (c .before .before .before .before .before .args .name .now)) (c .before .before .before .before .before .args .out .now) (c .before .before .if1 .taken) (c .entry-refused .ensures ∙ ap refusedEntry (c .before .number-of .ensures)))
+    (λ c.
+    let at-if1 = c .before .before in
+    let start = at-if1 .before .before .before in
+    name-long (named (start .args .starts) (start .args .name .now)) (start .args .out .now) (at-if1 .if1 .taken)
+    (c .entry-refused .ensures ∙ ap refusedEntry (c .before .number-of .ensures)))
     (λ c κs. search needs)
     (λ c κs. search needs)
     (λ c κs. search needs)
-    (λ c. line-short (named (c .before .before .before .before .before .before .before .args .starts) (c .before .before .before .before .before .before .before .args .name .now)) (c .before .before .before .before .before .before .before .args .out .now) (omega arith) (sym (c .before .before .before .is-line-short .ensures) ∙ c .before .before .if2 .taken) (c .entry-refused2 .ensures ∙ ap refusedEntry (c .before .number-of2 .ensures)))
+    (λ c.
+    let at-if2 = c .before .before in
+    let start = at-if2 .before .before .before .before .before in
+    line-short (named (start .args .starts) (start .args .name .now)) (start .args .out .now) (omega arith)
+    (sym (at-if2 .before .is-line-short .ensures) ∙ at-if2 .if2 .taken)
+    (c .entry-refused2 .ensures ∙ ap refusedEntry (c .before .number-of2 .ensures)))
     (λ c. search needs)
     (λ c κs. search needs)
     (λ c κs. search needs)
     (λ c. search needs)
-    (λ c. line-given (named (c .before .before .before .before .before .before .before .before .before .before .before .before .before .args .starts) (c .before .before .before .before .before .before .before .before .before .before .before .before .before .args .name .now)) (c .before .before .before .before .before .before .before .before .before .before .before .before .before .args .out .now) (let h = c .before .before .before .before .before .before .before .before .before .before .if1 .left in omega arith) (sym (c .before .before .before .before .before .before .before .before .before .is-line-short .ensures) ∙ c .before .before .before .before .before .before .before .before .if2 .left) (let g = c .before .before .before .before .before .before .before .before .before .before .before .before .before .good .1 .1 .0 .1 in omega arith) _ _ (c .before .before .before .before .before .spaced .ensures) (c .before .before .before .before .say-line .ensures .written) (c .before .before .before .before .say-line .ensures .row)))
+    (λ c.
+    let at-say-line = c .before .before .before .before in
+    let at-if2 = at-say-line .before .before .before .before in
+    let at-if1 = at-if2 .before .before in
+    let start = at-if1 .before .before .before in
+    line-given (named (start .args .starts) (start .args .name .now)) (start .args .out .now) (let h = at-if1 .if1 .left in omega arith)
+    (sym (at-if2 .before .is-line-short .ensures) ∙ at-if2 .if2 .left) (let g = start .good .1 .1 .0 .1 in omega arith) _ _
+    (at-say-line .before .spaced .ensures) (at-say-line .say-line .ensures .written) (at-say-line .say-line .ensures .row)))

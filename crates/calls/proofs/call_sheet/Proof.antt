@@ -12,16 +12,40 @@ call-sheet-spec =
     (tie.spec
     (λ c κs. search needs)
     (λ c κs. search needs)
-    (λ c. sheet-refused (c .before .before .before .before .before .args .s .now) (c .before .before .before .before .before .args .out .now) (c .before .before .refusal-of .ensures) (c .before .if1 .taken) (c .sheet-refused .ensures))
+    (λ c.
+    let at-if1 = c .before in
+    let start = at-if1 .before .before .before .before in
+    sheet-refused (start .args .s .now) (start .args .out .now) (at-if1 .before .refusal-of .ensures) (at-if1 .if1 .taken) (c .sheet-refused .ensures))
     (λ c κs. search needs)
     (λ c κs. search needs)
     (λ c κs. search needs)
-    (λ c. sheet-long (c .before .before .before .before .before .before .before .before .args .s .now) (c .before .before .before .before .before .before .before .before .args .out .now) (c .before .before .before .before .before .refusal-of .ensures) (c .before .before .before .before .if1 .left) (sym (c .before .before .before .has-long-name .ensures) ∙ c .before .before .if2 .taken) (c .sheet-refused2 .ensures ∙ ap refusedSheet (c .before .number-of .ensures)))
+    (λ c.
+    let at-if2 = c .before .before in
+    let at-if1 = at-if2 .before .before in
+    let start = at-if1 .before .before .before .before in
+    sheet-long (start .args .s .now) (start .args .out .now) (at-if1 .before .refusal-of .ensures) (at-if1 .if1 .left)
+    (sym (at-if2 .before .has-long-name .ensures) ∙ at-if2 .if2 .taken)
+    (c .sheet-refused2 .ensures ∙ ap refusedSheet (c .before .number-of .ensures)))
     (λ c κs. search needs)
     (λ c κs. search needs)
     (λ c κs. search needs)
-    (λ c. sheet-short (c .before .before .before .before .before .before .before .before .before .before .args .s .now) (c .before .before .before .before .before .before .before .before .before .before .args .out .now) (c .before .before .before .before .before .before .before .refusal-of .ensures) (c .before .before .before .before .before .before .if1 .left) (sym (c .before .before .before .before .before .has-long-name .ensures) ∙ c .before .before .before .before .if2 .left) (sym (c .before .before .before .is-sheet-short .ensures) ∙ c .before .before .if3 .taken) (c .sheet-refused3 .ensures ∙ ap refusedSheet (c .before .number-of2 .ensures)))
+    (λ c.
+    let at-if3 = c .before .before in
+    let at-if2 = at-if3 .before .before in
+    let at-if1 = at-if2 .before .before in
+    let start = at-if1 .before .before .before .before in
+    sheet-short (start .args .s .now) (start .args .out .now) (at-if1 .before .refusal-of .ensures) (at-if1 .if1 .left)
+    (sym (at-if2 .before .has-long-name .ensures) ∙ at-if2 .if2 .left) (sym (at-if3 .before .is-sheet-short .ensures) ∙ at-if3 .if3 .taken)
+    (c .sheet-refused3 .ensures ∙ ap refusedSheet (c .before .number-of2 .ensures)))
     (λ c. search needs)
     (λ c κs. search needs)
     (λ c. search needs)
-    (λ c. sheet-given (c .before .before .before .before .before .before .before .before .before .before .before .before .before .before .args .s .now) (c .before .before .before .before .before .before .before .before .before .before .before .before .before .before .args .out .now) (c .before .before .before .before .before .before .before .before .before .before .before .refusal-of .ensures) (c .before .before .before .before .before .before .before .before .before .before .if1 .left) (sym (c .before .before .before .before .before .before .before .before .before .has-long-name .ensures) ∙ c .before .before .before .before .before .before .before .before .if2 .left) (sym (c .before .before .before .before .before .before .before .is-sheet-short .ensures) ∙ c .before .before .before .before .before .before .if3 .left) (let g = c .before .before .before .before .before .before .before .before .before .before .before .before .before .before .good .1 .0 .1 in omega arith) _ _ (c .before .before .before .say-sheet .ensures .0) (c .before .before .before .say-sheet .ensures .1)))
+    (λ c.
+    let at-say-sheet = c .before .before .before in
+    let at-if3 = at-say-sheet .before .before .before in
+    let at-if2 = at-if3 .before .before in
+    let at-if1 = at-if2 .before .before in
+    let start = at-if1 .before .before .before .before in
+    sheet-given (start .args .s .now) (start .args .out .now) (at-if1 .before .refusal-of .ensures) (at-if1 .if1 .left)
+    (sym (at-if2 .before .has-long-name .ensures) ∙ at-if2 .if2 .left) (sym (at-if3 .before .is-sheet-short .ensures) ∙ at-if3 .if3 .left)
+    (let g = start .good .1 .0 .1 in omega arith) _ _ (at-say-sheet .say-sheet .ensures .0) (at-say-sheet .say-sheet .ensures .1)))

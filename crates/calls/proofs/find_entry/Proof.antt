@@ -24,15 +24,36 @@ find-entry-spec =
     (λ c. (left-all (c .fresh .ensures), omega arith))
     (λ c κs. search needs)
     (λ c κs. search needs)
-    (λ c. found-none _ (c .nowhere .ensures) (c .before .before .before .before .before .loop .inv .1) (left-none (c .before .before .before .before .before .loop .inv .0) (c .before .before .before .token-at .ensures) (c .before .if1 .taken)))
+    (λ c.
+    let at-token-at = c .before .before .before in
+    found-none _ (c .nowhere .ensures) (at-token-at .before .before .loop .inv .1)
+    (left-none (at-token-at .before .before .loop .inv .0) (at-token-at .token-at .ensures) (c .before .if1 .taken)))
     (λ c κs. search needs)
     (λ c κs. search needs)
     (λ c κs. search needs)
-    (λ c. found-here (left-next (c .before .before .before .before .before .before .before .before .loop .inv .0) (c .before .before .before .before .before .before .token-at .ensures) (c .before .before .before .before .if1 .left) (c .before .part2 .ensures) (c .before .before .before .part .ensures) refl (c .starts-sentence .ensures) refl) (c .before .before .if2 .taken) (c .before .before .before .part .ensures))
+    (λ c.
+    let at-part = c .before .before .before in
+    let at-token-at = at-part .before .before .before in
+    found-here
+    (left-next (at-token-at .before .before .loop .inv .0) (at-token-at .token-at .ensures) (at-part .before .if1 .left)
+    (c .before .part2 .ensures) (at-part .part .ensures) refl (c .starts-sentence .ensures) refl)
+    (c .before .before .if2 .taken) (at-part .part .ensures))
     (λ c κs. search needs)
     (λ c κs. search needs)
     (λ c. omega arith)
-    (λ c. let m = moves-on (c .before .before .before .before .before .before .before .before .before .before .before .args .s .now) (c .before .before .before .before .before .before .before .before .loop .at) _ (c .before .before .before .before .before .before .before .before .loop .inv .0 .within) (c .before .before .before .before .before .before .token-at .ensures) (c .before .before .before .before .if1 .left) in omega (arith, m .0, m .1))
-    (λ c. (left-next (c .before .before .before .before .before .before .before .before .loop .inv .0) (c .before .before .before .before .before .before .token-at .ensures) (c .before .before .before .before .if1 .left) refl (c .before .before .before .part .ensures) (c .before .part3 .ensures) refl (c .kept .ensures) .1, omega arith))
+    (λ c.
+    let at-if1 = c .before .before .before .before in
+    let at-loop = at-if1 .before .before .before .before in
+    let m =
+    moves-on (at-loop .before .before .before .args .s .now) (at-loop .loop .at) _ (at-loop .loop .inv .0 .within)
+    (at-if1 .before .before .token-at .ensures) (at-if1 .if1 .left) in
+    omega (arith, m .0, m .1))
+    (λ c.
+    let at-part = c .before .before .before in
+    let at-token-at = at-part .before .before .before in (
+      left-next (at-token-at .before .before .loop .inv .0) (at-token-at .token-at .ensures) (at-part .before .if1 .left) refl
+          (at-part .part .ensures) (c .before .part3 .ensures) refl (c .kept .ensures) .1,
+      omega arith,
+    ))
     (λ c κs. search needs)
     (λ c. found-none _ (c .nowhere2 .ensures) (c .before .before .loop .inv .1) (left-past (c .before .before .loop .inv .0) (omega arith))))

@@ -28,9 +28,34 @@ has-long-name-spec =
     (λ c. sym (c .before .has-long-run .ensures (not-true _ (c .if1 .taken))))
     (λ c. (omega arith, long-names (c .before .before .before .args .s .now)))
     (λ c κs. search needs)
-    (λ c. long-none (no-more (c .before .before .before .before .before .before .before .before .args .s .now) (c .before .before .before .before .loop .at) _ (c .before .before .before .before .loop .inv .0) (c .before .before .token-at .ensures) (c .if2 .taken)) (c .before .before .before .before .loop .inv .1))
+    (λ c.
+    let at-loop = c .before .before .before .before in
+    long-none
+    (no-more (at-loop .before .before .before .before .args .s .now) (at-loop .loop .at) _ (at-loop .loop .inv .0)
+    (c .before .before .token-at .ensures) (c .if2 .taken))
+    (at-loop .loop .inv .1))
     (λ c κs. search needs)
-    (λ c. long-here (c .before .before .before .before .before .before .before .before .before .before .args .s .now) (c .before .before .before .before .before .before .loop .at) _ (c .before .before .before .before .before .before .loop .inv .0) (c .before .before .before .before .token-at .ensures) (c .before .before .if2 .left) (omega (arith, c .before .minus .ensures)) (c .before .before .before .before .before .before .loop .inv .1))
-    (λ c. let m = moves-on (c .before .before .before .before .before .before .before .before .before .before .args .s .now) (c .before .before .before .before .before .before .loop .at) _ (c .before .before .before .before .before .before .loop .inv .0) (c .before .before .before .before .token-at .ensures) (c .before .before .if2 .left) in omega (arith, m .0, m .1))
-    (λ c. (moves-on (c .before .before .before .before .before .before .before .before .before .before .args .s .now) (c .before .before .before .before .before .before .loop .at) _ (c .before .before .before .before .before .before .loop .inv .0) (c .before .before .before .before .token-at .ensures) (c .before .before .if2 .left) .1, long-later (c .before .before .before .before .before .before .before .before .before .before .args .s .now) (c .before .before .before .before .before .before .loop .at) _ (c .before .before .before .before .before .before .loop .inv .0) (c .before .before .before .before .token-at .ensures) (c .before .before .if2 .left) (omega (arith, c .before .minus .ensures)) (c .before .before .before .before .before .before .loop .inv .1)))
-    (λ c. long-none (tokens-past (c .before .before .before .before .before .args .s .now) (c .before .loop .at) (omega arith)) (c .before .loop .inv .1)))
+    (λ c.
+    let at-if2 = c .before .before in
+    let at-loop = at-if2 .before .before .before .before in
+    long-here (at-loop .before .before .before .before .args .s .now) (at-loop .loop .at) _ (at-loop .loop .inv .0)
+    (at-if2 .before .before .token-at .ensures) (at-if2 .if2 .left) (omega (arith, c .before .minus .ensures)) (at-loop .loop .inv .1))
+    (λ c.
+    let at-if2 = c .before .before in
+    let at-loop = at-if2 .before .before .before .before in
+    let m =
+    moves-on (at-loop .before .before .before .before .args .s .now) (at-loop .loop .at) _ (at-loop .loop .inv .0)
+    (at-if2 .before .before .token-at .ensures) (at-if2 .if2 .left) in
+    omega (arith, m .0, m .1))
+    (λ c.
+    let at-if2 = c .before .before in
+    let at-token-at = at-if2 .before .before in
+    let at-loop = at-token-at .before .before in
+    let start = at-loop .before .before .before .before in (
+      moves-on (start .args .s .now) (at-loop .loop .at) _ (at-loop .loop .inv .0) (at-token-at .token-at .ensures) (at-if2 .if2 .left) .1,
+      long-later (start .args .s .now) (at-loop .loop .at) _ (at-loop .loop .inv .0) (at-token-at .token-at .ensures) (at-if2 .if2 .left)
+          (omega (arith, c .before .minus .ensures)) (at-loop .loop .inv .1),
+    ))
+    (λ c.
+    let at-loop = c .before in
+    long-none (tokens-past (at-loop .before .before .before .before .args .s .now) (at-loop .loop .at) (omega arith)) (at-loop .loop .inv .1)))

@@ -26,7 +26,23 @@ has-long-run-spec =
     (λ c κs. search needs)
     (λ c κs. search needs)
     (λ c. λ e. absurd (false≢true (sym e)))
-    (λ c. let w = ahead-within (c .before .before .before .before .before .before .args .s .now) (c .before .before .before .before .loop .at) (c .before .before .part .ensures) (c .before .after-last .ensures) (c .before .before .before .before .loop .inv .0) in let g = c .before .before .before .before .before .before .good .0 .1 in omega arith)
-    (λ c. let w = ahead-within (c .before .before .before .before .before .before .args .s .now) (c .before .before .before .before .loop .at) (c .before .before .part .ensures) (c .before .after-last .ensures) (c .before .before .before .before .loop .inv .0) in omega arith)
-    (λ c. (ahead-within (c .before .before .before .before .before .before .args .s .now) (c .before .before .before .before .loop .at) (c .before .before .part .ensures) (c .before .after-last .ensures) (c .before .before .before .before .loop .inv .0), runs-on (c .before .before .before .before .before .before .args .s .now) (c .before .before .before .before .loop .at) (c .before .before .part .ensures) (c .before .after-last .ensures) (c .if1 .left) (c .before .before .before .before .loop .inv .1)))
+    (λ c.
+    let at-loop = c .before .before .before .before in
+    let start = at-loop .before .before in
+    let w = ahead-within (start .args .s .now) (at-loop .loop .at) (c .before .before .part .ensures) (c .before .after-last .ensures) (at-loop .loop .inv .0) in
+    let g = start .good .0 .1 in
+    omega arith)
+    (λ c.
+    let at-loop = c .before .before .before .before in
+    let w = ahead-within (at-loop .before .before .args .s .now) (at-loop .loop .at) (c .before .before .part .ensures) (c .before .after-last .ensures) (at-loop .loop .inv .0) in
+    omega arith)
+    (λ c.
+    let at-after-last = c .before in
+    let at-loop = at-after-last .before .before .before in
+    let start = at-loop .before .before in (
+      ahead-within (start .args .s .now) (at-loop .loop .at) (at-after-last .before .part .ensures) (at-after-last .after-last .ensures)
+          (at-loop .loop .inv .0),
+      runs-on (start .args .s .now) (at-loop .loop .at) (at-after-last .before .part .ensures) (at-after-last .after-last .ensures)
+          (c .if1 .left) (at-loop .loop .inv .1),
+    ))
     (λ c. λ e. runs-end (c .before .before .before .args .s .now) (omega arith) (c .before .loop .inv .1)))

@@ -10,9 +10,15 @@ pub is-line-short-spec : {M : Type 1} → statement M
 is-line-short-spec =
     tie.close
     (tie.spec
-    (λ c. surely-fits _ (length (c .before .before .args .name .now)) _ (line-fits (named (c .before .before .args .starts) (c .before .before .args .name .now))) (c .if1 .taken))
+    (λ c.
+    let start = c .before .before in
+    surely-fits _ (length (start .args .name .now)) _ (line-fits (named (start .args .starts) (start .args .name .now))) (c .if1 .taken))
     (λ c. search needs)
     (λ c. search needs)
     (λ c κs. search needs)
     (λ c κs. search needs)
-    (λ c. let e = named (c .before .before .before .before .before .before .before .before .before .args .starts) (c .before .before .before .before .before .before .before .before .before .args .name .now) in measured-lines (wrote-line e) (line-words e) _ _ _ _ (c .before .before .before .before .spaced .ensures) (c .before .before .before .say-line .ensures .written) _ (c .before .before .before .before .before .before .before .before .before .pre)))
+    (λ c.
+    let at-say-line = c .before .before .before in
+    let start = at-say-line .before .before .before .before .before .before in
+    let e = named (start .args .starts) (start .args .name .now) in
+    measured-lines (wrote-line e) (line-words e) _ _ _ _ (at-say-line .before .spaced .ensures) (at-say-line .say-line .ensures .written) _ (start .pre)))

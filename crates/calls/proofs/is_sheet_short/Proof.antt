@@ -11,8 +11,14 @@ pub is-sheet-short-spec : {M : Type 1} → statement M
 is-sheet-short-spec =
     tie.close
     (tie.spec
-    (λ c. surely-fits _ (length (c .before .before .args .s .now)) _ (sheet-room (c .before .before .args .s .now)) (c .if1 .taken))
+    (λ c.
+    let start = c .before .before in
+    surely-fits _ (length (start .args .s .now)) _ (sheet-room (start .args .s .now)) (c .if1 .taken))
     (λ c. search needs)
     (λ c. search needs)
     (λ c κs. search needs)
-    (λ c. let es = entries (c .before .before .before .before .before .before .before .before .args .s .now) in measured-lines (wrote-lines es) (lines-words es) _ _ _ _ refl (c .before .before .before .say-sheet .ensures .1) _ (c .before .before .before .before .before .before .before .before .pre)))
+    (λ c.
+    let at-say-sheet = c .before .before .before in
+    let start = at-say-sheet .before .before .before .before .before in
+    let es = entries (start .args .s .now) in
+    measured-lines (wrote-lines es) (lines-words es) _ _ _ _ refl (at-say-sheet .say-sheet .ensures .1) _ (start .pre)))

@@ -14,4 +14,14 @@ say-line-spec =
     (λ c κs. search needs)
     (λ c. search needs)
     (λ c. search needs)
-    (λ c. record { row = c .before .before .before .before .before .before .before .before .before .before .read-name .ensures .row; written = line-said (named (c .before .before .before .before .before .before .before .before .before .before .before .before .before .before .before .before .before .before .before .before .before .args .starts) (c .before .before .before .before .before .before .before .before .before .before .before .before .before .before .before .before .before .before .before .before .before .args .name .now)) _ _ _ (c .before .before .before .before .before .before .before .before .before .before .before .before .before .before .before .before .mark-of .ensures) (c .before .before .before .before .before .before .before .before .before .before .before .before .before .before .before .byte .ensures (c .before .before .before .before .before .before .before .before .before .before .before .before .before .before .before .before .before .before .before .before .before .args .table .now)) (c .before .before .before .before .before .before .before .before .before .before .read-name .ensures .said) (c .before .before .byte2 .ensures _) }))
+    (λ c.
+    let at-byte2 = c .before .before in
+    let at-read-name = at-byte2 .before .before .before .before .before .before .before .before in
+    let at-byte = at-read-name .before .before .before .before .before in
+    let start = at-byte .before .before .before .before .before .before in
+    record {
+      row = at-read-name .read-name .ensures .row;
+      written =
+          line-said (named (start .args .starts) (start .args .name .now)) _ _ _ (at-byte .before .mark-of .ensures)
+          (at-byte .byte .ensures (start .args .table .now)) (at-read-name .read-name .ensures .said) (at-byte2 .byte2 .ensures _);
+    }))

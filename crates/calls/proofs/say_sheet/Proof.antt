@@ -14,7 +14,9 @@ use Rattle.calls.proofs.say_sheet.Statement.{statement}
 use Rattle.calls.proofs.say_sheet.Tie as tie
 
 abbrev Inv-loop : tie.InvT-loop
-Inv-loop s out₀ table₀ state₀ pen₀ n₀ at₀ out table state pen n at = Left s n at state × (length out ≡ length out₀) × (length table ≡ length table₀) × (linesTo (drop n (entries s)) (sink out table pen) ≡ linesTo (entries s) (sink out₀ table₀ spacedPen))
+Inv-loop s out₀ table₀ state₀ pen₀ n₀ at₀ out table state pen n at =
+    Left s n at state × (length out ≡ length out₀) × (length table ≡ length table₀)
+    × (linesTo (drop n (entries s)) (sink out table pen) ≡ linesTo (entries s) (sink out₀ table₀ spacedPen))
 
 abbrev μ-loop : tie.MeasureT-loop
 μ-loop s out₀ table₀ state₀ pen₀ n₀ at₀ out table state pen n at = length s - at
@@ -27,20 +29,60 @@ say-sheet-spec =
     μ-loop
     (λ c κs. search needs)
     (λ c κs. search needs)
-    (λ c. (left-all (c .before .fresh .ensures), refl, refl, ap (λ (p : Pen). linesTo (entries (c .before .before .before .before .before .args .s .now)) (sink (c .before .before .before .before .before .args .out .now) (c .before .before .before .before .before .args .table .now) p)) (c .spaced .ensures)))
+    (λ c.
+    let start = c .before .before .before .before .before in (
+      left-all (c .before .fresh .ensures),
+      refl,
+      refl,
+      ap (λ (p : Pen). linesTo (entries (start .args .s .now)) (sink (start .args .out .now) (start .args .table .now) p))
+          (c .spaced .ensures),
+    ))
     (λ c κs. search needs)
     (λ c. search needs)
     (λ c. search needs)
-    (λ c. let d = left-none (c .before .before .before .before .loop .inv .0) (c .before .before .token-at .ensures) (c .if1 .taken) in (d, lines-done (c .before .before .before .before .before .before .before .before .before .before .args .s .now) _ d (c .before .before .before .before .loop .inv .3)))
+    (λ c.
+    let at-loop = c .before .before .before .before in
+    let d = left-none (at-loop .loop .inv .0) (c .before .before .token-at .ensures) (c .if1 .taken) in
+    (d, lines-done (at-loop .before .before .before .before .before .before .args .s .now) _ d (at-loop .loop .inv .3)))
     (λ c κs. search needs)
     (λ c κs. search needs)
     (λ c κs. search needs)
     (λ c κs. search needs)
     (λ c κs. search needs)
     (λ c κs. search needs)
-    (λ c. let m = moves-on (c .before .before .before .before .before .before .before .before .before .before .before .before .before .before .before .before .before .before .before .before .before .before .before .args .s .now) (c .before .before .before .before .before .before .before .before .before .before .before .before .before .before .before .before .before .loop .at) _ (c .before .before .before .before .before .before .before .before .before .before .before .before .before .before .before .before .before .loop .inv .0 .within) (c .before .before .before .before .before .before .before .before .before .before .before .before .before .before .before .token-at .ensures) (c .before .before .before .before .before .before .before .before .before .before .before .before .before .if1 .left) in let f = c .before .before .before .before .before .before .before .before .before .before .before .before .before .before .before .before .before .loop .inv .0 .few in let g = c .before .before .before .before .before .before .before .before .before .before .before .before .before .before .before .before .before .before .before .before .before .before .before .good .0 .1 in omega (arith, m .0, m .1))
-    (λ c. let m = moves-on (c .before .before .before .before .before .before .before .before .before .before .before .before .before .before .before .before .before .before .before .before .before .before .before .args .s .now) (c .before .before .before .before .before .before .before .before .before .before .before .before .before .before .before .before .before .loop .at) _ (c .before .before .before .before .before .before .before .before .before .before .before .before .before .before .before .before .before .loop .inv .0 .within) (c .before .before .before .before .before .before .before .before .before .before .before .before .before .before .before .token-at .ensures) (c .before .before .before .before .before .before .before .before .before .before .before .before .before .if1 .left) in omega (arith, m .0, m .1))
-    (λ c. let o = left-next (c .before .before .before .before .before .before .before .before .before .before .before .before .before .before .before .before .before .loop .inv .0) (c .before .before .before .before .before .before .before .before .before .before .before .before .before .before .before .token-at .ensures) (c .before .before .before .before .before .before .before .before .before .before .before .before .before .if1 .left) (c .before .before .before .before .before .before .before .before .before .before .before .part2 .ensures) (c .before .before .before .before .before .before .before .before .before .before .before .before .part .ensures) (c .before .part3 .ensures) (c .before .before .before .before .before .before .before .before .before .before .starts-sentence .ensures) (c .kept .ensures) in (o .1, c .before .before .before .before .before .before .before .say-line .kept .1 .1 .0 ∙ c .before .before .before .before .before .before .before .before .before .before .before .before .before .before .before .before .before .loop .inv .1, c .before .before .before .before .before .before .before .say-line .kept .1 .1 .1 .0 ∙ c .before .before .before .before .before .before .before .before .before .before .before .before .before .before .before .before .before .loop .inv .2, lines-on _ (o .0) (c .before .before .before .before .before .before .before .say-line .ensures .written) (c .before .before .before .before .before .before .before .before .before .before .before .before .before .before .before .before .before .loop .inv .3)))
+    (λ c.
+    let at-if1 = c .before .before .before .before .before .before .before .before .before .before .before .before .before in
+    let at-loop = at-if1 .before .before .before .before in
+    let start = at-loop .before .before .before .before .before .before in
+    let m = moves-on (start .args .s .now) (at-loop .loop .at) _ (at-loop .loop .inv .0 .within) (at-if1 .before .before .token-at .ensures) (at-if1 .if1 .left) in
+    let f = at-loop .loop .inv .0 .few in
+    let g = start .good .0 .1 in
+    omega (arith, m .0, m .1))
+    (λ c.
+    let at-if1 = c .before .before .before .before .before .before .before .before .before .before .before .before .before in
+    let at-loop = at-if1 .before .before .before .before in
+    let m =
+    moves-on (at-loop .before .before .before .before .before .before .args .s .now) (at-loop .loop .at) _ (at-loop .loop .inv .0 .within)
+    (at-if1 .before .before .token-at .ensures) (at-if1 .if1 .left) in
+    omega (arith, m .0, m .1))
+    (λ c.
+    let at-say-line = c .before .before .before .before .before .before .before in
+    let at-starts-sentence = at-say-line .before .before .before in
+    let at-part = at-starts-sentence .before .before in
+    let at-token-at = at-part .before .before .before in
+    let at-loop = at-token-at .before .before in
+    let o =
+    left-next (at-loop .loop .inv .0) (at-token-at .token-at .ensures) (at-part .before .if1 .left)
+    (at-starts-sentence .before .part2 .ensures) (at-part .part .ensures) (c .before .part3 .ensures)
+    (at-starts-sentence .starts-sentence .ensures) (c .kept .ensures) in (
+      o .1,
+      at-say-line .say-line .kept .1 .1 .0 ∙ at-loop .loop .inv .1,
+      at-say-line .say-line .kept .1 .1 .1 .0 ∙ at-loop .loop .inv .2,
+      lines-on _ (o .0) (at-say-line .say-line .ensures .written) (at-loop .loop .inv .3),
+    ))
     (λ c. search needs)
     (λ c. search needs)
-    (λ c. let d = left-past (c .before .loop .inv .0) (omega arith) in (d, lines-done (c .before .before .before .before .before .before .before .args .s .now) _ d (c .before .loop .inv .3))))
+    (λ c.
+    let at-loop = c .before in
+    let d = left-past (at-loop .loop .inv .0) (omega arith) in
+    (d, lines-done (at-loop .before .before .before .before .before .before .args .s .now) _ d (at-loop .loop .inv .3))))

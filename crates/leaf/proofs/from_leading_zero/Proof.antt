@@ -14,23 +14,79 @@ use Rattle.leaf.proofs.from_leading_zero.Tie as tie
 
 returns : tie.Need-returns
 unfolding rowsAfter
-returns c = says-row _ LeadingZero (digits (c .before .before .before .before .before .before .before .before .before .before .before .before .before .args .name .now)) (rw (sym (c .before .before .before .before .before .before .before .before .before .is-leading-zero-digits .ensures) ∙ c .before .before .before .before .before .before .before .before .if1 .taken)) _ (c .answer .ensures .0) (rw (c .answer .ensures .1) (c .before .before .before .before .before .say-digits .ensures))
+returns c =
+    let at-say-digits = c .before .before .before .before .before in
+    let at-if1 = at-say-digits .before .before .before in
+    says-row _ LeadingZero (digits (at-if1 .before .before .before .before .before .args .name .now))
+    (rw (sym (at-if1 .before .is-leading-zero-digits .ensures) ∙ at-if1 .if1 .taken)) _ (c .answer .ensures .0)
+    (rw (c .answer .ensures .1) (at-say-digits .say-digits .ensures))
 
 returns-2 : tie.Need-returns-2
 unfolding rowsAfter
-returns-2 c = says-row _ Digits (cardinal (c .before .before .before .before .before .before .before .before .before .before .before .before .before .before .before .args .name .now)) (rw (sym (c .before .before .before .before .before .before .before .before .before .before .before .is-leading-zero-digits .ensures) ∙ c .before .before .before .before .before .before .before .before .before .before .if1 .left, sym (c .before .before .before .before .before .before .before .before .before .is-digits .ensures) ∙ c .before .before .before .before .before .before .before .before .if2 .taken)) _ (c .answer2 .ensures .0) (rw (c .answer2 .ensures .1) (c .before .before .before .before .before .say-cardinal .ensures))
+returns-2 c =
+    let at-say-cardinal = c .before .before .before .before .before in
+    let at-if2 = at-say-cardinal .before .before .before in
+    let at-if1 = at-if2 .before .before in
+    says-row _ Digits (cardinal (at-if1 .before .before .before .before .before .args .name .now))
+    (rw (
+      sym (at-if1 .before .is-leading-zero-digits .ensures) ∙ at-if1 .if1 .left,
+      sym (at-if2 .before .is-digits .ensures) ∙ at-if2 .if2 .taken,
+    )) _
+    (c .answer2 .ensures .0) (rw (c .answer2 .ensures .1) (at-say-cardinal .say-cardinal .ensures))
 
 returns-3 : tie.Need-returns-3
 unfolding rowsAfter
-returns-3 c = says-row _ (Figure (signOf (c .before .before .before .before .before .before .before .before .before .before .before .before .before .before .before .before .before .before .args .name .now))) (real (c .before .before .before .before .before .before .before .before .before .before .before .before .before .before .before .before .before .before .args .name .now)) (rw (sym (c .before .before .before .before .before .before .before .before .before .before .before .before .before .before .is-leading-zero-digits .ensures) ∙ c .before .before .before .before .before .before .before .before .before .before .before .before .before .if1 .left, sym (c .before .before .before .before .before .before .before .before .before .before .before .before .is-digits .ensures) ∙ c .before .before .before .before .before .before .before .before .before .before .before .if2 .left, sym (c .before .before .before .before .before .before .before .before .before .before .is-double .ensures) ∙ c .before .before .before .before .before .before .before .before .before .if3 .taken)) _ (c .answer3 .ensures .0 ∙ ap Figure (c .before .sign-of .ensures)) (rw (c .answer3 .ensures .1) (c .before .before .before .before .before .before .say-real .ensures))
+returns-3 c =
+    let at-say-real = c .before .before .before .before .before .before in
+    let at-if3 = at-say-real .before .before .before in
+    let at-if2 = at-if3 .before .before in
+    let at-if1 = at-if2 .before .before in
+    let start = at-if1 .before .before .before .before .before in
+    says-row _ (Figure (signOf (start .args .name .now))) (real (start .args .name .now))
+    (rw (
+      sym (at-if1 .before .is-leading-zero-digits .ensures) ∙ at-if1 .if1 .left,
+      sym (at-if2 .before .is-digits .ensures) ∙ at-if2 .if2 .left,
+      sym (at-if3 .before .is-double .ensures) ∙ at-if3 .if3 .taken,
+    )) _
+    (c .answer3 .ensures .0 ∙ ap Figure (c .before .sign-of .ensures)) (rw (c .answer3 .ensures .1) (at-say-real .say-real .ensures))
 
 returns-4 : tie.Need-returns-4
 unfolding rowsAfter
-returns-4 c = says-row _ Ordinal (ordinal (take (length (c .before .before .before .before .before .before .before .before .before .before .before .before .before .before .before .before .before .before .before .before .args .name .now) - 2) (c .before .before .before .before .before .before .before .before .before .before .before .before .before .before .before .before .before .before .before .before .args .name .now))) (rw (sym (c .before .before .before .before .before .before .before .before .before .before .before .before .before .before .before .before .is-leading-zero-digits .ensures) ∙ c .before .before .before .before .before .before .before .before .before .before .before .before .before .before .before .if1 .left, sym (c .before .before .before .before .before .before .before .before .before .before .before .before .before .before .is-digits .ensures) ∙ c .before .before .before .before .before .before .before .before .before .before .before .before .before .if2 .left, sym (c .before .before .before .before .before .before .before .before .before .before .before .before .is-double .ensures) ∙ c .before .before .before .before .before .before .before .before .before .before .before .if3 .left, sym (c .before .before .before .before .before .before .before .before .before .before .is-ordinal .ensures) ∙ c .before .before .before .before .before .before .before .before .before .if4 .taken)) _ (c .answer4 .ensures .0) (rw (c .answer4 .ensures .1) (rw (c .before .before .before .before .before .before .before .before .without-back .ensures) at (c .before .before .before .before .before .say-ordinal .ensures)))
+returns-4 c =
+    let at-say-ordinal = c .before .before .before .before .before in
+    let at-without-back = at-say-ordinal .before .before .before in
+    let at-is-ordinal = at-without-back .before .before in
+    let at-is-double = at-is-ordinal .before .before in
+    let at-is-digits = at-is-double .before .before in
+    let at-is-leading-zero-digits = at-is-digits .before .before in
+    let start = at-is-leading-zero-digits .before .before .before .before in
+    says-row _ Ordinal (ordinal (take (length (start .args .name .now) - 2) (start .args .name .now)))
+    (rw (
+      sym (at-is-leading-zero-digits .is-leading-zero-digits .ensures) ∙ at-is-digits .before .if1 .left,
+      sym (at-is-digits .is-digits .ensures) ∙ at-is-double .before .if2 .left,
+      sym (at-is-double .is-double .ensures) ∙ at-is-ordinal .before .if3 .left,
+      sym (at-is-ordinal .is-ordinal .ensures) ∙ at-without-back .before .if4 .taken,
+    )) _
+    (c .answer4 .ensures .0)
+    (rw (c .answer4 .ensures .1) (rw (at-without-back .without-back .ensures) at (at-say-ordinal .say-ordinal .ensures)))
 
 returns-5 : tie.Need-returns-5
 unfolding rowsAfter
-returns-5 c = says-same _ _ (rw (sym (c .before .before .before .before .before .before .before .before .before .before .before .before .before .before .is-leading-zero-digits .ensures) ∙ c .before .before .before .before .before .before .before .before .before .before .before .before .before .if1 .left, sym (c .before .before .before .before .before .before .before .before .before .before .before .before .is-digits .ensures) ∙ c .before .before .before .before .before .before .before .before .before .before .before .if2 .left, sym (c .before .before .before .before .before .before .before .before .before .before .is-double .ensures) ∙ c .before .before .before .before .before .before .before .before .before .if3 .left, sym (c .before .before .before .before .before .before .before .before .is-ordinal .ensures) ∙ c .before .before .before .before .before .before .before .if4 .left, c .before .before .before .before .before .before .before .before .before .before .before .before .before .before .before .before .before .before .pre)) _ (c .before .before .before .before .from-unit .ensures)
+returns-5 c =
+    let at-from-unit = c .before .before .before .before in
+    let at-if4 = at-from-unit .before .before .before in
+    let at-if3 = at-if4 .before .before in
+    let at-if2 = at-if3 .before .before in
+    let at-if1 = at-if2 .before .before in
+    says-same _ _
+    (rw (
+      sym (at-if1 .before .is-leading-zero-digits .ensures) ∙ at-if1 .if1 .left,
+      sym (at-if2 .before .is-digits .ensures) ∙ at-if2 .if2 .left,
+      sym (at-if3 .before .is-double .ensures) ∙ at-if3 .if3 .left,
+      sym (at-if4 .before .is-ordinal .ensures) ∙ at-if4 .if4 .left,
+      at-if1 .before .before .before .before .before .pre,
+    )) _
+    (at-from-unit .from-unit .ensures)
 
 pub from-leading-zero-spec : {M : Type 1} → statement M
 from-leading-zero-spec =

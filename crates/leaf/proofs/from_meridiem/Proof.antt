@@ -11,11 +11,34 @@ use Rattle.leaf.proofs.from_meridiem.Tie as tie
 
 returns : tie.Need-returns
 unfolding rowsAfter
-returns c = says-same _ _ (rw (split-none (c .before .before .before .before .before .before .before .before .before .before .before .before .before .args .name .now) (c .before .before .before .before .before .before .before .before .before .split-time-meridiem .ensures .offsets) (c .before .before .before .before .before .before .before .enum-told .given .1))) _ (c .before .before .before .before .from-leading-zero .ensures)
+returns c =
+    let at-from-leading-zero = c .before .before .before .before in
+    let at-enum-told = at-from-leading-zero .before .before .before in
+    let at-split-time-meridiem = at-enum-told .before .before in
+    says-same _ _
+    (rw (split-none (at-split-time-meridiem .before .before .before .before .args .name .now)
+    (at-split-time-meridiem .split-time-meridiem .ensures .offsets) (at-enum-told .enum-told .given .1))) _
+    (at-from-leading-zero .from-leading-zero .ensures)
 
 returns-2 : tie.Need-returns-2
 unfolding rowsAfter clockLetters
-returns-2 c = says-row _ Meridiem (clockLetters (timeParts (c .before .before .before .before .before .before .before .before .before .before .before .before .before .before .before .before .before .before .before .before .before .before .before .before .before .args .name .now))) (rw (split-some (c .before .before .before .before .before .before .before .before .before .before .before .before .before .before .before .before .before .before .before .before .before .before .before .before .before .args .name .now) (c .before .before .before .before .before .before .before .before .before .before .before .before .before .before .before .before .before .before .before .before .before .split-time-meridiem .ensures .offsets) (c .before .before .before .before .before .before .before .before .before .before .before .before .before .before .before .before .before .before .before .split .given .1))) _ (c .answer .ensures .0) (rw (c .answer .ensures .1) (says-more _ _ (ap clockLetters (split-parts (c .before .before .before .before .before .before .before .before .before .before .before .before .before .before .before .before .before .before .before .before .before .before .before .before .before .args .name .now) (c .before .before .before .before .before .before .before .before .before .before .before .before .before .before .before .before .before .before .before .before .before .split-time-meridiem .ensures .named) (c .before .before .before .before .before .before .before .before .before .before .before .before .before .before .before .before .before .before .before .split .given .1))) _ (rw (c .before .before .before .before .before .before .before .before .before .before .before .before .before .before .before .before .before .front .ensures, c .before .before .before .before .before .before .before .before .before .before .before .before .before .before .before .before .part .ensures) at (c .before .before .before .before .before .before .before .before .before .before .before .before .before .say-clock .ensures)) (rw (c .before .before .before .before .before .before .before .before .tail .ensures) at (c .before .before .before .before .before .say-letters .ensures))))
+returns-2 c =
+    let at-say-letters = c .before .before .before .before .before in
+    let at-tail = at-say-letters .before .before .before in
+    let at-say-clock = at-tail .before .before .before .before .before in
+    let at-part = at-say-clock .before .before .before in
+    let at-split = at-part .before .before .before in
+    let at-split-time-meridiem = at-split .before .before in
+    let start = at-split-time-meridiem .before .before .before .before in
+    says-row _ Meridiem (clockLetters (timeParts (start .args .name .now)))
+    (rw (split-some (start .args .name .now) (at-split-time-meridiem .split-time-meridiem .ensures .offsets) (at-split .split .given .1))) _
+    (c .answer .ensures .0)
+    (rw (c .answer .ensures .1)
+    (says-more _ _
+    (ap clockLetters
+    (split-parts (start .args .name .now) (at-split-time-meridiem .split-time-meridiem .ensures .named) (at-split .split .given .1))) _
+    (rw (at-part .before .front .ensures, at-part .part .ensures) at (at-say-clock .say-clock .ensures))
+    (rw (at-tail .tail .ensures) at (at-say-letters .say-letters .ensures))))
 
 pub from-meridiem-spec : {M : Type 1} → statement M
 from-meridiem-spec =

@@ -16,16 +16,33 @@ use Rattle.leaf.proofs.Laws.{says-row, unit-there, unit-missing, unit-w
 
 returns : tie.Need-returns
 unfolding rowsAfter spell
-returns c = says-row _ OneWord (other (map lower (c .before .before .before .before .before .before .before .before .before .before .before .before .before .args .name .now)) ∷ []) (rw (unit-missing (c .before .before .before .before .before .before .before .before .before .before .before .before .before .args .name .now) (c .before .before .before .before .before .before .before .before .before .split-unit .ensures) (c .before .before .before .before .before .before .before .before .if1 .taken))) _ (c .answer .ensures .0) (rw (c .answer .ensures .1) (said-word (other (map lower (c .before .before .before .before .before .before .before .before .before .before .before .before .before .args .name .now))) _ (c .before .before .before .before .before .word-lowered .ensures)))
+returns c =
+    let at-word-lowered = c .before .before .before .before .before in
+    let at-if1 = at-word-lowered .before .before .before in
+    let start = at-if1 .before .before .before .before .before in
+    says-row _ OneWord (other (map lower (start .args .name .now)) ∷ [])
+    (rw (unit-missing (start .args .name .now) (at-if1 .before .split-unit .ensures) (at-if1 .if1 .taken))) _ (c .answer .ensures .0)
+    (rw (c .answer .ensures .1) (said-word (other (map lower (start .args .name .now))) _ (at-word-lowered .word-lowered .ensures)))
 
 returns-2 : tie.Need-returns-2
 unfolding rowsAfter spell
 returns-2 c =
-    let s = c .before .before .before .before .before .before .before .before .before .before .before .before .before .before .before .before .before .before .before .before .before .before .before .before .args .name .now in
+    let at-say = c .before .before .before .before .before in
+    let at-word-number = at-say .before .before .before in
+    let at-say-cardinal = at-word-number .before .before .before .before .before .before in
+    let at-front = at-say-cardinal .before .before .before in
+    let at-if1 = at-front .before .before in
+    let at-split-unit = at-if1 .before in
+    let s = at-split-unit .before .before .before .before .args .name .now in
     let n = take (unitAt s) s in
     let u = other (unitWord (unitPart s)) in
-    let w = unit-word s (c .before .before .before .before .before .before .before .before .before .before .before .before .before .before .before .before .before .before .before .before .split-unit .ensures) (c .before .before .before .before .before .before .before .before .before .before .before .before .before .before .before .before .before .before .before .if1 .left) (c .before .before .before .before .before .before .before .before .before .unit-index .ensures) (c .before .before .before .before .before .before .before .before .word-number .ensures) in
-    says-row _ Unit (cardinal n ++ u ∷ []) (rw (unit-there s (c .before .before .before .before .before .before .before .before .before .before .before .before .before .before .before .before .before .before .before .before .split-unit .ensures) (c .before .before .before .before .before .before .before .before .before .before .before .before .before .before .before .before .before .before .before .if1 .left))) _ (c .answer2 .ensures .0) (rw (c .answer2 .ensures .1) (says-more (cardinal n) (u ∷ []) refl _ (rw (c .before .before .before .before .before .before .before .before .before .before .before .before .before .before .before .before .before .front .ensures, c .before .before .before .before .before .before .before .before .before .before .before .before .before .before .before .before .before .before .after-last .ensures) at (c .before .before .before .before .before .before .before .before .before .before .before .before .before .before .say-cardinal .ensures)) (said-word u _ (rw w at (c .before .before .before .before .before .say .ensures)))))
+    let w = unit-word s (at-split-unit .split-unit .ensures) (at-if1 .if1 .left) (at-word-number .before .unit-index .ensures) (at-word-number .word-number .ensures) in
+    says-row _ Unit (cardinal n ++ u ∷ []) (rw (unit-there s (at-split-unit .split-unit .ensures) (at-if1 .if1 .left))) _
+    (c .answer2 .ensures .0)
+    (rw (c .answer2 .ensures .1)
+    (says-more (cardinal n) (u ∷ []) refl _
+    (rw (at-front .front .ensures, at-front .before .after-last .ensures) at (at-say-cardinal .say-cardinal .ensures))
+    (said-word u _ (rw w at (at-say .say .ensures)))))
 
 pub from-unit-spec : {M : Type 1} → statement M
 from-unit-spec =

@@ -26,19 +26,78 @@ returns c = says-row _ Empty [] (read-eq _ ∙ rw (eq-eqb _ _ (c .before .if1 .t
 
 returns-2 : tie.Need-returns-2
 unfolding readStep
-returns-2 c = says-row _ Dotted (letters (keep (except (code ".")) (c .before .before .before .before .before .before .before .before .before .before .before .before .before .before .args .name .now))) (read-eq _ ∙ rw (ne-eqb _ _ (c .before .before .before .before .before .before .before .before .before .before .if1 .left), sym (c .before .before .before .before .before .before .before .before .before .is-dotted-abbrev .ensures) ∙ c .before .before .before .before .before .before .before .before .if2 .taken)) _ (c .answer2 .ensures .0) (rw (c .answer2 .ensures .1, dotted-initials (c .before .before .before .before .before .before .before .before .before .before .before .before .before .before .args .name .now) (sym (c .before .before .before .before .before .before .before .before .before .is-dotted-abbrev .ensures) ∙ c .before .before .before .before .before .before .before .before .if2 .taken)) (c .before .before .before .before .before .say-initials .ensures))
+returns-2 c =
+    let at-say-initials = c .before .before .before .before .before in
+    let at-if2 = at-say-initials .before .before .before in
+    let at-if1 = at-if2 .before .before in
+    let start = at-if1 .before .before .before .before in
+    says-row _ Dotted (letters (keep (except (code ".")) (start .args .name .now)))
+    (read-eq _ ∙ rw (ne-eqb _ _ (at-if1 .if1 .left), sym (at-if2 .before .is-dotted-abbrev .ensures) ∙ at-if2 .if2 .taken)) _
+    (c .answer2 .ensures .0)
+    (rw (
+      c .answer2 .ensures .1,
+      dotted-initials (start .args .name .now) (sym (at-if2 .before .is-dotted-abbrev .ensures) ∙ at-if2 .if2 .taken),
+    )
+    (at-say-initials .say-initials .ensures))
 
 returns-3 : tie.Need-returns-3
 unfolding readStep
-returns-3 c = says-row _ CommaInt (cardinal (c .before .before .before .before .before .before .before .before .before .before .before .before .before .before .before .before .args .name .now)) (read-eq _ ∙ rw (ne-eqb _ _ (c .before .before .before .before .before .before .before .before .before .before .before .before .if1 .left), sym (c .before .before .before .before .before .before .before .before .before .before .before .is-dotted-abbrev .ensures) ∙ c .before .before .before .before .before .before .before .before .before .before .if2 .left, sym (c .before .before .before .before .before .before .before .before .before .is-comma-int .ensures) ∙ c .before .before .before .before .before .before .before .before .if3 .taken)) _ (c .answer3 .ensures .0) (rw (c .answer3 .ensures .1) (c .before .before .before .before .before .say-cardinal .ensures))
+returns-3 c =
+    let at-say-cardinal = c .before .before .before .before .before in
+    let at-if3 = at-say-cardinal .before .before .before in
+    let at-if2 = at-if3 .before .before in
+    let at-if1 = at-if2 .before .before in
+    says-row _ CommaInt (cardinal (at-if1 .before .before .before .before .args .name .now))
+    (read-eq _
+    ∙ rw (
+      ne-eqb _ _ (at-if1 .if1 .left),
+      sym (at-if2 .before .is-dotted-abbrev .ensures) ∙ at-if2 .if2 .left,
+      sym (at-if3 .before .is-comma-int .ensures) ∙ at-if3 .if3 .taken,
+    )) _
+    (c .answer3 .ensures .0) (rw (c .answer3 .ensures .1) (at-say-cardinal .say-cardinal .ensures))
 
 returns-4 : tie.Need-returns-4
 unfolding readStep
-returns-4 c = says-row _ Time (clock (hourOf (c .before .before .before .before .before .before .before .before .before .before .before .before .before .before .before .before .before .before .before .before .before .args .name .now)) (minuteOf (c .before .before .before .before .before .before .before .before .before .before .before .before .before .before .before .before .before .before .before .before .before .args .name .now))) (read-eq _ ∙ rw (ne-eqb _ _ (c .before .before .before .before .before .before .before .before .before .before .before .before .before .before .before .before .before .if1 .left), sym (c .before .before .before .before .before .before .before .before .before .before .before .before .before .before .before .before .is-dotted-abbrev .ensures) ∙ c .before .before .before .before .before .before .before .before .before .before .before .before .before .before .before .if2 .left, sym (c .before .before .before .before .before .before .before .before .before .before .before .before .before .before .is-comma-int .ensures) ∙ c .before .before .before .before .before .before .before .before .before .before .before .before .before .if3 .left, sym (c .before .before .before .before .before .before .before .before .before .before .before .before .is-time .ensures) ∙ c .before .before .before .before .before .before .before .before .before .before .before .if4 .taken)) _ (c .answer4 .ensures .0) (rw (c .answer4 .ensures .1, drop-drop) (rw (c .before .before .before .before .before .before .before .before .before .front .ensures, c .before .before .before .before .before .before .before .before .tail .ensures, c .before .before .before .before .before .before .before .before .before .before .span-of .ensures) at (c .before .before .before .before .before .say-clock .ensures)))
+returns-4 c =
+    let at-say-clock = c .before .before .before .before .before in
+    let at-tail = at-say-clock .before .before .before in
+    let at-if4 = at-tail .before .before .before in
+    let at-if3 = at-if4 .before .before in
+    let at-if2 = at-if3 .before .before in
+    let at-if1 = at-if2 .before .before in
+    let start = at-if1 .before .before .before .before in
+    says-row _ Time (clock (hourOf (start .args .name .now)) (minuteOf (start .args .name .now)))
+    (read-eq _
+    ∙ rw (
+      ne-eqb _ _ (at-if1 .if1 .left),
+      sym (at-if2 .before .is-dotted-abbrev .ensures) ∙ at-if2 .if2 .left,
+      sym (at-if3 .before .is-comma-int .ensures) ∙ at-if3 .if3 .left,
+      sym (at-if4 .before .is-time .ensures) ∙ at-if4 .if4 .taken,
+    )) _
+    (c .answer4 .ensures .0)
+    (rw (c .answer4 .ensures .1, drop-drop)
+    (rw (
+      at-tail .before .front .ensures,
+      at-tail .tail .ensures,
+      at-tail .before .before .span-of .ensures,
+    ) at (at-say-clock .say-clock .ensures)))
 
 returns-5 : tie.Need-returns-5
 unfolding readStep rowsAfter
-returns-5 c = says-same _ _ (read-eq _ ∙ rw (ne-eqb _ _ (c .before .before .before .before .before .before .before .before .before .before .before .before .before .if1 .left), sym (c .before .before .before .before .before .before .before .before .before .before .before .before .is-dotted-abbrev .ensures) ∙ c .before .before .before .before .before .before .before .before .before .before .before .if2 .left, sym (c .before .before .before .before .before .before .before .before .before .before .is-comma-int .ensures) ∙ c .before .before .before .before .before .before .before .before .before .if3 .left, sym (c .before .before .before .before .before .before .before .before .is-time .ensures) ∙ c .before .before .before .before .before .before .before .if4 .left)) _ (c .before .before .before .before .from-meridiem .ensures)
+returns-5 c =
+    let at-from-meridiem = c .before .before .before .before in
+    let at-if4 = at-from-meridiem .before .before .before in
+    let at-if3 = at-if4 .before .before in
+    let at-if2 = at-if3 .before .before in
+    says-same _ _
+    (read-eq _
+    ∙ rw (
+      ne-eqb _ _ (at-if2 .before .before .if1 .left),
+      sym (at-if2 .before .is-dotted-abbrev .ensures) ∙ at-if2 .if2 .left,
+      sym (at-if3 .before .is-comma-int .ensures) ∙ at-if3 .if3 .left,
+      sym (at-if4 .before .is-time .ensures) ∙ at-if4 .if4 .left,
+    )) _
+    (at-from-meridiem .from-meridiem .ensures)
 
 pub read-leaf-spec : {M : Type 1} → statement M
 read-leaf-spec =
@@ -61,7 +120,13 @@ read-leaf-spec =
     (λ c κs. search needs)
     (λ c κs. search needs)
     (λ c κs. search needs)
-    (λ c. omega (arith, c .before .span-of .ensures, span-le (except (code ":")) (c .before .before .before .before .before .before .before .before .before .before .before .before .args .name .now)))
+    (λ c.
+    omega (
+      arith,
+      c .before .span-of .ensures,
+      span-le (except (code ":"))
+          (c .before .before .before .before .before .before .before .before .before .before .before .before .args .name .now),
+    ))
     (λ c κs. search needs)
     (λ c κs. search needs)
     (λ c κs. search needs)

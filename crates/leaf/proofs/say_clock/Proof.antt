@@ -12,11 +12,21 @@ use Rattle.rows.specs.Rows.{clock}
 
 returns : tie.Need-returns
 unfolding clock
-returns c = says-more (cardinal (c .before .before .before .before .before .before .before .before .before .before .before .before .before .before .args .hour .now)) [] (rw (sym (c .before .same .ensures) ∙ c .if1 .taken)) _ (c .before .before .before .before .before .before .before .say-cardinal .ensures) (unfold spelled emitAll in refl)
+returns c =
+    let at-say-cardinal = c .before .before .before .before .before .before .before in
+    says-more (cardinal (at-say-cardinal .before .before .before .before .before .before .before .args .hour .now)) []
+    (rw (sym (c .before .same .ensures) ∙ c .if1 .taken)) _ (at-say-cardinal .say-cardinal .ensures) (unfold spelled emitAll in refl)
 
 returns-2 : tie.Need-returns-2
 unfolding clock
-returns-2 c = says-more (cardinal (c .before .before .before .before .before .before .before .before .before .before .before .before .before .before .before .before .before .before .before .before .before .args .hour .now)) (year (c .before .before .before .before .before .before .before .before .before .before .before .before .before .before .before .before .before .before .before .before .before .args .minute .now)) (rw (sym (c .before .before .before .before .before .before .before .before .same .ensures) ∙ c .before .before .before .before .before .before .before .if1 .left)) _ (c .before .before .before .before .before .before .before .before .before .before .before .before .before .before .say-cardinal .ensures) (c .before .before .before .before .say-year .ensures)
+returns-2 c =
+    let at-say-year = c .before .before .before .before in
+    let at-if1 = at-say-year .before .before .before in
+    let at-say-cardinal = at-if1 .before .before .before .before .before .before .before in
+    let start = at-say-cardinal .before .before .before .before .before .before .before in
+    says-more (cardinal (start .args .hour .now)) (year (start .args .minute .now))
+    (rw (sym (at-if1 .before .same .ensures) ∙ at-if1 .if1 .left)) _ (at-say-cardinal .say-cardinal .ensures)
+    (at-say-year .say-year .ensures)
 
 pub say-clock-spec : {M : Type 1} → statement M
 say-clock-spec =

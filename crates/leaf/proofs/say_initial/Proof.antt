@@ -14,7 +14,11 @@ returns c = rw (point-initial (c .before .before .before .args .b) (c .if1 .take
 
 returns-2 : tie.Need-returns-2
 unfolding spell
-returns-2 c = rw (letter-initial (c .before .before .before .before .before .before .before .before .before .before .before .args .b) (c .before .before .before .before .before .before .before .before .if1 .left)) (said-word (other (letterWord (c .before .before .before .before .before .before .before .before .before .before .before .args .b ∷ []))) _ (c .before .before .before .before .say-letter .ensures))
+returns-2 c =
+    let at-say-letter = c .before .before .before .before in
+    let at-if1 = at-say-letter .before .before .before .before in
+    let start = at-if1 .before .before .before in
+    rw (letter-initial (start .args .b) (at-if1 .if1 .left)) (said-word (other (letterWord (start .args .b ∷ []))) _ (at-say-letter .say-letter .ensures))
 
 pub say-initial-spec : {M : Type 1} → statement M
 say-initial-spec =

@@ -13,7 +13,10 @@ use Rattle.leaf.specs.Walk.{initials}
 use Rattle.leaf.proofs.Laws.{initials-at, no-initials}
 
 abbrev Inv-loop : tie.InvT-loop
-Inv-loop name store₀ table₀ p₀ i₀ store table p i = (i ≤ length name) × (emitAll (spelled (initials (drop i name))) (sink store table p) ≡ emitAll (spelled (initials name)) (sink store₀ table₀ p₀)) × (length store ≡ length store₀) × (length table ≡ length table₀)
+Inv-loop name store₀ table₀ p₀ i₀ store table p i =
+    (i ≤ length name)
+    × (emitAll (spelled (initials (drop i name))) (sink store table p) ≡ emitAll (spelled (initials name)) (sink store₀ table₀ p₀))
+    × (length store ≡ length store₀) × (length table ≡ length table₀)
 
 abbrev μ-loop : tie.MeasureT-loop
 μ-loop name store₀ table₀ p₀ i₀ store table p i = length name - i
@@ -29,7 +32,20 @@ say-initials-spec =
     (λ c κs. search needs)
     (λ c. search needs)
     (λ c. search needs)
-    (λ c. (omega arith, turn (λ (t : List ℕ). spelled (initials t)) (c .before .before .before .before .before .before .before .before .before .before .before .before .before .args .name .now) (c .before .before .before .before .before .before .before .before .before .loop .i) 1 _ (initials-at (c .before .before .before .before .before .before .before .before .before .before .before .before .before .args .name .now) (c .before .before .before .before .before .before .before .before .before .loop .i) (omega arith)) (sink (c .before .before .before .before .before .before .before .before .before .loop .store) (c .before .before .before .before .before .before .before .before .before .loop .table) (c .before .before .before .before .before .before .before .before .before .loop .p)) (c .before .before .before .before .say-initial .ensures) (c .before .before .before .before .before .before .before .before .before .loop .inv .1), c .before .before .before .before .say-initial .kept .1 .0 ∙ c .before .before .before .before .before .before .before .before .before .loop .inv .2, c .before .before .before .before .say-initial .kept .1 .1 .0 ∙ c .before .before .before .before .before .before .before .before .before .loop .inv .3))
+    (λ c.
+    let at-say-initial = c .before .before .before .before in
+    let at-loop = at-say-initial .before .before .before .before .before in
+    let start = at-loop .before .before .before .before in (
+      omega arith,
+      turn (λ (t : List ℕ). spelled (initials t)) (start .args .name .now) (at-loop .loop .i) 1 _
+          (initials-at (start .args .name .now) (at-loop .loop .i) (omega arith))
+          (sink (at-loop .loop .store) (at-loop .loop .table) (at-loop .loop .p)) (at-say-initial .say-initial .ensures) (at-loop .loop .inv .1),
+      at-say-initial .say-initial .kept .1 .0 ∙ at-loop .loop .inv .2,
+      at-say-initial .say-initial .kept .1 .1 .0 ∙ at-loop .loop .inv .3,
+    ))
     (λ c. search needs)
     (λ c. search needs)
-    (λ c. walked (λ (t : List ℕ). spelled (initials t)) (c .before .before .before .before .before .args .name .now) (c .before .loop .i) no-initials (omega arith) _ (c .before .loop .inv .1)))
+    (λ c.
+    let at-loop = c .before in
+    walked (λ (t : List ℕ). spelled (initials t)) (at-loop .before .before .before .before .args .name .now) (at-loop .loop .i) no-initials
+    (omega arith) _ (at-loop .loop .inv .1)))

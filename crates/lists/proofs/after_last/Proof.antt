@@ -30,8 +30,19 @@ after-last-spec =
     (λ c. search needs)
     (λ c. search needs)
     (λ c κs. search needs)
-    (λ c. sym (c .before .before .before .before .loop .inv .1 ∙ (last-more _ (c .before .before .before .before .before .before .args .s .now) (c .before .before .before .before .loop .i) (omega arith) (omega arith) ∙ rw (← c .before .in-class .ensures, c .if1 .taken))))
+    (λ c.
+    let at-loop = c .before .before .before .before in
+    sym
+    (at-loop .loop .inv .1
+    ∙ (last-more _ (at-loop .before .before .args .s .now) (at-loop .loop .i) (omega arith) (omega arith)
+    ∙ rw (← c .before .in-class .ensures, c .if1 .taken))))
     (λ c. search needs)
     (λ c. search needs)
-    (λ c. (omega arith, c .before .before .before .before .loop .inv .1 ∙ (last-more _ (c .before .before .before .before .before .before .args .s .now) (c .before .before .before .before .loop .i) (omega arith) (omega arith) ∙ rw (← c .before .in-class .ensures, c .if1 .left))))
+    (λ c.
+    let at-loop = c .before .before .before .before in (
+      omega arith,
+      at-loop .loop .inv .1
+          ∙ (last-more _ (at-loop .before .before .args .s .now) (at-loop .loop .i) (omega arith) (omega arith)
+          ∙ rw (← c .before .in-class .ensures, c .if1 .left)),
+    ))
     returns-2)

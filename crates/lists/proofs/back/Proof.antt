@@ -7,4 +7,11 @@ use Rattle.lists.proofs.back.Statement.{statement}
 use Rattle.lists.proofs.back.Tie as tie
 
 pub back-spec : {M : Type 1} → statement M
-back-spec = tie.close (tie.spec (λ c. search needs) (λ c κs. search needs) (λ c. search needs) (λ c. let z : length (c .before .before .args .s .now) - c .before .before .args .k ≡ 0 = omega arith in rw z))
+back-spec = tie.close (tie.spec
+    (λ c. search needs)
+    (λ c κs. search needs)
+    (λ c. search needs)
+    (λ c.
+    let start = c .before .before in
+    let z : length (start .args .s .now) - start .args .k ≡ 0 = omega arith in
+    rw z))

@@ -28,5 +28,13 @@ count-of-spec =
     (λ c. omega (arith, c .tally .ensures .1))
     (λ c. search needs)
     (λ c. search needs)
-    (λ c. (omega arith, omega (arith, c .tally .ensures .1), rw (c .tally .ensures .0, c .before .in-class .ensures) (count-more _ (c .before .before .before .before .before .before .args .s .now) (c .before .before .before .before .loop .i) (c .before .before .before .before .loop .n) (omega arith) (c .before .before .before .before .loop .inv .2))))
-    (λ c. count-end _ (c .before .before .before .args .s .now) (c .before .loop .i) (c .before .loop .n) (omega arith) (c .before .loop .inv .2)))
+    (λ c.
+    let at-loop = c .before .before .before .before in (
+      omega arith,
+      omega (arith, c .tally .ensures .1),
+      rw (c .tally .ensures .0, c .before .in-class .ensures)
+          (count-more _ (at-loop .before .before .args .s .now) (at-loop .loop .i) (at-loop .loop .n) (omega arith) (at-loop .loop .inv .2)),
+    ))
+    (λ c.
+    let at-loop = c .before in
+    count-end _ (at-loop .before .before .args .s .now) (at-loop .loop .i) (at-loop .loop .n) (omega arith) (at-loop .loop .inv .2)))

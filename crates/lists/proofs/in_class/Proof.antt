@@ -28,4 +28,6 @@ in-class-spec =
     (λ c. rw (c .before .match .keys14, c .is-leading-mark .ensures))
     (λ c. rw (c .before .match .keys15, c .is-trailing-mark .ensures))
     (λ c. rw (c .match .keys16))
-    (λ c. rw (List·getD-eq-default (classes (c .before .args .c)) (λ b. false) {n = c .before .args .k} (none-of (c .before .args .k) 16 (c .match .rest)))))
+    (λ c.
+    let start = c .before in
+    rw (List·getD-eq-default (classes (start .args .c)) (λ b. false) {n = start .args .k} (none-of (start .args .k) 16 (c .match .rest)))))

@@ -31,13 +31,16 @@ put-lowered-spec =
     (λ c. search needs)
     (λ c. search needs)
     (λ c.
-    let l = c .before .before .before .loop in
-    let a = c .before .before .before .before .before .before .before .args in
+    let at-loop = c .before .before .before in
+    let l = at-loop .loop in
+    let a = at-loop .before .before .before .before .args in
     let m = map-length lower (a .src .now) in
     let h : l .i < length (a .src .now) = omega arith in
     let e = map-at lower (a .src .now) (l .i) h in (
       omega arith,
-      rw (l .inv .1, c .to-lower .ensures, ← e) (sets-take-suc (a .out .now) (a .at) (map lower (a .src .now)) (l .i) (omega arith) (length-take-le (l .i) (map lower (a .src .now)) (omega arith))),
+      rw (l .inv .1, c .to-lower .ensures, ← e)
+          (sets-take-suc (a .out .now) (a .at) (map lower (a .src .now)) (l .i) (omega arith)
+          (length-take-le (l .i) (map lower (a .src .now)) (omega arith))),
       simp length-set (l .inv .2),
     ))
     (λ c. search needs)

@@ -28,8 +28,28 @@ same-spec =
     (λ c. omega arith)
     (λ c κs. search needs)
     (λ c. omega arith)
-    (λ c. rw (c .before .before .before .before .before .loop .inv .1, same-more _ (c .before .before .before .before .before .before .before .before .before .args .s .now) (c .before .before .before .before .before .before .before .before .before .args .t .now) (c .before .before .before .before .before .loop .i) (omega arith) (omega arith), ← c .before .before .fold-byte .ensures, ne-eqb _ _ (c .if2 .taken)))
+    (λ c.
+    let at-fold-byte = c .before .before in
+    let at-loop = at-fold-byte .before .before .before in
+    let start = at-loop .before .before .before .before in
+    rw (
+      at-loop .loop .inv .1,
+      same-more _ (start .args .s .now) (start .args .t .now) (at-loop .loop .i) (omega arith) (omega arith),
+      ← at-fold-byte .fold-byte .ensures,
+      ne-eqb _ _ (c .if2 .taken),
+    ))
     (λ c. omega arith)
     (λ c. omega arith)
-    (λ c. (omega arith, c .before .before .before .before .before .loop .inv .1 ∙ rw (same-more _ (c .before .before .before .before .before .before .before .before .before .args .s .now) (c .before .before .before .before .before .before .before .before .before .args .t .now) (c .before .before .before .before .before .loop .i) (omega arith) (omega arith), ← c .before .before .fold-byte .ensures, eq-eqb _ _ (c .if2 .left))))
+    (λ c.
+    let at-fold-byte = c .before .before in
+    let at-loop = at-fold-byte .before .before .before in
+    let start = at-loop .before .before .before .before in (
+      omega arith,
+      at-loop .loop .inv .1
+          ∙ rw (
+            same-more _ (start .args .s .now) (start .args .t .now) (at-loop .loop .i) (omega arith) (omega arith),
+            ← at-fold-byte .fold-byte .ensures,
+            eq-eqb _ _ (c .if2 .left),
+          ),
+    ))
     (λ c. sym (c .before .loop .inv .1 ∙ same-end _ _ _ _ (c .loop-test .left) (omega arith))))

@@ -13,6 +13,10 @@ tail-spec =
     (λ c. search needs)
     (λ c. search needs)
     (λ c. search needs)
-    (λ c. rest (c .before .before .args .s .now) (c .before .before .args .k))
+    (λ c.
+    let start = c .before .before in
+    rest (start .args .s .now) (start .args .k))
     (λ c. search needs)
-    (λ c. sym (drop-of-length-le (c .before .before .args .s .now) {i = c .before .before .args .k} (omega arith))))
+    (λ c.
+    let start = c .before .before in
+    sym (drop-of-length-le (start .args .s .now) {i = start .args .k} (omega arith))))

@@ -8,4 +8,12 @@ use Rattle.lists.proofs.without_back.Tie as tie
 
 pub without-back-spec : {M : Type 1} → statement M
 without-back-spec =
-    tie.close (tie.spec (λ c. search needs) (λ c κs. search needs) (λ c. search needs) (λ c. search needs) (λ c. let z : length (c .before .before .before .args .s .now) - c .before .before .before .args .k ≡ 0 = omega arith in rw z))
+    tie.close (tie.spec
+    (λ c. search needs)
+    (λ c κs. search needs)
+    (λ c. search needs)
+    (λ c. search needs)
+    (λ c.
+    let start = c .before .before .before in
+    let z : length (start .args .s .now) - start .args .k ≡ 0 = omega arith in
+    rw z))

@@ -13,18 +13,35 @@ speak-spec =
     (tie.spec
     (λ c κs. search needs)
     (λ c κs. search needs)
-    (λ c. text-refused (c .before .before .before .before .before .before .args .s .now) (spelled (wordsBy (c .before .before .before .before .before .before .args .reader) (c .before .before .before .before .before .before .args .s .now))) (c .before .before .before .before .before .before .args .store .now) (c .before .before .before .before .before .before .args .table .now) _ (c .before .before .refusal-of .ensures) (c .before .if1 .taken) (c .refused .ensures))
-    (λ c κs. (omega (arith, c .before .before .before .before .before .good .1 .1 .0 .1), omega (arith, c .before .before .before .before .before .good .1 .1 .1 .0 .1)))
+    (λ c.
+    let at-refusal-of = c .before .before in
+    let start = at-refusal-of .before .before .before .before in
+    text-refused (start .args .s .now) (spelled (wordsBy (start .args .reader) (start .args .s .now))) (start .args .store .now)
+    (start .args .table .now) _ (at-refusal-of .refusal-of .ensures) (c .before .if1 .taken) (c .refused .ensures))
+    (λ c κs.
+    let start = c .before .before .before .before .before in
+    (omega (arith, start .good .1 .1 .0 .1), omega (arith, start .good .1 .1 .1 .0 .1)))
     (λ c κs. search needs)
     (λ c κs. search needs)
     (λ c.
-    let a = c .before .before .before .before .before .before .before .before .before .args in
-    short-refused (a .s .now) (spelled (wordsBy (a .reader) (a .s .now))) (a .store .now) (a .table .now) _ (c .before .before .before .before .before .refusal-of .ensures) (c .before .before .before .before .if1 .left) (sym (c .before .before .before .too-short .ensures) ∙ c .before .before .if2 .taken) (rw (c .before .number .ensures) at (c .refused2 .ensures)))
+    let at-if2 = c .before .before in
+    let at-if1 = at-if2 .before .before in
+    let a = at-if1 .before .before .before .before .before .args in
+    short-refused (a .s .now) (spelled (wordsBy (a .reader) (a .s .now))) (a .store .now) (a .table .now) _
+    (at-if1 .before .refusal-of .ensures) (at-if1 .if1 .left) (sym (at-if2 .before .too-short .ensures) ∙ at-if2 .if2 .taken)
+    (rw (c .before .number .ensures) at (c .refused2 .ensures)))
     (λ c κs. search needs)
     (λ c κs. search needs)
     (λ c κs. search needs)
     (λ c. search needs)
     (λ c. search needs)
     (λ c.
-    let a = c .before .before .before .before .before .before .before .before .before .before .before .before .before .before .before .before .args in
-    all-written (a .s .now) (spelled (wordsBy (a .reader) (a .s .now))) (a .store .now) (a .table .now) _ (c .before .before .before .before .before .before .before .before .before .before .before .before .refusal-of .ensures) (c .before .before .before .before .before .before .before .before .before .before .before .if1 .left) (sym (c .before .before .before .before .before .before .before .before .before .before .too-short .ensures) ∙ c .before .before .before .before .before .before .before .before .before .if2 .left) (omega (arith, c .before .before .before .before .before .before .before .before .before .before .before .before .before .before .before .before .good .1 .1 .0 .1)) (omega (arith, c .before .before .before .before .before .before .before .before .before .before .before .before .before .before .before .before .good .1 .1 .1 .0 .1)) (c .before .before .before .before .before .before .start .ensures) (c .before .before .before .before .before .say-by .ensures) (c .spoken .ensures)))
+    let at-say-by = c .before .before .before .before .before in
+    let at-if2 = at-say-by .before .before .before .before in
+    let at-if1 = at-if2 .before .before in
+    let start = at-if1 .before .before .before .before .before in
+    let a = start .args in
+    all-written (a .s .now) (spelled (wordsBy (a .reader) (a .s .now))) (a .store .now) (a .table .now) _
+    (at-if1 .before .refusal-of .ensures) (at-if1 .if1 .left) (sym (at-if2 .before .too-short .ensures) ∙ at-if2 .if2 .left)
+    (omega (arith, start .good .1 .1 .0 .1)) (omega (arith, start .good .1 .1 .1 .0 .1)) (at-say-by .before .start .ensures)
+    (at-say-by .say-by .ensures) (c .spoken .ensures)))

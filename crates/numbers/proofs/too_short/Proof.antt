@@ -13,10 +13,18 @@ too-short-spec =
     tie.close
     (tie.spec
     (λ c κs. search needs)
-    (λ c. sym (roomy-fits (c .before .before .before .args .reader) (c .before .before .before .args .s .now) (c .before .before .before .args .store) (c .before .before .before .args .table) (sym (c .before .roomy .ensures) ∙ c .if1 .taken)))
+    (λ c.
+    let start = c .before .before .before in
+    sym (roomy-fits (start .args .reader) (start .args .s .now) (start .args .store) (start .args .table) (sym (c .before .roomy .ensures) ∙ c .if1 .taken)))
     (λ c. search needs)
     (λ c. search needs)
     (λ c κs. search needs)
     (λ c κs. search needs)
     (λ c κs. search needs)
-    (λ c. let m = c .before .before .before .say-by in c .short .ensures ∙ measured (spelled (wordsBy (c .before .before .before .before .before .before .before .before .before .before .args .reader) (c .before .before .before .before .before .before .before .before .before .before .args .s .now))) (c .before .before .before .before .before .before .before .before .before .before .args .store) (c .before .before .before .before .before .before .before .before .before .before .args .table) (c .before .before .before .before .before .before .before .before .before .before .pre .0) (c .before .before .before .before .before .before .before .before .before .before .pre .1) (m .last .1 .1 .0) (m .last .1 .1 .1 .0) [] [] (c .before .before .before .before .start .ensures) (m .ensures)))
+    (λ c.
+    let at-say-by = c .before .before .before in
+    let start = at-say-by .before .before .before .before .before .before .before in
+    let m = at-say-by .say-by in
+    c .short .ensures
+    ∙ measured (spelled (wordsBy (start .args .reader) (start .args .s .now))) (start .args .store) (start .args .table) (start .pre .0)
+    (start .pre .1) (m .last .1 .1 .0) (m .last .1 .1 .1 .0) [] [] (at-say-by .before .start .ensures) (m .ensures)))

@@ -13,9 +13,15 @@ unit-word-spec =
     tie.close
     (tie.spec
     (λ c κs. search needs)
-    (λ c. word-refused (c .before .before .before .before .args .unit .now) (c .before .before .before .before .args .store .now) _ (c .before .refusal-of .ensures) (c .if1 .taken))
+    (λ c.
+    let start = c .before .before .before .before in
+    word-refused (start .args .unit .now) (start .args .store .now) _ (c .before .refusal-of .ensures) (c .if1 .taken))
     (λ c κs. search needs)
-    (λ c. word-none (c .before .before .before .before .before .before .args .unit .now) (c .before .before .before .before .before .before .args .store .now) _ (c .before .before .before .refusal-of .ensures) (c .before .before .if1 .left) (rw (c .before .unit-index .ensures) at (c .if2 .taken)))
+    (λ c.
+    let at-if1 = c .before .before in
+    let start = at-if1 .before .before .before .before in
+    word-none (start .args .unit .now) (start .args .store .now) _ (at-if1 .before .refusal-of .ensures) (at-if1 .if1 .left)
+    (rw (c .before .unit-index .ensures) at (c .if2 .taken)))
     (λ c κs. search needs)
     (λ c. search needs)
     (λ c κs. search needs)
@@ -24,7 +30,19 @@ unit-word-spec =
     (λ c κs. search needs)
     (λ c. search needs)
     (λ c.
-    let u = c .before .before .before .before .before .before .before .before .before .before .before .before .before .before .args .unit .now in
-    let h : unitIndex u < 22 = rw (c .before .before .before .before .before .before .before .before .before .unit-index .ensures) at (c .before .before .before .before .before .before .before .before .if2 .left) in
-    rw (c .before .before .before .before .unpacked .ensures, c .before .before .before .before .before .before .row .ensures, lexicon.word-row, c .before .before .before .before .before .before .before .word-number .ensures, c .before .before .before .before .before .before .before .before .before .unit-index .ensures, word-row (unitIndex u) h) at (c .before .before .store-word .ensures)
-    ∙ word-found u (c .before .before .before .before .before .before .before .before .before .before .before .before .before .before .args .store .now) _ (c .before .before .before .before .before .before .before .before .before .before .before .refusal-of .ensures) (c .before .before .before .before .before .before .before .before .before .before .if1 .left) h))
+    let at-store-word = c .before .before in
+    let at-row = at-store-word .before .before .before .before in
+    let at-if2 = at-row .before .before in
+    let at-if1 = at-if2 .before .before in
+    let start = at-if1 .before .before .before .before in
+    let u = start .args .unit .now in
+    let h : unitIndex u < 22 = rw (at-if2 .before .unit-index .ensures) at (at-if2 .if2 .left) in
+    rw (
+      at-store-word .before .before .unpacked .ensures,
+      at-row .row .ensures,
+      lexicon.word-row,
+      at-row .before .word-number .ensures,
+      at-if2 .before .unit-index .ensures,
+      word-row (unitIndex u) h,
+    ) at (at-store-word .store-word .ensures)
+    ∙ word-found u (start .args .store .now) _ (at-if1 .before .refusal-of .ensures) (at-if1 .if1 .left) h))

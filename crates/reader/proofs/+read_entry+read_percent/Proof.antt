@@ -59,11 +59,27 @@ pub +read-entry+read-percent-spec : {M : Type 1} → statement M
     (read-entry-at t)
     read-entry.Post
     (λ c κs. search needs)
-    (λ c κs. (omega arith, (search needs, ends-some (code "%") (c .before .before .before .before .before .before .before .before .args .name .now) (sym (c .before .before .before .before .is-percent .ensures) ∙ c .before .before .before .if1 .taken))))
+    (λ c κs.
+    let at-if1 = c .before .before .before in (
+      omega arith,
+      (
+        search needs,
+        ends-some (code "%") (at-if1 .before .before .before .before .before .args .name .now)
+            (sym (at-if1 .before .is-percent .ensures) ∙ at-if1 .if1 .taken),
+      ),
+    ))
     (λ c. search needs)
     (λ c. search needs)
-    (λ c. says-same _ _ (sign-taken (c .before .before .before .before .before .before .before .before .before .before .before .before .before .args .name .now) (c .before .before .before .before .before .before .before .before .before .before .before .before .before .args .signs) (sym (c .before .before .before .before .before .before .before .before .before .is-percent .ensures) ∙ c .before .before .before .before .before .before .before .before .if1 .taken)) _ (c .before .before .before .before .read-percent .ensures))
-    (λ c κs. sym (c .before .before .before .before .is-percent .ensures) ∙ c .before .before .before .if1 .left)
+    (λ c.
+    let at-read-percent = c .before .before .before .before in
+    let at-if1 = at-read-percent .before .before .before .before in
+    let start = at-if1 .before .before .before .before .before in
+    says-same _ _
+    (sign-taken (start .args .name .now) (start .args .signs) (sym (at-if1 .before .is-percent .ensures) ∙ at-if1 .if1 .taken)) _
+    (at-read-percent .read-percent .ensures))
+    (λ c κs.
+    let at-if1 = c .before .before .before in
+    sym (at-if1 .before .is-percent .ensures) ∙ at-if1 .if1 .left)
     (λ c. search needs)
     (λ c. search needs)
     (λ c. c .before .before .before .before .read-before .ensures))
@@ -73,7 +89,13 @@ pub +read-entry+read-percent-spec : {M : Type 1} → statement M
     read-percent.Post
     (λ c κs. search needs)
     (λ c. search needs)
-    (λ c κs. let n = simp length-take at (ap length (c .before .before .before .without-back .ensures)) in let h = c .before .before .before .before .before .before .before .pre .1 in (omega (arith, n, h), omega (arith, n, h)))
+    (λ c κs.
+    let at-without-back = c .before .before .before in
+    let n = simp length-take at (ap length (at-without-back .without-back .ensures)) in
+    let h = at-without-back .before .before .before .before .pre .1 in
+    (omega (arith, n, h), omega (arith, n, h)))
     (λ c. search needs)
     (λ c. search needs)
-    (λ c. record { row = refl; said = rw (c .before .before .before .before .before .before .before .before .without-back .ensures) at (c .before .before .before .before .read-entry .ensures .said) })
+    (λ c.
+    let at-read-entry = c .before .before .before .before in
+    record { row = refl; said = rw (at-read-entry .before .before .before .before .without-back .ensures) at (at-read-entry .read-entry .ensures .said) })

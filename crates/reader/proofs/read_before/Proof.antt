@@ -18,4 +18,15 @@ read-before-spec =
     (λ c κs. search needs)
     (λ c. search needs)
     (λ c. search needs)
-    (λ c. record { row = c .before .before .before .before .before .before .before .before .before .before .before .before .before .read-leaf .ensures .row; said = ap (λ (p : Pen). sink (c .before .before .before .before .before .before .say-per-cents .last .1 .0) (c .before .before .before .before .before .before .say-per-cents .last .1 .1 .0) p) (c .before .place-of .ensures) ∙ says-more (read (c .before .before .before .before .before .before .before .before .before .before .before .before .before .before .before .before .before .before .before .before .before .args .name .now) .words) (perCents (c .before .before .before .before .before .before .before .before .before .before .before .before .before .before .before .before .before .before .before .before .before .args .signs)) refl _ (rw (c .before .before .before .before .before .before .before .before .before .before .before .before .before .before .pen-of .ensures) at (c .before .before .before .before .before .before .before .before .before .before .before .before .before .read-leaf .ensures .said)) (c .before .before .before .before .before .before .say-per-cents .ensures) }))
+    (λ c.
+    let at-say-per-cents = c .before .before .before .before .before .before in
+    let at-read-leaf = at-say-per-cents .before .before .before .before .before .before .before in
+    let start = at-read-leaf .before .before .before .before .before .before .before .before in
+    record {
+      row = at-read-leaf .read-leaf .ensures .row;
+      said =
+          ap (λ (p : Pen). sink (at-say-per-cents .say-per-cents .last .1 .0) (at-say-per-cents .say-per-cents .last .1 .1 .0) p)
+          (c .before .place-of .ensures)
+          ∙ says-more (read (start .args .name .now) .words) (perCents (start .args .signs)) refl _
+          (rw (at-read-leaf .before .pen-of .ensures) at (at-read-leaf .read-leaf .ensures .said)) (at-say-per-cents .say-per-cents .ensures);
+    }))

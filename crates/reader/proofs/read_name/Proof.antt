@@ -14,15 +14,33 @@ read-name-spec =
     (tie.spec
     (λ c κs. search needs)
     (λ c κs. search needs)
-    (λ c κs. (search needs, ends-some (code "%") (c .before .before .before .before .before .before .before .before .before .args .name .now) (sym (c .before .before .before .before .is-percent .ensures) ∙ c .before .before .before .if1 .taken)))
+    (λ c κs.
+    let at-if1 = c .before .before .before in
+    (search needs, ends-some (code "%") (at-if1 .before .before .before .before .before .before .args .name .now) (sym (at-if1 .before .is-percent .ensures) ∙ at-if1 .if1 .taken)))
     (λ c κs. search needs)
     (λ c κs. search needs)
     (λ c. search needs)
     (λ c. search needs)
-    (λ c. says-same _ _ (unsigned (read (c .before .before .before .before .before .before .before .before .before .before .before .before .before .before .before .before .before .args .name .now)) ∙ sign-taken (c .before .before .before .before .before .before .before .before .before .before .before .before .before .before .before .before .before .args .name .now) 0 (sym (c .before .before .before .before .before .before .before .before .before .before .before .before .is-percent .ensures) ∙ c .before .before .before .before .before .before .before .before .before .before .before .if1 .taken)) _ (rw (c .answer .ensures .0, c .answer .ensures .1, c .before .pen-of .ensures) (from-pen _ _ _ (c .before .before .before .before .before .before .before .before .before .before .before .before .before .place-of .ensures) (c .before .before .before .before .before .before .before .read-percent .ensures))))
-    (λ c κs. sym (c .before .before .before .before .is-percent .ensures) ∙ c .before .before .before .if1 .left)
+    (λ c.
+    let at-read-percent = c .before .before .before .before .before .before .before in
+    let at-if1 = at-read-percent .before .before .before .before in
+    let at-place-of = at-if1 .before .before in
+    let start = at-place-of .before .before .before .before in
+    says-same _ _
+    (unsigned (read (start .args .name .now))
+    ∙ sign-taken (start .args .name .now) 0 (sym (at-if1 .before .is-percent .ensures) ∙ at-if1 .if1 .taken)) _
+    (rw (c .answer .ensures .0, c .answer .ensures .1, c .before .pen-of .ensures)
+    (from-pen _ _ _ (at-place-of .place-of .ensures) (at-read-percent .read-percent .ensures))))
+    (λ c κs.
+    let at-if1 = c .before .before .before in
+    sym (at-if1 .before .is-percent .ensures) ∙ at-if1 .if1 .left)
     (λ c κs. search needs)
     (λ c κs. search needs)
     (λ c. search needs)
     (λ c. search needs)
-    (λ c. says-same _ _ (unsigned (read (c .before .before .before .before .before .before .before .before .before .before .before .before .before .before .before .before .before .args .name .now))) _ (rw (c .answer2 .ensures .0, c .answer2 .ensures .1, c .before .pen-of2 .ensures) (from-pen _ _ _ (c .before .before .before .before .before .before .before .before .before .before .before .before .before .place-of .ensures) (c .before .before .before .before .before .before .before .read-before .ensures)))))
+    (λ c.
+    let at-read-before = c .before .before .before .before .before .before .before in
+    let at-place-of = at-read-before .before .before .before .before .before .before in
+    says-same _ _ (unsigned (read (at-place-of .before .before .before .before .args .name .now))) _
+    (rw (c .answer2 .ensures .0, c .answer2 .ensures .1, c .before .pen-of2 .ensures)
+    (from-pen _ _ _ (at-place-of .place-of .ensures) (at-read-before .read-before .ensures)))))

@@ -10,7 +10,11 @@ use Rattle.reader.proofs.say_per_cent.Tie as tie
 
 returns : tie.Need-returns
 unfolding spell lexicon
-returns c = says-more (other (bytes "per") ∷ []) (other (bytes "cent") ∷ []) refl _ (said-word (other (bytes "per")) _ (c .before .before .before .before .before .before .before .before .before .before .before .say .ensures)) (said-word (other (bytes "cent")) _ (c .before .before .before .before .say2 .ensures))
+returns c =
+    let at-say2 = c .before .before .before .before in
+    says-more (other (bytes "per") ∷ []) (other (bytes "cent") ∷ []) refl _
+    (said-word (other (bytes "per")) _ (at-say2 .before .before .before .before .before .before .before .say .ensures))
+    (said-word (other (bytes "cent")) _ (at-say2 .say2 .ensures))
 
 pub say-per-cent-spec : {M : Type 1} → statement M
 say-per-cent-spec =

@@ -13,7 +13,9 @@ use Rattle.reader.specs.Signs.{perCents}
 use Rattle.reader.proofs.Laws.{one-less, none-left}
 
 abbrev Inv-loop : tie.InvT-loop
-Inv-loop signs store₀ table₀ p₀ left₀ store table p left = (emitAll (spelled (perCents left)) (sink store table p) ≡ emitAll (spelled (perCents signs)) (sink store₀ table₀ p₀)) × (length store ≡ length store₀) × (length table ≡ length table₀)
+Inv-loop signs store₀ table₀ p₀ left₀ store table p left =
+    (emitAll (spelled (perCents left)) (sink store table p) ≡ emitAll (spelled (perCents signs)) (sink store₀ table₀ p₀))
+    × (length store ≡ length store₀) × (length table ≡ length table₀)
 
 abbrev μ-loop : tie.MeasureT-loop
 μ-loop signs store₀ table₀ p₀ left₀ store table p left = left
@@ -28,7 +30,15 @@ say-per-cents-spec =
     (λ c κs. search needs)
     (λ c. search needs)
     (λ c. search needs)
-    (λ c. (says-more perCent (perCents (c .before .before .before .before .before .before .before .before .loop .left - 1)) (one-less (c .before .before .before .before .before .before .before .before .loop .left) (omega arith)) _ (c .before .before .before .before .say-per-cent .ensures) refl ∙ c .before .before .before .before .before .before .before .before .loop .inv .0, c .before .before .before .before .say-per-cent .kept .0 ∙ c .before .before .before .before .before .before .before .before .loop .inv .1, c .before .before .before .before .say-per-cent .kept .1 .0 ∙ c .before .before .before .before .before .before .before .before .loop .inv .2))
+    (λ c.
+    let at-say-per-cent = c .before .before .before .before in
+    let at-loop = at-say-per-cent .before .before .before .before in (
+      says-more perCent (perCents (at-loop .loop .left - 1)) (one-less (at-loop .loop .left) (omega arith)) _
+          (at-say-per-cent .say-per-cent .ensures) refl
+          ∙ at-loop .loop .inv .0,
+      at-say-per-cent .say-per-cent .kept .0 ∙ at-loop .loop .inv .1,
+      at-say-per-cent .say-per-cent .kept .1 .0 ∙ at-loop .loop .inv .2,
+    ))
     (λ c. search needs)
     (λ c. search needs)
     (λ c. none-left (c .before .loop .left) (omega arith) _ (c .before .loop .inv .0)))

@@ -12,20 +12,43 @@ say-part-spec =
     (λ c κs. search needs)
     (λ c. search needs)
     (λ c. search needs)
-    (λ c. turned-minus (c .before .before .before .before .before .before .before .before .before .before .before .before .args .s .now) _ (c .before .before .before .before .before .before .before .before .starts-with .ensures) (c .before .before .before .before .before .before .before .if1 .taken) (c .before .before .before .before .say .ensures))
+    (λ c.
+    let at-say = c .before .before .before .before in
+    let at-if1 = at-say .before .before .before in
+    turned-minus (at-if1 .before .before .before .before .before .args .s .now) _ (at-if1 .before .starts-with .ensures) (at-if1 .if1 .taken) (at-say .say .ensures))
     (λ c κs. search needs)
     (λ c κs. search needs)
     (λ c. search needs)
     (λ c. search needs)
-    (λ c. turned-plus (c .before .before .before .before .before .before .before .before .before .before .before .before .before .before .args .s .now) _ (c .before .before .before .before .before .before .before .before .before .before .starts-with .ensures) (c .before .before .before .before .before .before .before .before .before .if1 .left) (c .before .before .before .before .before .before .before .before .starts-with2 .ensures) (c .before .before .before .before .before .before .before .if2 .taken) (c .before .before .before .before .say2 .ensures))
+    (λ c.
+    let at-say2 = c .before .before .before .before in
+    let at-if2 = at-say2 .before .before .before in
+    let at-if1 = at-if2 .before .before in
+    turned-plus (at-if1 .before .before .before .before .before .args .s .now) _ (at-if1 .before .starts-with .ensures) (at-if1 .if1 .left)
+    (at-if2 .before .starts-with2 .ensures) (at-if2 .if2 .taken) (at-say2 .say2 .ensures))
     (λ c κs. search needs)
     (λ c κs. search needs)
     (λ c κs. search needs)
     (λ c. search needs)
     (λ c. search needs)
-    (λ c. turned-last (c .before .before .before .before .before .before .before .before .before .before .before .before .before .before .before .before .before .args .s .now) _ (c .before .before .before .before .before .before .before .before .before .before .before .before .before .starts-with .ensures) (c .before .before .before .before .before .before .before .before .before .before .before .before .if1 .left) (c .before .before .before .before .before .before .before .before .before .before .before .starts-with2 .ensures) (c .before .before .before .before .before .before .before .before .before .before .if2 .left) (c .before .before .before .before .before .before .before .before .before .span-of .ensures) (c .before .before .before .before .before .before .before .before .front .ensures) (c .before .before .before .before .before .say-pointed .ensures) (omega arith))
+    (λ c.
+    let at-say-pointed = c .before .before .before .before .before in
+    let at-front = at-say-pointed .before .before .before in
+    let at-if2 = at-front .before .before in
+    let at-if1 = at-if2 .before .before in
+    turned-last (at-if1 .before .before .before .before .before .args .s .now) _ (at-if1 .before .starts-with .ensures) (at-if1 .if1 .left)
+    (at-if2 .before .starts-with2 .ensures) (at-if2 .if2 .left) (at-front .before .span-of .ensures) (at-front .front .ensures)
+    (at-say-pointed .say-pointed .ensures) (omega arith))
     (λ c κs. search needs)
     (λ c. search needs)
     (λ c. search needs)
     (λ c. search needs)
-    (λ c. turned-e (c .before .before .before .before .before .before .before .before .before .before .before .before .before .before .before .before .before .before .before .before .before .before .before .before .args .s .now) _ (c .before .before .before .before .before .before .before .before .before .before .before .before .before .before .before .before .before .before .before .before .starts-with .ensures) (c .before .before .before .before .before .before .before .before .before .before .before .before .before .before .before .before .before .before .before .if1 .left) (c .before .before .before .before .before .before .before .before .before .before .before .before .before .before .before .before .before .before .starts-with2 .ensures) (c .before .before .before .before .before .before .before .before .before .before .before .before .before .before .before .before .before .if2 .left) (c .before .before .before .before .before .before .before .before .before .before .before .before .before .before .before .before .span-of .ensures) (c .before .before .before .before .before .before .before .before .before .before .before .before .before .before .before .front .ensures) (c .before .before .before .before .before .before .before .before .before .before .before .before .say-pointed .ensures) (omega arith) (c .before .before .before .before .say3 .ensures)))
+    (λ c.
+    let at-say3 = c .before .before .before .before in
+    let at-say-pointed = at-say3 .before .before .before .before .before .before .before .before in
+    let at-front = at-say-pointed .before .before .before in
+    let at-if2 = at-front .before .before in
+    let at-if1 = at-if2 .before .before in
+    turned-e (at-if1 .before .before .before .before .before .args .s .now) _ (at-if1 .before .starts-with .ensures) (at-if1 .if1 .left)
+    (at-if2 .before .starts-with2 .ensures) (at-if2 .if2 .left) (at-front .before .span-of .ensures) (at-front .front .ensures)
+    (at-say-pointed .say-pointed .ensures) (omega arith) (at-say3 .say3 .ensures)))

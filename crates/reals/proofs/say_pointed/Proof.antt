@@ -12,7 +12,10 @@ say-pointed-spec =
     (λ c κs. search needs)
     (λ c. search needs)
     (λ c. search needs)
-    (λ c. pointed-whole (c .before .before .before .before .before .before .before .before .before .before .before .before .args .s .now) _ (c .before .before .before .before .before .before .before .before .span-of .ensures) (omega arith) (c .before .before .before .before .say-cardinal .ensures))
+    (λ c.
+    let at-say-cardinal = c .before .before .before .before in
+    let at-span-of = at-say-cardinal .before .before .before .before in
+    pointed-whole (at-span-of .before .before .before .before .args .s .now) _ (at-span-of .span-of .ensures) (omega arith) (at-say-cardinal .say-cardinal .ensures))
     (λ c κs. search needs)
     (λ c κs. search needs)
     (λ c κs. search needs)
@@ -21,4 +24,13 @@ say-pointed-spec =
     (λ c κs. search needs)
     (λ c. search needs)
     (λ c. search needs)
-    (λ c. pointed-parts (c .before .before .before .before .before .before .before .before .before .before .before .before .before .before .before .before .before .before .before .before .before .before .before .before .before .before .before .before .args .s .now) _ (c .before .before .before .before .before .before .before .before .before .before .before .before .before .before .before .before .before .before .before .before .before .before .before .before .span-of .ensures) (omega arith) (c .before .before .before .before .before .before .before .before .before .before .before .before .before .before .before .before .before .before .before .before .before .before .front .ensures) (c .before .before .before .before .before .before .before .tail .ensures) (c .before .before .before .before .before .before .before .before .before .before .before .before .before .before .before .before .before .before .before .say-cardinal2 .ensures) (c .before .before .before .before .before .before .before .before .before .before .before .before .say .ensures) (c .before .before .before .before .say-digits .ensures)))
+    (λ c.
+    let at-say-digits = c .before .before .before .before in
+    let at-tail = at-say-digits .before .before .before in
+    let at-say = at-tail .before .before .before .before .before in
+    let at-say-cardinal2 = at-say .before .before .before .before .before .before .before in
+    let at-front = at-say-cardinal2 .before .before .before in
+    let at-span-of = at-front .before .before in
+    pointed-parts (at-span-of .before .before .before .before .args .s .now) _ (at-span-of .span-of .ensures) (omega arith)
+    (at-front .front .ensures) (at-tail .tail .ensures) (at-say-cardinal2 .say-cardinal2 .ensures) (at-say .say .ensures)
+    (at-say-digits .say-digits .ensures)))

@@ -6,4 +6,9 @@ use Rattle.sentences.proofs.has.Statement.{statement}
 use Rattle.sentences.proofs.has.Tie as tie
 
 pub has-spec : {M : Type 1} → statement M
-has-spec = tie.close (tie.spec (λ c κs. search needs) (λ c κs. search needs) (λ c. rw (c .flag .ensures, c .before .span-of .ensures) (ap flag (sym (has-span (c .before .before .before .args .c) (c .before .before .before .args .s .now))))))
+has-spec = tie.close (tie.spec
+    (λ c κs. search needs)
+    (λ c κs. search needs)
+    (λ c.
+    let start = c .before .before .before in
+    rw (c .flag .ensures, c .before .span-of .ensures) (ap flag (sym (has-span (start .args .c) (start .args .s .now))))))

@@ -14,27 +14,135 @@ returns c = rw (lt-ltb 1 (count (only (code "\n")) (c .before .before .before .b
 
 returns-2 : tie.Need-returns-2
 unfolding breakAfter
-returns-2 c = rw (le-ltb 1 (count (only (code "\n")) (c .before .before .before .before .before .before .before .before .before .args .whitespace .now)) (rw (c .before .before .before .before .before .before .count-of .ensures) at (c .before .before .before .before .before .if1 .left)), rw (c .before .before .before .is-yahoo .ensures, c .before .before .is-set .ensures, c .before .is-small .ensures, c .before .before .before .before .byte-at .ensures) at (c .if2 .taken))
+returns-2 c =
+    let at-is-set = c .before .before in
+    let at-if1 = at-is-set .before .before .before in
+    rw (
+      le-ltb 1 (count (only (code "\n")) (at-if1 .before .before .before .before .args .whitespace .now))
+          (rw (at-if1 .before .count-of .ensures) at (at-if1 .if1 .left)),
+      rw (
+        at-is-set .before .is-yahoo .ensures,
+        at-is-set .is-set .ensures,
+        c .before .is-small .ensures,
+        at-is-set .before .before .byte-at .ensures,
+      ) at (c .if2 .taken),
+    )
 
 returns-3 : tie.Need-returns-3
 unfolding breakAfter
-returns-3 c = rw (le-ltb 1 (count (only (code "\n")) (c .before .before .before .before .before .before .before .before .before .before .before .before .before .args .whitespace .now)) (rw (c .before .before .before .before .before .before .before .before .before .before .count-of .ensures) at (c .before .before .before .before .before .before .before .before .before .if1 .left)), rw (c .before .before .before .before .before .before .before .is-yahoo .ensures, c .before .before .before .before .before .before .is-set .ensures, c .before .before .before .before .before .is-small .ensures, c .before .before .before .before .before .before .before .before .byte-at .ensures) at (c .before .before .before .before .if2 .left), rw (c .before .before .before .is-set2 .ensures, c .before .before .is-set3 .ensures, c .before .is-set4 .ensures) at (c .if3 .taken))
+returns-3 c =
+    let at-is-set3 = c .before .before in
+    let at-if2 = at-is-set3 .before .before in
+    let at-is-set = at-if2 .before .before in
+    let at-if1 = at-is-set .before .before .before in
+    rw (
+      le-ltb 1 (count (only (code "\n")) (at-if1 .before .before .before .before .args .whitespace .now))
+          (rw (at-if1 .before .count-of .ensures) at (at-if1 .if1 .left)),
+      rw (
+        at-is-set .before .is-yahoo .ensures,
+        at-is-set .is-set .ensures,
+        at-if2 .before .is-small .ensures,
+        at-is-set .before .before .byte-at .ensures,
+      ) at (at-if2 .if2 .left),
+      rw (at-is-set3 .before .is-set2 .ensures, at-is-set3 .is-set3 .ensures, c .before .is-set4 .ensures) at (c .if3 .taken),
+    )
 
 returns-4 : tie.Need-returns-4
 unfolding breakAfter
-returns-4 c = rw (le-ltb 1 (count (only (code "\n")) (c .before .before .before .before .before .before .before .before .before .before .before .before .before .before .before .args .whitespace .now)) (rw (c .before .before .before .before .before .before .before .before .before .before .before .before .count-of .ensures) at (c .before .before .before .before .before .before .before .before .before .before .before .if1 .left)), rw (c .before .before .before .before .before .before .before .before .before .is-yahoo .ensures, c .before .before .before .before .before .before .before .before .is-set .ensures, c .before .before .before .before .before .before .before .is-small .ensures, c .before .before .before .before .before .before .before .before .before .before .byte-at .ensures) at (c .before .before .before .before .before .before .if2 .left), rw (c .before .before .before .before .before .is-set2 .ensures, c .before .before .before .before .is-set3 .ensures, c .before .before .before .is-set4 .ensures) at (c .before .before .if3 .left), rw (c .before .is-set5 .ensures) at (c .if4 .taken))
+returns-4 c =
+    let at-if3 = c .before .before in
+    let at-is-set3 = at-if3 .before .before in
+    let at-if2 = at-is-set3 .before .before in
+    let at-is-set = at-if2 .before .before in
+    let at-if1 = at-is-set .before .before .before in
+    rw (
+      le-ltb 1 (count (only (code "\n")) (at-if1 .before .before .before .before .args .whitespace .now))
+          (rw (at-if1 .before .count-of .ensures) at (at-if1 .if1 .left)),
+      rw (
+        at-is-set .before .is-yahoo .ensures,
+        at-is-set .is-set .ensures,
+        at-if2 .before .is-small .ensures,
+        at-is-set .before .before .byte-at .ensures,
+      ) at (at-if2 .if2 .left),
+      rw (at-is-set3 .before .is-set2 .ensures, at-is-set3 .is-set3 .ensures, at-if3 .before .is-set4 .ensures) at (at-if3 .if3 .left),
+      rw (c .before .is-set5 .ensures) at (c .if4 .taken),
+    )
 
 returns-5 : tie.Need-returns-5
 unfolding breakAfter
-returns-5 c = rw (le-ltb 1 (count (only (code "\n")) (c .before .before .before .before .before .before .before .before .before .before .before .before .before .before .before .before .before .args .whitespace .now)) (rw (c .before .before .before .before .before .before .before .before .before .before .before .before .before .before .count-of .ensures) at (c .before .before .before .before .before .before .before .before .before .before .before .before .before .if1 .left)), rw (c .before .before .before .before .before .before .before .before .before .before .before .is-yahoo .ensures, c .before .before .before .before .before .before .before .before .before .before .is-set .ensures, c .before .before .before .before .before .before .before .before .before .is-small .ensures, c .before .before .before .before .before .before .before .before .before .before .before .before .byte-at .ensures) at (c .before .before .before .before .before .before .before .before .if2 .left), rw (c .before .before .before .before .before .before .before .is-set2 .ensures, c .before .before .before .before .before .before .is-set3 .ensures, c .before .before .before .before .before .is-set4 .ensures) at (c .before .before .before .before .if3 .left), rw (c .before .before .before .is-set5 .ensures) at (c .before .before .if4 .left), rw (c .before .is-capital .ensures, c .before .before .before .before .before .before .before .before .before .before .before .before .byte-at .ensures) at (c .if5 .taken))
+returns-5 c =
+    let at-if4 = c .before .before in
+    let at-if3 = at-if4 .before .before in
+    let at-is-set3 = at-if3 .before .before in
+    let at-if2 = at-is-set3 .before .before in
+    let at-is-set = at-if2 .before .before in
+    let at-byte-at = at-is-set .before .before in
+    let at-if1 = at-byte-at .before in
+    rw (
+      le-ltb 1 (count (only (code "\n")) (at-if1 .before .before .before .before .args .whitespace .now))
+          (rw (at-if1 .before .count-of .ensures) at (at-if1 .if1 .left)),
+      rw (
+        at-is-set .before .is-yahoo .ensures,
+        at-is-set .is-set .ensures,
+        at-if2 .before .is-small .ensures,
+        at-byte-at .byte-at .ensures,
+      ) at (at-if2 .if2 .left),
+      rw (at-is-set3 .before .is-set2 .ensures, at-is-set3 .is-set3 .ensures, at-if3 .before .is-set4 .ensures) at (at-if3 .if3 .left),
+      rw (at-if4 .before .is-set5 .ensures) at (at-if4 .if4 .left),
+      rw (c .before .is-capital .ensures, at-byte-at .byte-at .ensures) at (c .if5 .taken),
+    )
 
 returns-6 : tie.Need-returns-6
 unfolding breakAfter
-returns-6 c = rw (le-ltb 1 (count (only (code "\n")) (c .before .before .before .before .before .before .before .before .before .before .before .before .before .before .before .before .before .before .args .whitespace .now)) (rw (c .before .before .before .before .before .before .before .before .before .before .before .before .before .before .before .count-of .ensures) at (c .before .before .before .before .before .before .before .before .before .before .before .before .before .before .if1 .left)), rw (c .before .before .before .before .before .before .before .before .before .before .before .before .is-yahoo .ensures, c .before .before .before .before .before .before .before .before .before .before .before .is-set .ensures, c .before .before .before .before .before .before .before .before .before .before .is-small .ensures, c .before .before .before .before .before .before .before .before .before .before .before .before .before .byte-at .ensures) at (c .before .before .before .before .before .before .before .before .before .if2 .left), rw (c .before .before .before .before .before .before .before .before .is-set2 .ensures, c .before .before .before .before .before .before .before .is-set3 .ensures, c .before .before .before .before .before .before .is-set4 .ensures) at (c .before .before .before .before .before .if3 .left), rw (c .before .before .before .before .is-set5 .ensures) at (c .before .before .before .if4 .left), rw (c .before .before .is-capital .ensures, c .before .before .before .before .before .before .before .before .before .before .before .before .before .byte-at .ensures) at (c .before .if5 .left), lt-ltb 1 (length (c .before .before .before .before .before .before .before .before .before .before .before .before .before .before .before .before .before .before .args .whitespace .now)) (c .if6 .taken))
+returns-6 c =
+    let at-if4 = c .before .before .before in
+    let at-if3 = at-if4 .before .before in
+    let at-is-set3 = at-if3 .before .before in
+    let at-if2 = at-is-set3 .before .before in
+    let at-is-set = at-if2 .before .before in
+    let at-byte-at = at-is-set .before .before in
+    let at-if1 = at-byte-at .before in
+    let start = at-if1 .before .before .before .before in
+    rw (
+      le-ltb 1 (count (only (code "\n")) (start .args .whitespace .now)) (rw (at-if1 .before .count-of .ensures) at (at-if1 .if1 .left)),
+      rw (
+        at-is-set .before .is-yahoo .ensures,
+        at-is-set .is-set .ensures,
+        at-if2 .before .is-small .ensures,
+        at-byte-at .byte-at .ensures,
+      ) at (at-if2 .if2 .left),
+      rw (at-is-set3 .before .is-set2 .ensures, at-is-set3 .is-set3 .ensures, at-if3 .before .is-set4 .ensures) at (at-if3 .if3 .left),
+      rw (at-if4 .before .is-set5 .ensures) at (at-if4 .if4 .left),
+      rw (c .before .before .is-capital .ensures, at-byte-at .byte-at .ensures) at (c .before .if5 .left),
+      lt-ltb 1 (length (start .args .whitespace .now)) (c .if6 .taken),
+    )
 
 returns-7 : tie.Need-returns-7
 unfolding breakAfter
-returns-7 c = rw (le-ltb 1 (count (only (code "\n")) (c .before .before .before .before .before .before .before .before .before .before .before .before .before .before .before .before .before .before .before .args .whitespace .now)) (rw (c .before .before .before .before .before .before .before .before .before .before .before .before .before .before .before .before .count-of .ensures) at (c .before .before .before .before .before .before .before .before .before .before .before .before .before .before .before .if1 .left)), rw (c .before .before .before .before .before .before .before .before .before .before .before .before .before .is-yahoo .ensures, c .before .before .before .before .before .before .before .before .before .before .before .before .is-set .ensures, c .before .before .before .before .before .before .before .before .before .before .before .is-small .ensures, c .before .before .before .before .before .before .before .before .before .before .before .before .before .before .byte-at .ensures) at (c .before .before .before .before .before .before .before .before .before .before .if2 .left), rw (c .before .before .before .before .before .before .before .before .before .is-set2 .ensures, c .before .before .before .before .before .before .before .before .is-set3 .ensures, c .before .before .before .before .before .before .before .is-set4 .ensures) at (c .before .before .before .before .before .before .if3 .left), rw (c .before .before .before .before .before .is-set5 .ensures) at (c .before .before .before .before .if4 .left), rw (c .before .before .before .is-capital .ensures, c .before .before .before .before .before .before .before .before .before .before .before .before .before .before .byte-at .ensures) at (c .before .before .if5 .left), le-ltb 1 (length (c .before .before .before .before .before .before .before .before .before .before .before .before .before .before .before .before .before .before .before .args .whitespace .now)) (c .before .if6 .left), c .is-abbreviation .ensures)
+returns-7 c =
+    let at-if5 = c .before .before in
+    let at-if4 = at-if5 .before .before in
+    let at-if3 = at-if4 .before .before in
+    let at-is-set3 = at-if3 .before .before in
+    let at-if2 = at-is-set3 .before .before in
+    let at-is-set = at-if2 .before .before in
+    let at-byte-at = at-is-set .before .before in
+    let at-if1 = at-byte-at .before in
+    let start = at-if1 .before .before .before .before in
+    rw (
+      le-ltb 1 (count (only (code "\n")) (start .args .whitespace .now)) (rw (at-if1 .before .count-of .ensures) at (at-if1 .if1 .left)),
+      rw (
+        at-is-set .before .is-yahoo .ensures,
+        at-is-set .is-set .ensures,
+        at-if2 .before .is-small .ensures,
+        at-byte-at .byte-at .ensures,
+      ) at (at-if2 .if2 .left),
+      rw (at-is-set3 .before .is-set2 .ensures, at-is-set3 .is-set3 .ensures, at-if3 .before .is-set4 .ensures) at (at-if3 .if3 .left),
+      rw (at-if4 .before .is-set5 .ensures) at (at-if4 .if4 .left),
+      rw (at-if5 .before .is-capital .ensures, at-byte-at .byte-at .ensures) at (at-if5 .if5 .left),
+      le-ltb 1 (length (start .args .whitespace .now)) (c .before .if6 .left),
+      c .is-abbreviation .ensures,
+    )
 
 pub is-sentence-break-spec : {M : Type 1} → statement M
 is-sentence-break-spec =

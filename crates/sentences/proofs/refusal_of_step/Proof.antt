@@ -13,4 +13,15 @@ refusal-of-step-spec =
     (λ c κs. search needs)
     (λ c κs. search needs)
     (λ c κs. search needs)
-    (λ c. c .smaller-due2 .ensures ∙ rw (c .before .before .smaller-due .ensures, c .before .before .before .before .refusal-of .ensures, c .before .before .before .refusal-of2 .ensures, c .before .refusal-of3 .ensures) (three-due (c .before .before .before .before .before .before .before .before .args .whitespace .now) (c .before .before .before .before .before .before .before .before .args .name .now) (c .before .before .before .before .before .before .before .before .args .punctuation .now))))
+    (λ c.
+    let at-smaller-due = c .before .before in
+    let at-refusal-of = at-smaller-due .before .before in
+    let start = at-refusal-of .before .before .before .before in
+    c .smaller-due2 .ensures
+    ∙ rw (
+      at-smaller-due .smaller-due .ensures,
+      at-refusal-of .refusal-of .ensures,
+      at-smaller-due .before .refusal-of2 .ensures,
+      c .before .refusal-of3 .ensures,
+    )
+    (three-due (start .args .whitespace .now) (start .args .name .now) (start .args .punctuation .now))))

@@ -14,10 +14,28 @@ sentences-spec =
     tie.close
     (tie.spec
     (λ c κs. search needs)
-    (λ c. fill-refused (c .before .before .before .before .args .s .now) (startBytes (c .before .before .before .before .args .s .now)) (c .before .before .before .before .args .starts .now) _ (c .before .refusal-of .ensures) (c .if1 .taken))
+    (λ c.
+    let start = c .before .before .before .before in
+    fill-refused (start .args .s .now) (startBytes (start .args .s .now)) (start .args .starts .now) _ (c .before .refusal-of .ensures) (c .if1 .taken))
     (λ c κs. search needs)
     (λ c κs. search needs)
-    (λ c. rw (c .number .ensures) (fill-short (c .before .before .before .before .before .before .before .args .s .now) (startBytes (c .before .before .before .before .before .before .before .args .s .now)) (c .before .before .before .before .before .before .before .args .starts .now) _ (c .before .before .before .before .refusal-of .ensures) (c .before .before .before .if1 .left) (ap (ltb (length (c .before .before .before .before .before .before .before .args .starts .now))) (starts-length (c .before .before .before .before .before .before .before .args .s .now)) ∙ sym (c .before .before .exceeds .ensures) ∙ c .before .if2 .taken)))
+    (λ c.
+    let at-if1 = c .before .before .before in
+    let start = at-if1 .before .before .before .before in
+    rw (c .number .ensures)
+    (fill-short (start .args .s .now) (startBytes (start .args .s .now)) (start .args .starts .now) _ (at-if1 .before .refusal-of .ensures)
+    (at-if1 .if1 .left)
+    (ap (ltb (length (start .args .starts .now))) (starts-length (start .args .s .now)) ∙ sym (c .before .before .exceeds .ensures)
+    ∙ c .before .if2 .taken)))
     (λ c κs. ltb-false _ _ (sym (c .before .before .exceeds .ensures) ∙ c .before .if2 .left))
     (λ c. search needs)
-    (λ c. fill-done (c .before .before .before .before .before .before .before .before .before .before .args .s .now) (startBytes (c .before .before .before .before .before .before .before .before .before .before .args .s .now)) (c .before .before .before .before .before .before .before .before .before .before .args .starts .now) _ (c .before .before .before .before .before .before .before .refusal-of .ensures) (c .before .before .before .before .before .before .if1 .left) (ap (ltb (length (c .before .before .before .before .before .before .before .before .before .before .args .starts .now))) (starts-length (c .before .before .before .before .before .before .before .before .before .before .args .s .now)) ∙ sym (c .before .before .before .before .before .exceeds .ensures) ∙ c .before .before .before .before .if2 .left) (c .before .before .write-starts .ensures .0) (c .before .before .write-starts .ensures .1)))
+    (λ c.
+    let at-write-starts = c .before .before in
+    let at-if2 = at-write-starts .before .before in
+    let at-if1 = at-if2 .before .before in
+    let start = at-if1 .before .before .before .before in
+    fill-done (start .args .s .now) (startBytes (start .args .s .now)) (start .args .starts .now) _ (at-if1 .before .refusal-of .ensures)
+    (at-if1 .if1 .left)
+    (ap (ltb (length (start .args .starts .now))) (starts-length (start .args .s .now)) ∙ sym (at-if2 .before .exceeds .ensures)
+    ∙ at-if2 .if2 .left)
+    (at-write-starts .write-starts .ensures .0) (at-write-starts .write-starts .ensures .1)))

@@ -28,9 +28,23 @@ all-parts-spec =
     (λ c κs. search needs)
     (λ c κs. search needs)
     (λ c κs. search needs)
-    (λ c. let e = rw (c .before .before .front .ensures, c .before .before .before .span-of .ensures, c .before .before .before .before .tail .ensures) at (c .before .part-passes .ensures) in sym (c .before .before .before .before .before .loop .inv ∙ parts-fail _ _ _ (sym e ∙ not-true _ (c .if1 .taken))))
-    (λ c. let e = rw (c .before .before .before .front .ensures, c .before .before .before .before .span-of .ensures, c .before .before .before .before .before .tail .ensures) at (c .before .before .part-passes .ensures) in let h = rw (c .before .before .before .before .span-of .ensures, c .before .before .before .before .before .tail .ensures) at (c .if2 .taken) in sym (c .before .before .before .before .before .before .loop .inv ∙ parts-end _ _ _ (sym e ∙ not-false _ (c .before .if1 .left)) h))
+    (λ c.
+    let at-front = c .before .before in
+    let e = rw (at-front .front .ensures, at-front .before .span-of .ensures, at-front .before .before .tail .ensures) at (c .before .part-passes .ensures) in
+    sym (at-front .before .before .before .loop .inv ∙ parts-fail _ _ _ (sym e ∙ not-true _ (c .if1 .taken))))
+    (λ c.
+    let at-part-passes = c .before .before in
+    let at-span-of = at-part-passes .before .before in
+    let e = rw (at-part-passes .before .front .ensures, at-span-of .span-of .ensures, at-span-of .before .tail .ensures) at (at-part-passes .part-passes .ensures) in
+    let h = rw (at-span-of .span-of .ensures, at-span-of .before .tail .ensures) at (c .if2 .taken) in
+    sym (at-span-of .before .before .loop .inv ∙ parts-end _ _ _ (sym e ∙ not-false _ (c .before .if1 .left)) h))
     (λ c. omega (arith, simp length-drop at (rw (c .before .before .before .before .before .tail .ensures) at (c .if2 .left))))
     (λ c. omega (arith, simp length-drop at (rw (c .before .before .before .before .before .tail .ensures) at (c .if2 .left))))
     (λ c. omega (arith, simp length-drop at (rw (c .before .before .before .before .before .tail .ensures) at (c .if2 .left))))
-    (λ c. let e = rw (c .before .before .before .front .ensures, c .before .before .before .before .span-of .ensures, c .before .before .before .before .before .tail .ensures) at (c .before .before .part-passes .ensures) in let h = rw (c .before .before .before .before .span-of .ensures, c .before .before .before .before .before .tail .ensures) at (c .if2 .left) in c .before .before .before .before .before .before .loop .inv ∙ (parts-more _ _ _ (sym e ∙ not-false _ (c .before .if1 .left)) h ∙ rw (drop-drop, c .before .before .before .before .span-of .ensures, c .before .before .before .before .before .tail .ensures))))
+    (λ c.
+    let at-part-passes = c .before .before in
+    let at-span-of = at-part-passes .before .before in
+    let at-tail = at-span-of .before in
+    let e = rw (at-part-passes .before .front .ensures, at-span-of .span-of .ensures, at-tail .tail .ensures) at (at-part-passes .part-passes .ensures) in
+    let h = rw (at-span-of .span-of .ensures, at-tail .tail .ensures) at (c .if2 .left) in
+    at-tail .before .loop .inv ∙ (parts-more _ _ _ (sym e ∙ not-false _ (c .before .if1 .left)) h ∙ rw (drop-drop, at-span-of .span-of .ensures, at-tail .tail .ensures))))

@@ -26,10 +26,29 @@ filled-parts-spec =
     (λ c κs. search needs)
     (λ c κs. search needs)
     (λ c. omega (arith, c .one-if-any .ensures))
-    (λ c. let e = rw (c .before .before .before .tail .ensures) at (c .before .before .span-of .ensures) in let h = rw (c .before .before .before .tail .ensures) at (c .if1 .taken) in sym (c .before .before .before .before .loop .inv .1 ∙ rw (filled-end (c .before .before .before .before .before .before .args .c) (drop (c .before .before .before .before .loop .i) (c .before .before .before .before .before .before .args .s .now)) (c .before .before .span-of .result) e h, c .before .one-if-any .ensures)))
+    (λ c.
+    let at-span-of = c .before .before in
+    let at-loop = at-span-of .before .before in
+    let start = at-loop .before .before in
+    let e = rw (at-span-of .before .tail .ensures) at (at-span-of .span-of .ensures) in
+    let h = rw (at-span-of .before .tail .ensures) at (c .if1 .taken) in
+    sym
+    (at-loop .loop .inv .1
+    ∙ rw (
+      filled-end (start .args .c) (drop (at-loop .loop .i) (start .args .s .now)) (at-span-of .span-of .result) e h,
+      c .before .one-if-any .ensures,
+    )))
     (λ c. omega (arith, simp length-drop at (rw (c .before .before .before .tail .ensures) at (c .if1 .left))))
     (λ c. omega (arith, simp length-drop at (rw (c .before .before .before .tail .ensures) at (c .if1 .left))))
     (λ c. omega (arith, simp length-drop at (rw (c .before .before .before .tail .ensures) at (c .if1 .left))))
     (λ c.
-    let e = rw (c .before .before .before .tail .ensures) at (c .before .before .span-of .ensures) in let h = rw (c .before .before .before .tail .ensures) at (c .if1 .left) in
-    ((omega (arith, c .before .one-if-any .ensures, simp length-drop at h), omega (arith, simp length-drop at h)), c .before .before .before .before .loop .inv .1 ∙ rw (filled-more (c .before .before .before .before .before .before .args .c) (drop (c .before .before .before .before .loop .i) (c .before .before .before .before .before .before .args .s .now)) (c .before .before .span-of .result) e h, drop-drop) (omega (arith, c .before .one-if-any .ensures)))))
+    let at-span-of = c .before .before in
+    let at-loop = at-span-of .before .before in
+    let start = at-loop .before .before in
+    let e = rw (at-span-of .before .tail .ensures) at (at-span-of .span-of .ensures) in
+    let h = rw (at-span-of .before .tail .ensures) at (c .if1 .left) in (
+      (omega (arith, c .before .one-if-any .ensures, simp length-drop at h), omega (arith, simp length-drop at h)),
+      at-loop .loop .inv .1
+          ∙ rw (filled-more (start .args .c) (drop (at-loop .loop .i) (start .args .s .now)) (at-span-of .span-of .result) e h, drop-drop)
+          (omega (arith, c .before .one-if-any .ensures)),
+    )))

@@ -11,11 +11,30 @@ returns c = rw (← c .before .after-last .ensures, eq-eqb _ _ (c .if1 .taken))
 
 returns-2 : tie.Need-returns-2
 unfolding hasUnit
-returns-2 c = rw (← c .before .before .before .before .after-last .ensures, ne-eqb _ _ (c .before .before .before .if1 .left), ← c .before .before .front .ensures, ← c .before .all-of .ensures, not-true (c .before .all-of .result) (c .if2 .taken))
+returns-2 c =
+    let at-all-of = c .before in
+    rw (
+      ← at-all-of .before .before .before .after-last .ensures,
+      ne-eqb _ _ (at-all-of .before .before .if1 .left),
+      ← at-all-of .before .front .ensures,
+      ← at-all-of .all-of .ensures,
+      not-true (at-all-of .all-of .result) (c .if2 .taken),
+    )
 
 returns-3 : tie.Need-returns-3
 unfolding hasUnit
-returns-3 c = rw (← c .before .before .before .before .before .before .after-last .ensures, ne-eqb _ _ (c .before .before .before .before .before .if1 .left), ← c .before .before .before .before .front .ensures, ← c .before .before .before .all-of .ensures, not-false (c .before .before .before .all-of .result) (c .before .before .if2 .left), ← c .before .tail .ensures, rows, ← c .unit-index .ensures)
+returns-3 c =
+    let at-all-of = c .before .before .before in
+    rw (
+      ← at-all-of .before .before .before .after-last .ensures,
+      ne-eqb _ _ (at-all-of .before .before .if1 .left),
+      ← at-all-of .before .front .ensures,
+      ← at-all-of .all-of .ensures,
+      not-false (at-all-of .all-of .result) (c .before .before .if2 .left),
+      ← c .before .tail .ensures,
+      rows,
+      ← c .unit-index .ensures,
+    )
 
 pub has-unit-spec : {M : Type 1} → statement M
 has-unit-spec =

@@ -5,7 +5,16 @@ use Rattle.shapes.proofs.is_amount.Tie as tie
 
 returns : tie.Need-returns
 unfolding isAmount
-returns c = rw (← c .before .before .before .before .before .span-of .ensures, ← c .before .before .before .before .tail .ensures, ← c .before .before .before .starts-with .ensures, c .before .before .if1 .taken, c .is-digits .ensures, c .before .tail2 .ensures)
+returns c =
+    let at-if1 = c .before .before in
+    rw (
+      ← at-if1 .before .before .before .span-of .ensures,
+      ← at-if1 .before .before .tail .ensures,
+      ← at-if1 .before .starts-with .ensures,
+      at-if1 .if1 .taken,
+      c .is-digits .ensures,
+      c .before .tail2 .ensures,
+    )
 
 returns-2 : tie.Need-returns-2
 unfolding isAmount

@@ -15,4 +15,14 @@ is-comma-int-spec =
     (λ c. search needs)
     (λ c κs. search needs)
     (λ c κs. search needs)
-    (λ c. rw (comma-more _ (rw (c .before .before .before .before .before .span-of .ensures) at (c .before .before .before .before .if1 .left)), c .before .before .is-digits .ensures, c .all-parts .ensures, c .before .before .before .front .ensures, c .before .tail .ensures, c .before .before .before .before .before .span-of .ensures)))
+    (λ c.
+    let at-is-digits = c .before .before in
+    let at-if1 = at-is-digits .before .before in
+    rw (
+      comma-more _ (rw (at-if1 .before .span-of .ensures) at (at-if1 .if1 .left)),
+      at-is-digits .is-digits .ensures,
+      c .all-parts .ensures,
+      at-is-digits .before .front .ensures,
+      c .before .tail .ensures,
+      at-if1 .before .span-of .ensures,
+    )))

@@ -5,7 +5,16 @@ use Rattle.shapes.proofs.is_exponent.Tie as tie
 
 returns : tie.Need-returns
 unfolding isExponent
-returns c = rw (← c .before .before .before .before .before .starts-with .ensures, ← c .before .before .before .before .starts-with2 .ensures, c .before .before .before .if1 .taken, c .is-digits .ensures, c .before .strip-sign .ensures, c .before .before .tail .ensures)
+returns c =
+    let at-if1 = c .before .before .before in
+    rw (
+      ← at-if1 .before .before .starts-with .ensures,
+      ← at-if1 .before .starts-with2 .ensures,
+      at-if1 .if1 .taken,
+      c .is-digits .ensures,
+      c .before .strip-sign .ensures,
+      c .before .before .tail .ensures,
+    )
 
 returns-2 : tie.Need-returns-2
 unfolding isExponent

@@ -5,7 +5,18 @@ use Rattle.shapes.proofs.is_ordinal.Tie as tie
 
 returns : tie.Need-returns
 unfolding isOrdinal
-returns c = rw (c .before .before .before .is-ordinal-suffix .ensures, c .before .in-class .ensures, c .all-of .ensures, c .before .before .before .before .byte-at .ensures, c .before .before .byte-at2 .ensures, c .before .before .before .before .before .before .without-back .ensures, c .before .before .before .before .before .back .ensures)
+returns c =
+    let at-byte-at2 = c .before .before in
+    let at-byte-at = at-byte-at2 .before .before in
+    rw (
+      at-byte-at2 .before .is-ordinal-suffix .ensures,
+      c .before .in-class .ensures,
+      c .all-of .ensures,
+      at-byte-at .byte-at .ensures,
+      at-byte-at2 .byte-at2 .ensures,
+      at-byte-at .before .before .without-back .ensures,
+      at-byte-at .before .back .ensures,
+    )
 
 pub is-ordinal-spec : {M : Type 1} → statement M
 is-ordinal-spec =

@@ -14,4 +14,6 @@ is-ordinal-suffix-spec =
     (λ c κs. search needs)
     (λ c. search needs)
     (λ c κs. search needs)
-    (λ c. rw (c .before .before .before .before .before .before .same .ensures, c .before .before .before .before .same2 .ensures, c .before .before .same3 .ensures, c .same4 .ensures)))
+    (λ c.
+    let at-same3 = c .before .before in
+    rw (at-same3 .before .before .before .before .same .ensures, at-same3 .before .before .same2 .ensures, at-same3 .same3 .ensures, c .same4 .ensures)))

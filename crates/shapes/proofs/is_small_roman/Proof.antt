@@ -24,4 +24,18 @@ is-small-roman-spec =
     (λ c κs. search needs)
     (λ c. search needs)
     (λ c κs. search needs)
-    (λ c. rw (c .before .before .before .before .before .before .before .before .before .before .before .before .before .before .before .before .same .ensures, c .before .before .before .before .before .before .before .before .before .before .before .before .before .before .same2 .ensures, c .before .before .before .before .before .before .before .before .before .before .before .before .same3 .ensures, c .before .before .before .before .before .before .before .before .before .before .same4 .ensures, c .before .before .before .before .before .before .before .before .same5 .ensures, c .before .before .before .before .before .before .same6 .ensures, c .before .before .before .before .same7 .ensures, c .before .before .same8 .ensures, c .same9 .ensures)))
+    (λ c.
+    let at-same7 = c .before .before .before .before in
+    let at-same5 = at-same7 .before .before .before .before in
+    let at-same3 = at-same5 .before .before .before .before in
+    rw (
+      at-same3 .before .before .before .before .same .ensures,
+      at-same3 .before .before .same2 .ensures,
+      at-same3 .same3 .ensures,
+      at-same5 .before .before .same4 .ensures,
+      at-same5 .same5 .ensures,
+      at-same7 .before .before .same6 .ensures,
+      at-same7 .same7 .ensures,
+      c .before .before .same8 .ensures,
+      c .same9 .ensures,
+    )))

@@ -19,4 +19,6 @@ pair-passes-spec =
     (λ c. rw (c .before .before .match .keys1, c .before .is-n-digits .ensures, c .is-n-digits2 .ensures))
     (λ c. rw (c .before .match .keys2) (c .is-hour-minute .ensures))
     (λ c. rw (c .before .before .match .keys3, c .before .is-digits .ensures, c .is-digits2 .ensures))
-    (λ c. rw (List·getD-eq-default (isPhoneParts ∷ isHourMinute ∷ areDigits ∷ []) (λ a b. false) {n = c .before .before .before .args .test} (none-of (c .before .before .before .args .test) 3 (c .match .rest)))))
+    (λ c.
+    let start = c .before .before .before in
+    rw (List·getD-eq-default (isPhoneParts ∷ isHourMinute ∷ areDigits ∷ []) (λ a b. false) {n = start .args .test} (none-of (start .args .test) 3 (c .match .rest)))))

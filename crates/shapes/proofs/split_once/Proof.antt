@@ -10,7 +10,9 @@ returns c = rw (← c .before .span-of .ensures, le-ltb _ _ (c .if1 .taken))
 
 returns-2 : tie.Need-returns-2
 unfolding splitOnce
-returns-2 c = rw (← c .before .before .before .before .span-of .ensures, lt-ltb _ _ (c .before .before .before .if1 .left), c .pair-passes .ensures, c .before .before .front .ensures, c .before .tail .ensures)
+returns-2 c =
+    let at-front = c .before .before in
+    rw (← at-front .before .before .span-of .ensures, lt-ltb _ _ (at-front .before .if1 .left), c .pair-passes .ensures, at-front .front .ensures, c .before .tail .ensures)
 
 pub split-once-spec : {M : Type 1} → statement M
 split-once-spec =

@@ -15,15 +15,60 @@ returns c = splits _ _ (rw (← c .before .ends-in-meridiem .ensures, not-true (
 
 returns-2 : tie.Need-returns-2
 unfolding timeSplit
-returns-2 c = splits _ _ (rw (← c .before .before .before .before .ends-in-meridiem .ensures, not-false (c .before .before .before .before .ends-in-meridiem .result) (c .before .before .before .if1 .left), ← c .before .before .without-back .ensures, ← c .before .span-of .ensures, le-ltb _ _ (c .if2 .taken)))
+returns-2 c =
+    let at-if1 = c .before .before .before in
+    splits _ _
+    (rw (
+      ← at-if1 .before .ends-in-meridiem .ensures,
+      not-false (at-if1 .before .ends-in-meridiem .result) (at-if1 .if1 .left),
+      ← c .before .before .without-back .ensures,
+      ← c .before .span-of .ensures,
+      le-ltb _ _ (c .if2 .taken),
+    ))
 
 returns-3 : tie.Need-returns-3
 unfolding timeSplit
-returns-3 c = let m : min (length (c .before .before .before .before .before .before .before .before .before .before .args .s .now) - 2) (length (c .before .before .before .before .before .before .before .before .before .before .args .s .now)) ≡ length (c .before .before .before .before .before .before .before .before .before .before .args .s .now) - 2 = omega arith in splits _ _ (rw (← c .before .before .before .before .before .before .before .before .ends-in-meridiem .ensures, not-false (c .before .before .before .before .before .before .before .before .ends-in-meridiem .result) (c .before .before .before .before .before .before .before .if1 .left), ← c .before .before .before .before .before .before .without-back .ensures, ← c .before .before .before .before .before .span-of .ensures, lt-ltb _ _ (c .before .before .before .before .if2 .left), ← c .before .before .before .front .ensures, ← c .before .before .tail .ensures, ← c .before .is-hour-minute .ensures, c .if3 .taken, c .before .before .before .before .before .before .without-back .ensures, length-take, m))
+returns-3 c =
+    let at-tail = c .before .before in
+    let at-if2 = at-tail .before .before in
+    let at-without-back = at-if2 .before .before in
+    let at-ends-in-meridiem = at-without-back .before .before in
+    let start = at-ends-in-meridiem .before .before in
+    let m : min (length (start .args .s .now) - 2) (length (start .args .s .now)) ≡ length (start .args .s .now) - 2 = omega arith in
+    splits _ _
+    (rw (
+      ← at-ends-in-meridiem .ends-in-meridiem .ensures,
+      not-false (at-ends-in-meridiem .ends-in-meridiem .result) (at-without-back .before .if1 .left),
+      ← at-without-back .without-back .ensures,
+      ← at-if2 .before .span-of .ensures,
+      lt-ltb _ _ (at-if2 .if2 .left),
+      ← at-tail .before .front .ensures,
+      ← at-tail .tail .ensures,
+      ← c .before .is-hour-minute .ensures,
+      c .if3 .taken,
+      at-without-back .without-back .ensures,
+      length-take,
+      m,
+    ))
 
 returns-4 : tie.Need-returns-4
 unfolding timeSplit
-returns-4 c = splits _ _ (rw (← c .before .before .before .before .before .before .before .before .ends-in-meridiem .ensures, not-false (c .before .before .before .before .before .before .before .before .ends-in-meridiem .result) (c .before .before .before .before .before .before .before .if1 .left), ← c .before .before .before .before .before .before .without-back .ensures, ← c .before .before .before .before .before .span-of .ensures, lt-ltb _ _ (c .before .before .before .before .if2 .left), ← c .before .before .before .front .ensures, ← c .before .before .tail .ensures, ← c .before .is-hour-minute .ensures, c .if3 .left))
+returns-4 c =
+    let at-tail = c .before .before in
+    let at-if2 = at-tail .before .before in
+    let at-if1 = at-if2 .before .before .before in
+    splits _ _
+    (rw (
+      ← at-if1 .before .ends-in-meridiem .ensures,
+      not-false (at-if1 .before .ends-in-meridiem .result) (at-if1 .if1 .left),
+      ← at-if2 .before .before .without-back .ensures,
+      ← at-if2 .before .span-of .ensures,
+      lt-ltb _ _ (at-if2 .if2 .left),
+      ← at-tail .before .front .ensures,
+      ← at-tail .tail .ensures,
+      ← c .before .is-hour-minute .ensures,
+      c .if3 .left,
+    ))
 
 pub split-time-meridiem-spec : {M : Type 1} → statement M
 split-time-meridiem-spec =

@@ -11,4 +11,8 @@ advance-spec =
     (λ c κs. search needs)
     (λ c κs. search needs)
     (λ c. search needs)
-    (λ c. (rw (c .before .plus .ensures, c .plus2 .ensures, c .before .before .before .before .before .before .after-gap .ensures), rw (c .before .before .before .before .before .before .after-gap .ensures) at (c .before .before .before .before .put-pair .ensures))))
+    (λ c.
+    let at-put-pair = c .before .before .before .before in (
+      rw (c .before .plus .ensures, c .plus2 .ensures, at-put-pair .before .before .after-gap .ensures),
+      rw (at-put-pair .before .before .after-gap .ensures) at (at-put-pair .put-pair .ensures),
+    )))

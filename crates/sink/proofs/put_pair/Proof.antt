@@ -9,4 +9,11 @@ use Rattle.sink.proofs.put_pair.Tie as tie
 
 pub put-pair-spec : {M : Type 1} → statement M
 put-pair-spec =
-    tie.close (tie.spec (λ c. search needs) (λ c κs. search needs) (λ c. search needs) (λ c. search needs) (λ c. sym (sets-out (c .before .before .args .table .now) (pairBytes * c .before .before .args .words) (pairOf (c .before .before .args .at) (c .before .before .args .size)) (omega arith))))
+    tie.close (tie.spec
+    (λ c. search needs)
+    (λ c κs. search needs)
+    (λ c. search needs)
+    (λ c. search needs)
+    (λ c.
+    let start = c .before .before in
+    sym (sets-out (start .args .table .now) (pairBytes * start .args .words) (pairOf (start .args .at) (start .args .size)) (omega arith))))

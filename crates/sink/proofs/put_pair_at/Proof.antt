@@ -19,7 +19,9 @@ pub put-pair-at-spec : {M : Type 1} → statement M
 put-pair-at-spec =
     tie.close
     (tie.spec
-    (λ c. sym (sets-out (c .before .before .args .table .now) (c .before .before .args .place) (pairOf (c .before .before .args .at) (c .before .before .args .size)) (omega arith)))
+    (λ c.
+    let start = c .before .before in
+    sym (sets-out (start .args .table .now) (start .args .place) (pairOf (start .args .at) (start .args .size)) (omega arith)))
     (λ c. search needs)
     (λ c κs. search needs)
     (λ c. search needs)

@@ -5,7 +5,16 @@ use Rattle.sink.specs.Sink.{emit}
 
 returns : tie.Need-returns
 unfolding emit
-returns c = rw (c .before .before .before .before .before .before .put .ensures, c .before .before .before .before .before .before .before .before .before .before .before .put-gap .ensures, c .before .before .before .before .before .before .before .after-gap .ensures, c .before .before .advance .ensures .0, c .before .before .advance .ensures .1)
+returns c =
+    let at-advance = c .before .before in
+    let at-put = at-advance .before .before .before .before in
+    rw (
+      at-put .put .ensures,
+      at-put .before .before .before .before .before .put-gap .ensures,
+      at-put .before .after-gap .ensures,
+      at-advance .advance .ensures .0,
+      at-advance .advance .ensures .1,
+    )
 
 pub word-spec : {M : Type 1} → statement M
 word-spec =

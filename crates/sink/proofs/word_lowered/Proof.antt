@@ -7,7 +7,18 @@ use Rattle.sink.specs.Sink.{emit}
 
 returns : tie.Need-returns
 unfolding emit
-returns c = rw (c .before .before .before .before .before .before .put-lowered .ensures, c .before .before .before .before .before .before .before .before .before .before .before .put-gap .ensures, c .before .before .before .before .before .before .before .after-gap .ensures, c .before .before .advance .ensures .0, c .before .before .advance .ensures .1, map-length lower (c .before .before .before .before .before .before .before .before .before .before .before .before .before .before .before .before .args .w .now))
+returns c =
+    let at-advance = c .before .before in
+    let at-put-lowered = at-advance .before .before .before .before in
+    let at-put-gap = at-put-lowered .before .before .before .before .before in
+    rw (
+      at-put-lowered .put-lowered .ensures,
+      at-put-gap .put-gap .ensures,
+      at-put-lowered .before .after-gap .ensures,
+      at-advance .advance .ensures .0,
+      at-advance .advance .ensures .1,
+      map-length lower (at-put-gap .before .before .before .before .before .args .w .now),
+    )
 
 pub word-lowered-spec : {M : Type 1} → statement M
 word-lowered-spec =

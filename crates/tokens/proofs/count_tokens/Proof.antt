@@ -28,5 +28,15 @@ count-tokens-spec =
     (λ c. let t = c .tally .ensures .1 in omega arith)
     (λ c. search needs)
     (λ c. search needs)
-    (λ c. let t = c .tally .ensures .1 in (omega arith, omega arith, rw (c .tally .ensures .0, c .before .in-class .ensures) (sym (runs-on (c .before .before .before .before .loop .white) (c .before .before .before .before .before .before .args .s .now) (c .before .before .before .before .loop .i) (c .before .before .before .before .loop .n) (omega arith)) ∙ c .before .before .before .before .loop .inv .2)))
-    (λ c. sym (runs-end (c .before .loop .white) (c .before .before .before .args .s .now) (c .before .loop .i) (c .before .loop .n) (omega arith)) ∙ c .before .loop .inv .2))
+    (λ c.
+    let at-loop = c .before .before .before .before in
+    let t = c .tally .ensures .1 in (
+      omega arith,
+      omega arith,
+      rw (c .tally .ensures .0, c .before .in-class .ensures)
+          (sym (runs-on (at-loop .loop .white) (at-loop .before .before .args .s .now) (at-loop .loop .i) (at-loop .loop .n) (omega arith))
+          ∙ at-loop .loop .inv .2),
+    ))
+    (λ c.
+    let at-loop = c .before in
+    sym (runs-end (at-loop .loop .white) (at-loop .before .before .args .s .now) (at-loop .loop .i) (at-loop .loop .n) (omega arith)) ∙ at-loop .loop .inv .2))

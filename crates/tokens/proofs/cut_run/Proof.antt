@@ -11,4 +11,27 @@ use Rattle.tokens.proofs.cut_run.Tie as tie
 pub cut-run-spec : {M : Type 1} → statement M
 cut-run-spec =
     tie.close
-    (tie.spec (λ c. rw (c .if2 .taken) (cut-marks (c .before .before .before .args .run .now) (c .before .before .before .args .marks) (c .before .before .before .pre) (c .before .if1 .taken) .0)) (λ c. rw (c .if2 .left) (cut-marks (c .before .before .before .args .run .now) (c .before .before .before .args .marks) (c .before .before .before .pre) (c .before .if1 .taken) .1)) (λ c. let l = span-le leadingMark (c .before .before .args .run .now) in let e : c .before .before .args .marks ≡ span leadingMark (c .before .before .args .run .now) = c .before .before .pre in omega arith) (λ c κs. search needs) (λ c κs. search needs) (λ c. let w = cut-named (c .before .before .before .before .args .run .now) (c .before .before .before .before .args .ends) (c .before .before .before .before .args .marks) _ (c .before .before .before .before .pre) (c .before .before .if1 .left) (rw (c .before .tail .ensures) at (c .after-last .ensures)) .within in omega arith) (λ c. cut-named (c .before .before .before .before .args .run .now) (c .before .before .before .before .args .ends) (c .before .before .before .before .args .marks) _ (c .before .before .before .before .pre) (c .before .before .if1 .left) (rw (c .before .tail .ensures) at (c .after-last .ensures))))
+    (tie.spec
+    (λ c.
+    let start = c .before .before .before in
+    rw (c .if2 .taken) (cut-marks (start .args .run .now) (start .args .marks) (start .pre) (c .before .if1 .taken) .0))
+    (λ c.
+    let start = c .before .before .before in
+    rw (c .if2 .left) (cut-marks (start .args .run .now) (start .args .marks) (start .pre) (c .before .if1 .taken) .1))
+    (λ c.
+    let start = c .before .before in
+    let l = span-le leadingMark (start .args .run .now) in
+    let e : start .args .marks ≡ span leadingMark (start .args .run .now) = start .pre in
+    omega arith)
+    (λ c κs. search needs)
+    (λ c κs. search needs)
+    (λ c.
+    let start = c .before .before .before .before in
+    let w =
+    cut-named (start .args .run .now) (start .args .ends) (start .args .marks) _ (start .pre) (c .before .before .if1 .left)
+    (rw (c .before .tail .ensures) at (c .after-last .ensures)) .within in
+    omega arith)
+    (λ c.
+    let start = c .before .before .before .before in
+    cut-named (start .args .run .now) (start .args .ends) (start .args .marks) _ (start .pre) (c .before .before .if1 .left)
+    (rw (c .before .tail .ensures) at (c .after-last .ensures))))

@@ -9,4 +9,10 @@ use Rattle.tokens.proofs.exceeds.Statement.{statement}
 use Rattle.tokens.proofs.exceeds.Tie as tie
 
 pub exceeds-spec : {M : Type 1} → statement M
-exceeds-spec = tie.close (tie.spec (λ c. let f = tokens-few (c .before .before .args .s .now) in sym (le-ltb (c .before .before .args .n) (length (tokens (c .before .before .args .s .now))) (omega arith))) (λ c κs. search needs) (λ c. rw (c .count-tokens .ensures)))
+exceeds-spec = tie.close (tie.spec
+    (λ c.
+    let start = c .before .before in
+    let f = tokens-few (start .args .s .now) in
+    sym (le-ltb (start .args .n) (length (tokens (start .args .s .now))) (omega arith)))
+    (λ c κs. search needs)
+    (λ c. rw (c .count-tokens .ensures)))

@@ -22,4 +22,19 @@ put-record-spec =
     (λ c κs. search needs)
     (λ c κs. search needs)
     (λ c. search needs)
-    (λ c. c .before .before .put-pair-at4 .ensures ∙ rw (c .before .before .before .before .before .before .before .put-pair-at3 .ensures, c .before .before .before .before .before .before .before .before .before .before .before .before .put-pair-at2 .ensures, c .before .before .before .before .before .before .before .before .before .before .before .before .before .before .before .before .before .put-pair-at .ensures, c .before .before .before .before .before .before .before .before .before .before .before .before .before .before .before .before .before .before .minus .ensures, c .before .before .before .before .before .before .before .before .before .before .before .before .before .minus2 .ensures, c .before .before .before .before .before .before .before .before .minus3 .ensures, c .before .before .before .minus4 .ensures) (four-pairs _ _ _ _ _ _ _ _ _ _)))
+    (λ c.
+    let at-put-pair-at4 = c .before .before in
+    let at-put-pair-at3 = at-put-pair-at4 .before .before .before .before .before in
+    let at-put-pair-at2 = at-put-pair-at3 .before .before .before .before .before in
+    let at-put-pair-at = at-put-pair-at2 .before .before .before .before .before in
+    at-put-pair-at4 .put-pair-at4 .ensures
+    ∙ rw (
+      at-put-pair-at3 .put-pair-at3 .ensures,
+      at-put-pair-at2 .put-pair-at2 .ensures,
+      at-put-pair-at .put-pair-at .ensures,
+      at-put-pair-at .before .minus .ensures,
+      at-put-pair-at2 .before .minus2 .ensures,
+      at-put-pair-at3 .before .minus3 .ensures,
+      at-put-pair-at4 .before .minus4 .ensures,
+    )
+    (four-pairs _ _ _ _ _ _ _ _ _ _)))

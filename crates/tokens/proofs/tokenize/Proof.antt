@@ -15,10 +15,32 @@ tokenize-spec =
     tie.close
     (tie.spec
     (λ c κs. search needs)
-    (λ c. fill-refused (c .before .before .before .before .args .s .now) (records 0 (tokens (c .before .before .before .before .args .s .now))) (c .before .before .before .before .args .table .now) _ (c .before .refusal-of .ensures) (c .if1 .taken))
+    (λ c.
+    let start = c .before .before .before .before in
+    fill-refused (start .args .s .now) (records 0 (tokens (start .args .s .now))) (start .args .table .now) _ (c .before .refusal-of .ensures) (c .if1 .taken))
     (λ c κs. search needs)
     (λ c κs. search needs)
-    (λ c. rw (c .number .ensures) (fill-short (c .before .before .before .before .before .before .before .args .s .now) (records 0 (tokens (c .before .before .before .before .before .before .before .args .s .now))) (c .before .before .before .before .before .before .before .args .table .now) _ (c .before .before .before .before .refusal-of .ensures) (c .before .before .before .if1 .left) (records-short (c .before .before .before .before .before .before .before .args .s .now) (c .before .before .before .before .before .before .before .args .table .now) ∙ sym (c .before .before .exceeds .ensures) ∙ c .before .if2 .taken)))
-    (λ c κs. let h : length (records 0 (tokens (c .before .before .before .before .before .before .before .args .s .now))) ≤ length (c .before .before .before .before .before .before .before .args .table .now) = ltb-false _ _ (records-short (c .before .before .before .before .before .before .before .args .s .now) (c .before .before .before .before .before .before .before .args .table .now) ∙ sym (c .before .before .exceeds .ensures) ∙ c .before .if2 .left) in rw (records-length 0 (tokens (c .before .before .before .before .before .before .before .args .s .now))) at h)
+    (λ c.
+    let at-if1 = c .before .before .before in
+    let start = at-if1 .before .before .before .before in
+    rw (c .number .ensures)
+    (fill-short (start .args .s .now) (records 0 (tokens (start .args .s .now))) (start .args .table .now) _
+    (at-if1 .before .refusal-of .ensures) (at-if1 .if1 .left)
+    (records-short (start .args .s .now) (start .args .table .now) ∙ sym (c .before .before .exceeds .ensures) ∙ c .before .if2 .taken)))
+    (λ c κs.
+    let at-exceeds = c .before .before in
+    let start = at-exceeds .before .before .before .before .before in
+    let h : length (records 0 (tokens (start .args .s .now))) ≤ length (start .args .table .now) =
+    ltb-false _ _
+    (records-short (start .args .s .now) (start .args .table .now) ∙ sym (at-exceeds .exceeds .ensures) ∙ c .before .if2 .left) in
+    rw (records-length 0 (tokens (start .args .s .now))) at h)
     (λ c. search needs)
-    (λ c. fill-done (c .before .before .before .before .before .before .before .before .before .before .args .s .now) (records 0 (tokens (c .before .before .before .before .before .before .before .before .before .before .args .s .now))) (c .before .before .before .before .before .before .before .before .before .before .args .table .now) _ (c .before .before .before .before .before .before .before .refusal-of .ensures) (c .before .before .before .before .before .before .if1 .left) (records-short (c .before .before .before .before .before .before .before .before .before .before .args .s .now) (c .before .before .before .before .before .before .before .before .before .before .args .table .now) ∙ sym (c .before .before .before .before .before .exceeds .ensures) ∙ c .before .before .before .before .if2 .left) (c .before .before .write-records .ensures .0) (c .before .before .write-records .ensures .1)))
+    (λ c.
+    let at-write-records = c .before .before in
+    let at-if2 = at-write-records .before .before in
+    let at-if1 = at-if2 .before .before in
+    let start = at-if1 .before .before .before .before in
+    fill-done (start .args .s .now) (records 0 (tokens (start .args .s .now))) (start .args .table .now) _
+    (at-if1 .before .refusal-of .ensures) (at-if1 .if1 .left)
+    (records-short (start .args .s .now) (start .args .table .now) ∙ sym (at-if2 .before .exceeds .ensures) ∙ at-if2 .if2 .left)
+    (at-write-records .write-records .ensures .0) (at-write-records .write-records .ensures .1)))

@@ -28,13 +28,33 @@ unit-index-spec =
     (λ c. search needs)
     (λ c. search needs)
     (λ c.
-    let e = rw (c .before .before .before .before .unit-keys .ensures, c .before .before .before .unit-key .ensures) at (c .if1 .taken) in
-    sym (c .before .before .loop .inv .1 ∙ rw (index-more (c .before .before .before .before .before .before .args .u .now) (c .before .before .loop .k) (λ i. c .before .before .before .before .before .shared-slice-known .given i .fits) (omega arith), eq-eqb _ _ e) (omega arith)))
+    let at-loop = c .before .before in
+    let at-unit-keys = at-loop .before .before in
+    let e = rw (at-unit-keys .unit-keys .ensures, at-loop .before .unit-key .ensures) at (c .if1 .taken) in
+    sym
+    (at-loop .loop .inv .1
+    ∙ rw (
+      index-more (at-unit-keys .before .before .args .u .now) (at-loop .loop .k)
+          (λ i. at-unit-keys .before .shared-slice-known .given i .fits) (omega arith),
+      eq-eqb _ _ e,
+    )
+    (omega arith)))
     (λ c. search needs)
     (λ c. search needs)
     (λ c.
-    let e = rw (c .before .before .before .before .unit-keys .ensures, c .before .before .before .unit-key .ensures) at (c .if1 .left) in
-    (omega arith, c .before .before .loop .inv .1 ∙ rw (index-more (c .before .before .before .before .before .before .args .u .now) (c .before .before .loop .k) (λ i. c .before .before .before .before .before .shared-slice-known .given i .fits) (omega arith), ne-eqb _ _ e) (omega arith)))
+    let at-loop = c .before .before in
+    let at-unit-keys = at-loop .before .before in
+    let e = rw (at-unit-keys .unit-keys .ensures, at-loop .before .unit-key .ensures) at (c .if1 .left) in (
+      omega arith,
+      at-loop .loop .inv .1
+          ∙ rw (
+            index-more (at-unit-keys .before .before .args .u .now) (at-loop .loop .k)
+                (λ i. at-unit-keys .before .shared-slice-known .given i .fits) (omega arith),
+            ne-eqb _ _ e,
+          )
+          (omega arith),
+    ))
     (λ c.
-    let z : c .before .loop .k ≡ 22 = omega arith in
-    sym (c .before .loop .inv .1 ∙ rw (index-end (c .before .before .before .before .before .args .u .now) (c .before .loop .k) (omega arith)) (omega arith))))
+    let at-loop = c .before in
+    let z : at-loop .loop .k ≡ 22 = omega arith in
+    sym (at-loop .loop .inv .1 ∙ rw (index-end (at-loop .before .before .before .before .args .u .now) (at-loop .loop .k) (omega arith)) (omega arith))))

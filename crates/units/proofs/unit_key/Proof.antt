@@ -22,4 +22,7 @@ unit-key-spec =
     (λ c. search needs)
     (λ c. search needs)
     (λ c. search needs)
-    (λ c. rw (c .before .before .byte-at .ensures, c .before .byte-at2 .ensures, c .byte-at3 .ensures) (key-short (c .before .before .before .before .before .args .u .now) (omega arith))))
+    (λ c.
+    let at-byte-at2 = c .before in
+    rw (at-byte-at2 .before .byte-at .ensures, at-byte-at2 .byte-at2 .ensures, c .byte-at3 .ensures)
+    (key-short (at-byte-at2 .before .before .before .before .args .u .now) (omega arith))))

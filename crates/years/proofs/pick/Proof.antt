@@ -8,4 +8,20 @@ use Rattle.years.proofs.pick.Tie as tie
 pub pick-spec : {M : Type 1} → statement M
 pick-spec =
     tie.close
-    (tie.spec (λ c κs. search needs) (λ c κs. search needs) (λ c κs. search needs) (λ c. search needs) (λ c. picked-some (c .before .before .before .before .before .args .s .now) (c .before .before .before .span-of .result) (c .before .digit-value .result) (c .before .before .before .span-of .ensures) (c .before .digit-value .ensures ∙ ap digitValue (c .before .before .byte-at .ensures)) (c .if1 .taken)) (λ c. picked-none (c .before .before .before .before .before .args .s .now) (c .before .before .before .span-of .result) (c .before .digit-value .result) (c .before .before .before .span-of .ensures) (c .before .digit-value .ensures ∙ ap digitValue (c .before .before .byte-at .ensures)) (c .if1 .left)))
+    (tie.spec
+    (λ c κs. search needs)
+    (λ c κs. search needs)
+    (λ c κs. search needs)
+    (λ c. search needs)
+    (λ c.
+    let at-digit-value = c .before in
+    let at-span-of = at-digit-value .before .before in
+    picked-some (at-span-of .before .before .args .s .now) (at-span-of .span-of .result) (at-digit-value .digit-value .result)
+    (at-span-of .span-of .ensures) (at-digit-value .digit-value .ensures ∙ ap digitValue (at-digit-value .before .byte-at .ensures))
+    (c .if1 .taken))
+    (λ c.
+    let at-digit-value = c .before in
+    let at-span-of = at-digit-value .before .before in
+    picked-none (at-span-of .before .before .args .s .now) (at-span-of .span-of .result) (at-digit-value .digit-value .result)
+    (at-span-of .span-of .ensures) (at-digit-value .digit-value .ensures ∙ ap digitValue (at-digit-value .before .byte-at .ensures))
+    (c .if1 .left)))

@@ -15,9 +15,17 @@ use Rattle.years.proofs.say_four.Tie as tie
 returns-2 : tie.Need-returns-2
 unfolding spell
 returns-2 c =
-    let s = c .before .before .before .before .before .before .before .before .before .before .before .before .before .before .before .before .before .before .before .before .before .before .before .args .ds .now in
-    let y = year-four s (c .before .before .before .before .before .before .before .before .before .before .before .before .before .before .before .before .before .before .before .before .before .before .before .pre) (c .before .before .before .before .before .before .before .before .before .before .before .before .before .before .before .before .before .before .before .byte-at .ensures) (c .before .before .before .before .before .before .before .before .before .before .before .before .before .before .before .before .before .before .byte-at2 .ensures) (c .before .before .before .before .before .before .before .before .before .before .before .before .before .before .before .before .before .byte-at3 .ensures) in
-    says-more (cardinalFew (take 2 s)) (hundred ∷ []) (y ∙ rw (c .before .before .before .before .before .before .before .before .before .before .before .before .before .before .before .before .if1 .left, c .before .before .before .before .before .before .before .if2 .taken)) _ (rw (c .before .before .before .before .before .before .before .before .before .before .before .before .before .before .before .front .ensures) at (c .before .before .before .before .before .before .before .before .before .before .before .before .say-few2 .ensures)) (said-word hundred _ (c .before .before .before .before .say .ensures))
+    let at-say = c .before .before .before .before in
+    let at-if2 = at-say .before .before .before in
+    let at-say-few2 = at-if2 .before .before .before .before .before in
+    let at-front = at-say-few2 .before .before .before in
+    let at-byte-at3 = at-front .before .before in
+    let at-byte-at = at-byte-at3 .before .before in
+    let start = at-byte-at .before .before .before .before in
+    let s = start .args .ds .now in
+    let y = year-four s (start .pre) (at-byte-at .byte-at .ensures) (at-byte-at3 .before .byte-at2 .ensures) (at-byte-at3 .byte-at3 .ensures) in
+    says-more (cardinalFew (take 2 s)) (hundred ∷ []) (y ∙ rw (at-front .before .if1 .left, at-if2 .if2 .taken)) _
+    (rw (at-front .front .ensures) at (at-say-few2 .say-few2 .ensures)) (said-word hundred _ (at-say .say .ensures))
 
 pub say-four-spec : {M : Type 1} → statement M
 say-four-spec =
@@ -29,9 +37,22 @@ say-four-spec =
     (λ c κs. search needs)
     (λ c. search needs)
     (λ c. search needs)
-    (λ c. rw (year-four (c .before .before .before .before .before .before .before .before .before .before .before .before .before .before .args .ds .now) (c .before .before .before .before .before .before .before .before .before .before .before .before .before .before .pre) (c .before .before .before .before .before .before .before .before .before .before .byte-at .ensures) (c .before .before .before .before .before .before .before .before .before .byte-at2 .ensures) (c .before .before .before .before .before .before .before .before .byte-at3 .ensures), c .before .before .before .before .before .before .before .if1 .taken) (c .before .before .before .before .say-few .ensures))
+    (λ c.
+    let at-say-few = c .before .before .before .before in
+    let at-if1 = at-say-few .before .before .before in
+    let at-byte-at2 = at-if1 .before .before in
+    let start = at-byte-at2 .before .before .before .before .before in
+    rw (
+      year-four (start .args .ds .now) (start .pre) (at-byte-at2 .before .byte-at .ensures) (at-byte-at2 .byte-at2 .ensures)
+          (at-if1 .before .byte-at3 .ensures),
+      at-if1 .if1 .taken,
+    )
+    (at-say-few .say-few .ensures))
     (λ c κs. search needs)
-    (λ c κs. omega (arith, ap length (c .before .before .front .ensures), length-take-le 2 (c .before .before .before .before .before .before .before .before .before .before .args .ds .now) (omega (arith, c .before .before .before .before .before .before .before .before .before .before .pre))))
+    (λ c κs.
+    let at-front = c .before .before in
+    let start = at-front .before .before .before .before .before .before .before .before in
+    omega (arith, ap length (at-front .front .ensures), length-take-le 2 (start .args .ds .now) (omega (arith, start .pre))))
     (λ c κs. search needs)
     (λ c. search needs)
     (λ c. search needs)
@@ -40,6 +61,15 @@ say-four-spec =
     (λ c. search needs)
     (λ c. search needs)
     (λ c.
-    let s = c .before .before .before .before .before .before .before .before .before .before .before .before .before .before .before .before .before .before .before .before .before .before .before .args .ds .now in
-    let y = year-four s (c .before .before .before .before .before .before .before .before .before .before .before .before .before .before .before .before .before .before .before .before .before .before .before .pre) (c .before .before .before .before .before .before .before .before .before .before .before .before .before .before .before .before .before .before .before .byte-at .ensures) (c .before .before .before .before .before .before .before .before .before .before .before .before .before .before .before .before .before .before .byte-at2 .ensures) (c .before .before .before .before .before .before .before .before .before .before .before .before .before .before .before .before .before .byte-at3 .ensures) in
-    says-more (cardinalFew (take 2 s)) (yearOf (c .before .before .before .before .before .before .before .before .before .before .before .before .before .before .before .before .before .before .byte-at2 .result ∷ c .before .before .before .before .before .before .before .before .before .before .before .before .before .before .before .before .before .byte-at3 .result ∷ [])) (y ∙ rw (c .before .before .before .before .before .before .before .before .before .before .before .before .before .before .before .before .if1 .left, c .before .before .before .before .before .before .before .if2 .left)) _ (rw (c .before .before .before .before .before .before .before .before .before .before .before .before .before .before .before .front .ensures) at (c .before .before .before .before .before .before .before .before .before .before .before .before .say-few2 .ensures)) (c .before .before .before .before .say-two .ensures)))
+    let at-say-two = c .before .before .before .before in
+    let at-if2 = at-say-two .before .before .before in
+    let at-say-few2 = at-if2 .before .before .before .before .before in
+    let at-front = at-say-few2 .before .before .before in
+    let at-byte-at3 = at-front .before .before in
+    let at-byte-at2 = at-byte-at3 .before in
+    let start = at-byte-at2 .before .before .before .before .before in
+    let s = start .args .ds .now in
+    let y = year-four s (start .pre) (at-byte-at2 .before .byte-at .ensures) (at-byte-at2 .byte-at2 .ensures) (at-byte-at3 .byte-at3 .ensures) in
+    says-more (cardinalFew (take 2 s)) (yearOf (at-byte-at2 .byte-at2 .result ∷ at-byte-at3 .byte-at3 .result ∷ []))
+    (y ∙ rw (at-front .before .if1 .left, at-if2 .if2 .left)) _ (rw (at-front .front .ensures) at (at-say-few2 .say-few2 .ensures))
+    (at-say-two .say-two .ensures)))

@@ -10,20 +10,41 @@ say-last-spec =
     (λ c κs. search needs)
     (λ c. search needs)
     (λ c. search needs)
-    (λ c. rw (year-few (c .before .before .before .before .before .before .before .before .before .before .before .args .ds .now) (c .before .before .before .before .before .before .before .if1 .taken)) (c .before .before .before .before .say-few .ensures))
+    (λ c.
+    let at-say-few = c .before .before .before .before in
+    let at-if1 = at-say-few .before .before .before in
+    rw (year-few (at-if1 .before .before .before .before .args .ds .now) (at-if1 .if1 .taken)) (at-say-few .say-few .ensures))
     (λ c κs. search needs)
     (λ c κs. search needs)
     (λ c κs. search needs)
     (λ c. search needs)
     (λ c. search needs)
-    (λ c. rw (c .before .before .before .before .before .before .before .before .byte-at .ensures, c .before .before .before .before .before .before .before .byte-at2 .ensures, as-two (c .before .before .before .before .before .before .before .before .before .before .before .before .before .before .args .ds .now) (c .before .before .before .before .before .before .before .before .before .if2 .taken)) at (c .before .before .before .before .say-two .ensures))
+    (λ c.
+    let at-say-two = c .before .before .before .before in
+    let at-byte-at2 = at-say-two .before .before .before in
+    let at-if2 = at-byte-at2 .before .before in
+    rw (
+      at-byte-at2 .before .byte-at .ensures,
+      at-byte-at2 .byte-at2 .ensures,
+      as-two (at-if2 .before .before .before .before .before .args .ds .now) (at-if2 .if2 .taken),
+    ) at (at-say-two .say-two .ensures))
     (λ c κs. search needs)
     (λ c κs. search needs)
     (λ c κs. search needs)
     (λ c κs. search needs)
     (λ c. search needs)
     (λ c. search needs)
-    (λ c. rw (c .before .before .before .before .before .before .before .before .before .byte-at3 .ensures, c .before .before .before .before .before .before .before .before .byte-at4 .ensures, c .before .before .before .before .before .before .before .byte-at5 .ensures, as-three (c .before .before .before .before .before .before .before .before .before .before .before .before .before .before .before .before .args .ds .now) (c .before .before .before .before .before .before .before .before .before .before .if3 .taken)) at (c .before .before .before .before .say-three .ensures))
+    (λ c.
+    let at-say-three = c .before .before .before .before in
+    let at-byte-at5 = at-say-three .before .before .before in
+    let at-if3 = at-byte-at5 .before .before .before in
+    rw (
+      at-byte-at5 .before .before .byte-at3 .ensures,
+      at-byte-at5 .before .byte-at4 .ensures,
+      at-byte-at5 .byte-at5 .ensures,
+      as-three (at-if3 .before .before .before .before .before .before .args .ds .now)
+          (at-if3 .if3 .taken),
+    ) at (at-say-three .say-three .ensures))
     (λ c κs. search needs)
     (λ c. search needs)
     (λ c. search needs)

@@ -8,9 +8,11 @@ use Rattle.years.proofs.say_lead.Tie as tie
 returns : tie.Need-returns
 unfolding spell
 returns c =
-    let p = c .before .before .before .before .before .before .before .before .before .pick in
-    let t = c .before .before .before .before .before .before .before .before .if1 .taken in
-    (rw (t, ← p .ensures .digit) (said-word (one (p .result .value)) _ (c .before .before .before .before .say .ensures)), rw t (p .ensures .others), p .ensures .within)
+    let at-say = c .before .before .before .before in
+    let at-if1 = at-say .before .before .before .before in
+    let p = at-if1 .before .pick in
+    let t = at-if1 .if1 .taken in
+    (rw (t, ← p .ensures .digit) (said-word (one (p .result .value)) _ (at-say .say .ensures)), rw t (p .ensures .others), p .ensures .within)
 
 pub say-lead-spec : {M : Type 1} → statement M
 say-lead-spec =
@@ -30,7 +32,12 @@ say-lead-spec =
     (λ c. search needs)
     (λ c. search needs)
     (λ c.
-    let p = c .before .before .before .before .before .before .before .before .before .before .before .before .pick in
-    let f = c .before .before .before .before .before .before .before .before .before .before .before .if1 .left in
-    let q = picked-two (c .before .before .before .before .before .before .before .before .before .before .before .before .before .before .before .before .args .s .now) (p .result) (c .before .before .before .before .before .before .before .before .before .pick2 .result) (p .ensures) (rw (c .before .before .before .before .before .before .before .before .before .before .tail .ensures) at (c .before .before .before .before .before .before .before .before .before .pick2 .ensures)) in
-    (rw (f, ← p .ensures .digit, ← q .0) (c .before .before .before .before .before .before .say-pair .ensures), rw f (q .1), q .2)))
+    let at-say-pair = c .before .before .before .before .before .before in
+    let at-pick2 = at-say-pair .before .before .before in
+    let at-if1 = at-pick2 .before .before in
+    let p = at-if1 .before .pick in
+    let f = at-if1 .if1 .left in
+    let q =
+    picked-two (at-if1 .before .before .before .before .before .args .s .now) (p .result) (at-pick2 .pick2 .result) (p .ensures)
+    (rw (at-pick2 .before .tail .ensures) at (at-pick2 .pick2 .ensures)) in
+    (rw (f, ← p .ensures .digit, ← q .0) (at-say-pair .say-pair .ensures), rw f (q .1), q .2)))

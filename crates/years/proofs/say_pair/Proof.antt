@@ -7,4 +7,12 @@ use Rattle.years.proofs.say_pair.Tie as tie
 
 pub say-pair-spec : {M : Type 1} → statement M
 say-pair-spec =
-    tie.close (tie.spec (λ c. search needs) (λ c κs. search needs) (λ c. search needs) (λ c. search needs) (λ c. rw (cardinal-2 (c .before .before .before .before .before .before .before .before .before .before .args .a ∷ c .before .before .before .before .before .before .before .before .before .before .args .b ∷ []) refl) at (c .before .before .before .before .say-few .ensures)))
+    tie.close (tie.spec
+    (λ c. search needs)
+    (λ c κs. search needs)
+    (λ c. search needs)
+    (λ c. search needs)
+    (λ c.
+    let at-say-few = c .before .before .before .before in
+    let start = at-say-few .before .before .before .before .before .before in
+    rw (cardinal-2 (start .args .a ∷ start .args .b ∷ []) refl) at (at-say-few .say-few .ensures)))

@@ -11,14 +11,22 @@ use Rattle.years.proofs.say_three.Tie as tie
 returns : tie.Need-returns
 unfolding spell
 returns c =
-    says-more (one (c .before .before .before .before .before .before .before .before .before .before .before .before .before .before .before .before .before .args .a) ∷ []) (hundred ∷ []) (year-three (c .before .before .before .before .before .before .before .before .before .before .before .before .before .before .before .before .before .args .a) (c .before .before .before .before .before .before .before .before .before .before .before .before .before .before .before .before .before .args .b) (c .before .before .before .before .before .before .before .before .before .before .before .before .before .before .before .before .before .args .c) ∙ rw (c .before .before .before .before .before .before .before .if1 .taken))
-    _ (said-word (one (c .before .before .before .before .before .before .before .before .before .before .before .before .before .before .before .before .before .args .a)) _ (c .before .before .before .before .before .before .before .before .before .before .before .before .say .ensures)) (said-word hundred _ (c .before .before .before .before .say2 .ensures))
+    let at-say2 = c .before .before .before .before in
+    let at-if1 = at-say2 .before .before .before in
+    let at-say = at-if1 .before .before .before .before .before in
+    let start = at-say .before .before .before .before .before in
+    says-more (one (start .args .a) ∷ []) (hundred ∷ []) (year-three (start .args .a) (start .args .b) (start .args .c) ∙ rw (at-if1 .if1 .taken))
+    _ (said-word (one (start .args .a)) _ (at-say .say .ensures)) (said-word hundred _ (at-say2 .say2 .ensures))
 
 returns-2 : tie.Need-returns-2
 unfolding spell
 returns-2 c =
-    says-more (one (c .before .before .before .before .before .before .before .before .before .before .before .before .before .before .before .before .before .args .a) ∷ []) (yearOf (c .before .before .before .before .before .before .before .before .before .before .before .before .before .before .before .before .before .args .b ∷ c .before .before .before .before .before .before .before .before .before .before .before .before .before .before .before .before .before .args .c ∷ [])) (year-three (c .before .before .before .before .before .before .before .before .before .before .before .before .before .before .before .before .before .args .a) (c .before .before .before .before .before .before .before .before .before .before .before .before .before .before .before .before .before .args .b) (c .before .before .before .before .before .before .before .before .before .before .before .before .before .before .before .before .before .args .c) ∙ rw (c .before .before .before .before .before .before .before .if1 .left))
-    _ (said-word (one (c .before .before .before .before .before .before .before .before .before .before .before .before .before .before .before .before .before .args .a)) _ (c .before .before .before .before .before .before .before .before .before .before .before .before .say .ensures)) (c .before .before .before .before .say-two .ensures)
+    let at-say-two = c .before .before .before .before in
+    let at-if1 = at-say-two .before .before .before in
+    let at-say = at-if1 .before .before .before .before .before in
+    let start = at-say .before .before .before .before .before in
+    says-more (one (start .args .a) ∷ []) (yearOf (start .args .b ∷ start .args .c ∷ [])) (year-three (start .args .a) (start .args .b) (start .args .c) ∙ rw (at-if1 .if1 .left))
+    _ (said-word (one (start .args .a)) _ (at-say .say .ensures)) (at-say-two .say-two .ensures)
 
 pub say-three-spec : {M : Type 1} → statement M
 say-three-spec =

@@ -12,14 +12,23 @@ use Rattle.years.proofs.say_two.Tie as tie
 returns-2 : tie.Need-returns-2
 unfolding spell
 returns-2 c =
-    says-more (one 0 ∷ []) (one 0 ∷ []) (year-two (c .before .before .before .before .before .before .before .before .before .before .before .before .before .before .before .before .before .before .args .a) (c .before .before .before .before .before .before .before .before .before .before .before .before .before .before .before .before .before .before .args .b) ∙ rw (eq-eqb _ _ (c .before .before .before .before .before .before .before .before .before .before .before .before .before .before .before .if1 .left), eq-eqb _ _ (c .before .before .before .before .before .before .before .before .before .before .before .before .before .before .if2 .taken)))
-    _ (said-word (one 0) _ (c .before .before .before .before .before .before .before .before .before .before .before .say .ensures)) (said-word (one 0) _ (c .before .before .before .before .say2 .ensures))
+    let at-say2 = c .before .before .before .before in
+    let at-say = at-say2 .before .before .before .before .before .before .before in
+    let at-if2 = at-say .before .before .before in
+    let start = at-if2 .before .before .before .before in
+    says-more (one 0 ∷ []) (one 0 ∷ []) (year-two (start .args .a) (start .args .b) ∙ rw (eq-eqb _ _ (at-if2 .before .if1 .left), eq-eqb _ _ (at-if2 .if2 .taken)))
+    _ (said-word (one 0) _ (at-say .say .ensures)) (said-word (one 0) _ (at-say2 .say2 .ensures))
 
 returns-3 : tie.Need-returns-3
 unfolding spell
 returns-3 c =
-    says-more (other (bytes "oh") ∷ []) (one (c .before .before .before .before .before .before .before .before .before .before .before .before .before .before .before .before .before .before .args .b) ∷ []) (year-two (c .before .before .before .before .before .before .before .before .before .before .before .before .before .before .before .before .before .before .args .a) (c .before .before .before .before .before .before .before .before .before .before .before .before .before .before .before .before .before .before .args .b) ∙ rw (eq-eqb _ _ (c .before .before .before .before .before .before .before .before .before .before .before .before .before .before .before .if1 .left), ne-eqb _ _ (c .before .before .before .before .before .before .before .before .before .before .before .before .before .before .if2 .left)))
-    _ (said-word (other (bytes "oh")) _ (rw oh at (c .before .before .before .before .before .before .before .before .before .before .before .say3 .ensures))) (said-word (one (c .before .before .before .before .before .before .before .before .before .before .before .before .before .before .before .before .before .before .args .b)) _ (c .before .before .before .before .say4 .ensures))
+    let at-say4 = c .before .before .before .before in
+    let at-say3 = at-say4 .before .before .before .before .before .before .before in
+    let at-if2 = at-say3 .before .before .before in
+    let start = at-if2 .before .before .before .before in
+    says-more (other (bytes "oh") ∷ []) (one (start .args .b) ∷ [])
+    (year-two (start .args .a) (start .args .b) ∙ rw (eq-eqb _ _ (at-if2 .before .if1 .left), ne-eqb _ _ (at-if2 .if2 .left)))
+    _ (said-word (other (bytes "oh")) _ (rw oh at (at-say3 .say3 .ensures))) (said-word (one (start .args .b)) _ (at-say4 .say4 .ensures))
 
 pub say-two-spec : {M : Type 1} → statement M
 say-two-spec =
@@ -28,7 +37,11 @@ say-two-spec =
     (λ c κs. search needs)
     (λ c. search needs)
     (λ c. search needs)
-    (λ c. rw (year-two (c .before .before .before .before .before .before .before .before .before .before .args .a) (c .before .before .before .before .before .before .before .before .before .before .args .b), ne-eqb _ _ (c .before .before .before .before .before .before .before .if1 .taken)) (c .before .before .before .before .say-pair .ensures))
+    (λ c.
+    let at-say-pair = c .before .before .before .before in
+    let at-if1 = at-say-pair .before .before .before in
+    let start = at-if1 .before .before .before in
+    rw (year-two (start .args .a) (start .args .b), ne-eqb _ _ (at-if1 .if1 .taken)) (at-say-pair .say-pair .ensures))
     (λ c κs. search needs)
     (λ c κs. search needs)
     (λ c. search needs)

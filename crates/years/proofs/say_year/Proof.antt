@@ -13,7 +13,10 @@ use Rattle.years.proofs.say_year.Statement.{statement}
 use Rattle.years.proofs.say_year.Tie as tie
 
 abbrev Inv-loop : tie.InvT-loop
-Inv-loop s store₀ table₀ p₀ i₀ left₀ store table p i left = (i ≤ length s) × (left ≡ length (clean (drop i s))) × (emitAll (spelled (year (drop i s))) (sink store table p) ≡ emitAll (spelled (year s)) (sink store₀ table₀ p₀)) × (length store ≡ length store₀) × (length table ≡ length table₀)
+Inv-loop s store₀ table₀ p₀ i₀ left₀ store table p i left =
+    (i ≤ length s) × (left ≡ length (clean (drop i s)))
+    × (emitAll (spelled (year (drop i s))) (sink store table p) ≡ emitAll (spelled (year s)) (sink store₀ table₀ p₀))
+    × (length store ≡ length store₀) × (length table ≡ length table₀)
 
 abbrev μ-loop : tie.MeasureT-loop
 μ-loop s store₀ table₀ p₀ i₀ left₀ store table p i left = left
@@ -28,25 +31,48 @@ say-year-spec =
     (λ c. (zero-le, c .count-of .ensures ∙ sym (clean-length (c .before .before .before .before .args .s .now)), refl, refl, refl))
     (λ c κs. search needs)
     (λ c κs. search needs)
-    (λ c. omega (arith, c .before .before .before .before .before .before .say-lead .ensures .2, ap length (c .before .before .before .before .before .before .before .before .before .tail .ensures), length-drop (c .before .before .before .before .before .before .before .before .before .before .before .loop .i) (c .before .before .before .before .before .before .before .before .before .before .before .before .before .before .before .before .args .s .now)))
+    (λ c.
+    let at-say-lead = c .before .before .before .before .before .before in
+    let at-tail = at-say-lead .before .before .before in
+    let at-loop = at-tail .before .before in
+    omega (
+      arith,
+      at-say-lead .say-lead .ensures .2,
+      ap length (at-tail .tail .ensures),
+      length-drop (at-loop .loop .i) (at-loop .before .before .before .before .before .args .s .now),
+    ))
     (λ c. search needs)
     (λ c. search needs)
     (λ c. search needs)
     (λ c.
-    let l = c .before .before .before .before .before .before .before .before .before .before .before .loop in
-    let s = c .before .before .before .before .before .before .before .before .before .before .before .before .before .before .before .before .args .s .now in
-    let e = rw (c .before .before .before .before .before .before .before .before .before .tail .ensures) at (c .before .before .before .before .before .before .say-lead .ensures) in
-    (omega (arith, e .2, length-drop (l .i) s), left-after s (l .i) _ _ (l .inv .1) (e .1), turn (λ t. spelled (year t)) s (l .i) _ _ (year-at s (l .i) _ _ (l .inv .1) (e .1) (omega arith)) (sink (l .store) (l .table) (l .p)) (e .0) (l .inv .2), search needs, search needs))
+    let at-say-lead = c .before .before .before .before .before .before in
+    let at-tail = at-say-lead .before .before .before in
+    let at-loop = at-tail .before .before in
+    let l = at-loop .loop in
+    let s = at-loop .before .before .before .before .before .args .s .now in
+    let e = rw (at-tail .tail .ensures) at (at-say-lead .say-lead .ensures) in (
+      omega (arith, e .2, length-drop (l .i) s),
+      left-after s (l .i) _ _ (l .inv .1) (e .1),
+      turn (λ t. spelled (year t)) s (l .i) _ _ (year-at s (l .i) _ _ (l .inv .1) (e .1) (omega arith)) (sink (l .store) (l .table) (l .p))
+          (e .0) (l .inv .2),
+      search needs,
+      search needs,
+    ))
     (λ c κs. search needs)
     (λ c κs. search needs)
     (λ c. search needs)
     (λ c κs. search needs)
     (λ c κs.
-    let l = c .before .before .before .before .before .before .before .before .loop in
-    year-last _ (l .left) (l .inv .1) (omega arith) _ (rw (c .before .before .before .before .before .before .tail2 .ensures) at (c .before .before .before .before .before .find-few .ensures)) (c .before .before .front .ensures) .0)
+    let at-front = c .before .before in
+    let at-find-few = at-front .before .before .before in
+    let l = at-find-few .before .before .before .loop in
+    year-last _ (l .left) (l .inv .1) (omega arith) _ (rw (at-find-few .before .tail2 .ensures) at (at-find-few .find-few .ensures)) (at-front .front .ensures) .0)
     (λ c. search needs)
     (λ c. search needs)
     (λ c.
-    let l = c .before .before .before .before .before .before .before .before .before .before .before .before .before .loop in
-    let q = year-last _ (l .left) (l .inv .1) (omega arith) _ (rw (c .before .before .before .before .before .before .before .before .before .before .before .tail2 .ensures) at (c .before .before .before .before .before .before .before .before .before .before .find-few .ensures)) (c .before .before .before .before .before .before .before .front .ensures) in
-    (rw (q .1) at (c .before .before .before .before .say-last .ensures)) ∙ l .inv .2))
+    let at-say-last = c .before .before .before .before in
+    let at-front = at-say-last .before .before .before in
+    let at-find-few = at-front .before .before .before in
+    let l = at-find-few .before .before .before .loop in
+    let q = year-last _ (l .left) (l .inv .1) (omega arith) _ (rw (at-find-few .before .tail2 .ensures) at (at-find-few .find-few .ensures)) (at-front .front .ensures) in
+    (rw (q .1) at (at-say-last .say-last .ensures)) ∙ l .inv .2))

@@ -5,7 +5,9 @@ use Rattle.clear.proofs.tests.is_exponent_clear.Tie as tie
 
 returns : tie.Need-returns
 unfolding isExponentClear
-returns c = rw (← c .before .before .before .before .starts-with .ensures, c .before .before .before .if1 .taken, c .is-plain .ensures, c .before .strip-sign .ensures, c .before .before .tail .ensures)
+returns c =
+    let at-tail = c .before .before in
+    rw (← at-tail .before .before .starts-with .ensures, at-tail .before .if1 .taken, c .is-plain .ensures, c .before .strip-sign .ensures, at-tail .tail .ensures)
 
 returns-2 : tie.Need-returns-2
 unfolding isExponentClear

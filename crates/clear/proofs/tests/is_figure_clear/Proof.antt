@@ -5,7 +5,9 @@ use Rattle.clear.proofs.tests.is_figure_clear.Tie as tie
 
 returns : tie.Need-returns
 unfolding isFigureClear
-returns c = rw (c .before .before .is-plain .ensures, c .is-fraction-clear .ensures, c .before .before .before .front .ensures, c .before .tail .ensures, c .before .before .before .before .span-of .ensures)
+returns c =
+    let at-is-plain = c .before .before in
+    rw (at-is-plain .is-plain .ensures, c .is-fraction-clear .ensures, at-is-plain .before .front .ensures, c .before .tail .ensures, at-is-plain .before .before .span-of .ensures)
 
 pub is-figure-clear-spec : {M : Type 1} → statement M
 is-figure-clear-spec =

@@ -5,7 +5,16 @@ use Rattle.clear.proofs.tests.is_fraction_clear.Tie as tie
 
 returns : tie.Need-returns
 unfolding isFractionClear
-returns c = rw (← c .before .before .before .before .before .starts-with .ensures, c .before .before .before .before .if1 .taken, ← c .before .before .before .tail .ensures, ← c .before .before .span-of .ensures, c .is-exponent-clear .ensures, c .before .tail2 .ensures)
+returns c =
+    let at-span-of = c .before .before in
+    rw (
+      ← at-span-of .before .before .before .starts-with .ensures,
+      at-span-of .before .before .if1 .taken,
+      ← at-span-of .before .tail .ensures,
+      ← at-span-of .span-of .ensures,
+      c .is-exponent-clear .ensures,
+      c .before .tail2 .ensures,
+    )
 
 returns-2 : tie.Need-returns-2
 unfolding isFractionClear

@@ -13,4 +13,12 @@ is-meridiem-clear-spec =
     (λ c κs. search needs)
     (λ c κs. search needs)
     (λ c κs. search needs)
-    (λ c. rw (c .before .before .before .before .same .ensures, c .before .before .same2 .ensures, c .before .before .before .before .before .before .back .ensures, c .is-plain-time .ensures, c .before .without-back .ensures)))
+    (λ c.
+    let at-same2 = c .before .before in
+    rw (
+      at-same2 .before .before .same .ensures,
+      at-same2 .same2 .ensures,
+      at-same2 .before .before .before .before .back .ensures,
+      c .is-plain-time .ensures,
+      c .before .without-back .ensures,
+    )))

@@ -5,11 +5,22 @@ use Rattle.clear.proofs.tests.is_suffix.Tie as tie
 
 returns : tie.Need-returns
 unfolding suffix
-returns c = rw (← c .before .before .before .before .minus .ensures, ← c .before .before .before .byte-at .ensures, c .before .before .if1 .taken) (c .same .ensures)
+returns c =
+    let at-if1 = c .before .before in
+    rw (← at-if1 .before .before .minus .ensures, ← at-if1 .before .byte-at .ensures, at-if1 .if1 .taken) (c .same .ensures)
 
 returns-2 : tie.Need-returns-2
 unfolding suffix
-returns-2 c = rw (← c .before .before .before .before .before .minus .ensures, ← c .before .before .before .before .byte-at .ensures, c .before .before .before .if1 .left, ← c .before .before .minus2 .ensures, ← c .before .byte-at2 .ensures) (c .is-suffix-for .ensures)
+returns-2 c =
+    let at-if1 = c .before .before .before in
+    rw (
+      ← at-if1 .before .before .minus .ensures,
+      ← at-if1 .before .byte-at .ensures,
+      at-if1 .if1 .left,
+      ← c .before .before .minus2 .ensures,
+      ← c .before .byte-at2 .ensures,
+    )
+    (c .is-suffix-for .ensures)
 
 pub is-suffix-spec : {M : Type 1} → statement M
 is-suffix-spec =

@@ -15,7 +15,11 @@ is-suffix-for-spec =
     (λ c. rw (ne-eqb _ _ (c .before .before .before .if1 .left), eq-eqb _ _ (c .before .before .if2 .taken)) (c .same2 .ensures))
     (λ c. search needs)
     (λ c κs. search needs)
-    (λ c. rw (ne-eqb _ _ (c .before .before .before .before .if1 .left), ne-eqb _ _ (c .before .before .before .if2 .left), eq-eqb _ _ (c .before .before .if3 .taken)) (c .same3 .ensures))
+    (λ c.
+    let at-if3 = c .before .before in
+    rw (ne-eqb _ _ (at-if3 .before .before .if1 .left), ne-eqb _ _ (at-if3 .before .if2 .left), eq-eqb _ _ (at-if3 .if3 .taken)) (c .same3 .ensures))
     (λ c. search needs)
     (λ c κs. search needs)
-    (λ c. rw (ne-eqb _ _ (c .before .before .before .before .if1 .left), ne-eqb _ _ (c .before .before .before .if2 .left), ne-eqb _ _ (c .before .before .if3 .left)) (c .same4 .ensures)))
+    (λ c.
+    let at-if3 = c .before .before in
+    rw (ne-eqb _ _ (at-if3 .before .before .if1 .left), ne-eqb _ _ (at-if3 .before .if2 .left), ne-eqb _ _ (at-if3 .if3 .left)) (c .same4 .ensures)))

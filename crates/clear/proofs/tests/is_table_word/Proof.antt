@@ -24,8 +24,26 @@ is-table-word-spec =
     (λ c. (search needs, refl))
     (λ c κs. search needs)
     (λ c κs. search needs)
-    (λ c. rw (c .before .before .before .before .loop .inv .1, listed-more (c .before .before .before .before .before .before .args .s .now) (c .before .before .before .before .loop .i) (omega arith), ← c .before .before .table-word .ensures, ← c .before .is-word .ensures, c .if1 .taken))
+    (λ c.
+    let at-loop = c .before .before .before .before in
+    rw (
+      at-loop .loop .inv .1,
+      listed-more (at-loop .before .before .args .s .now) (at-loop .loop .i) (omega arith),
+      ← c .before .before .table-word .ensures,
+      ← c .before .is-word .ensures,
+      c .if1 .taken,
+    ))
     (λ c. search needs)
     (λ c. search needs)
-    (λ c. (omega arith, c .before .before .before .before .loop .inv .1 ∙ rw (listed-more (c .before .before .before .before .before .before .args .s .now) (c .before .before .before .before .loop .i) (omega arith), ← c .before .before .table-word .ensures, ← c .before .is-word .ensures, c .if1 .left)))
+    (λ c.
+    let at-loop = c .before .before .before .before in (
+      omega arith,
+      at-loop .loop .inv .1
+          ∙ rw (
+            listed-more (at-loop .before .before .args .s .now) (at-loop .loop .i) (omega arith),
+            ← c .before .before .table-word .ensures,
+            ← c .before .is-word .ensures,
+            c .if1 .left,
+          ),
+    ))
     (λ c. sym (c .before .loop .inv .1 ∙ listed-end (c .before .before .before .args .s .now) (c .before .loop .i) (omega arith))))

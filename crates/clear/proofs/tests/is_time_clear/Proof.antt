@@ -12,4 +12,12 @@ is-time-clear-spec =
     (λ c κs. search needs)
     (λ c. search needs)
     (λ c κs. search needs)
-    (λ c. rw (c .before .before .is-plain-time .ensures, c .same .ensures, c .before .before .before .tail2 .ensures, c .before .before .before .before .tail .ensures, c .before .before .before .before .before .span-of .ensures)))
+    (λ c.
+    let at-is-plain-time = c .before .before in
+    rw (
+      at-is-plain-time .is-plain-time .ensures,
+      c .same .ensures,
+      at-is-plain-time .before .tail2 .ensures,
+      at-is-plain-time .before .before .tail .ensures,
+      at-is-plain-time .before .before .before .span-of .ensures,
+    )))

@@ -12,4 +12,13 @@ is-unit-clear-spec =
     (λ c κs. search needs)
     (λ c κs. search needs)
     (λ c κs. search needs)
-    (λ c. rw (c .before .before .before .is-plain .ensures, c .is-first-row .ensures, c .before .unit-index .ensures, c .before .before .before .before .front .ensures, c .before .before .tail .ensures, c .before .before .before .before .before .after-last .ensures)))
+    (λ c.
+    let at-tail = c .before .before in
+    rw (
+      at-tail .before .is-plain .ensures,
+      c .is-first-row .ensures,
+      c .before .unit-index .ensures,
+      at-tail .before .before .front .ensures,
+      at-tail .tail .ensures,
+      at-tail .before .before .before .after-last .ensures,
+    )))

@@ -26,16 +26,35 @@ find-few-spec =
     (λ c. search needs)
     (λ c. search needs)
     (λ c.
-    let l = c .before .before .before .before .before .loop in
-    record { size = l .inv .2; all = λ h. absurd (omega arith); more = λ h. omega (arith, pick-over (c .before .before .before .before .before .before .args .s .now) (l .d) (l .n) (l .i) (omega arith) (l .inv .3) (c .before .before .if1 .taken) (c .before .if2 .taken) (omega arith)) })
+    let at-if2 = c .before in
+    let at-loop = at-if2 .before .before .before .before in
+    let l = at-loop .loop in
+    record {
+      size = l .inv .2;
+      all = λ h. absurd (omega arith);
+      more = λ h.
+          omega (
+            arith,
+            pick-over (at-loop .before .args .s .now) (l .d) (l .n) (l .i) (omega arith) (l .inv .3) (at-if2 .before .if1 .taken)
+                (at-if2 .if2 .taken) (omega arith),
+          );
+    })
     (λ c. search needs)
     (λ c. search needs)
     (λ c. search needs)
     (λ c. search needs)
     (λ c.
-    let l = c .before .before .before .loop in
-    let s = c .before .before .before .before .args .s .now in
-    ⊎-elim (λ w. rw (w .3, w .4) (omega arith, omega arith, simp length-set (l .inv .2), pick-digit s (l .d) (l .n) (l .i) (omega arith) (l .inv .3) (w .0 .taken) (w .1 .taken) (omega arith)))
+    let at-loop = c .before .before .before in
+    let l = at-loop .loop in
+    let s = at-loop .before .args .s .now in
+    ⊎-elim
+    (λ w.
+    rw (w .3, w .4) (
+      omega arith,
+      omega arith,
+      simp length-set (l .inv .2),
+      pick-digit s (l .d) (l .n) (l .i) (omega arith) (l .inv .3) (w .0 .taken) (w .1 .taken) (omega arith),
+    ))
     (⊎-elim (λ w. rw (w .2, w .3) (omega arith, omega arith, l .inv .2, pick-none s (l .d) (l .n) (l .i) (omega arith) (l .inv .3) (clean-high _ (w .0 .taken) (w .1 .left))))
     (λ w. rw (w .1, w .2) (omega arith, omega arith, l .inv .2, pick-none s (l .d) (l .n) (l .i) (omega arith) (l .inv .3) (clean-low _ (w .0 .left)))))
     (c .if1 .came))

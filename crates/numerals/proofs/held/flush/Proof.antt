@@ -10,7 +10,9 @@ returns c = rw (eq-eqb _ _ (c .before .if1 .taken))
 
 returns-2 : tie.Need-returns-2
 unfolding flushed
-returns-2 c = rw (ne-eqb _ _ (c .before .before .before .before .before .before .before .if1 .left)) (c .before .before .before .before .say .ensures)
+returns-2 c =
+    let at-say = c .before .before .before .before in
+    rw (ne-eqb _ _ (at-say .before .before .before .if1 .left)) (at-say .say .ensures)
 
 pub flush-spec : {M : Type 1} → statement M
 flush-spec = tie.close (tie.spec returns (λ c κs. search needs) (λ c. search needs) (λ c. search needs) returns-2)

@@ -10,7 +10,10 @@ returns c = rw (eq-eqb _ _ (c .if1 .taken))
 
 returns-2 : tie.Need-returns-2
 unfolding holdAll numberOf
-returns-2 c = rw (ne-eqb _ _ (c .before .before .before .before .before .before .before .before .before .before .before .before .before .before .if1 .left), ← c .before .before .before .before .before .before .before .before .before .before .before .hold .ensures) (c .before .before .before .before .hold2 .ensures)
+returns-2 c =
+    let at-hold2 = c .before .before .before .before in
+    let at-hold = at-hold2 .before .before .before .before .before .before .before in
+    rw (ne-eqb _ _ (at-hold .before .before .before .if1 .left), ← at-hold .hold .ensures) (at-hold2 .hold2 .ensures)
 
 pub hold-hundreds-spec : {M : Type 1} → statement M
 hold-hundreds-spec =

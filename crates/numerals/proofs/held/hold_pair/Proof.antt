@@ -7,23 +7,57 @@ use Rattle.numerals.proofs.held.hold_pair.Tie as tie
 
 returns : tie.Need-returns
 unfolding holdAll
-returns c = rw (pair-tests (c .before .before .before .before .args .t) (c .before .before .before .before .args .n), eq-eqb _ _ (c .before .if1 .taken), eq-eqb _ _ (c .if2 .taken))
+returns c =
+    let start = c .before .before .before .before in
+    rw (pair-tests (start .args .t) (start .args .n), eq-eqb _ _ (c .before .if1 .taken), eq-eqb _ _ (c .if2 .taken))
 
 returns-2 : tie.Need-returns-2
 unfolding holdAll numberOf
-returns-2 c = rw (pair-tests (c .before .before .before .before .before .before .before .before .before .before .before .args .t) (c .before .before .before .before .before .before .before .before .before .before .before .args .n), eq-eqb _ _ (c .before .before .before .before .before .before .before .before .if1 .taken), ne-eqb _ _ (c .before .before .before .before .before .before .before .if2 .left)) (c .before .before .before .before .hold .ensures)
+returns-2 c =
+    let at-hold = c .before .before .before .before in
+    let at-if2 = at-hold .before .before .before in
+    let start = at-if2 .before .before .before .before in
+    rw (pair-tests (start .args .t) (start .args .n), eq-eqb _ _ (at-if2 .before .if1 .taken), ne-eqb _ _ (at-if2 .if2 .left)) (at-hold .hold .ensures)
 
 returns-3 : tie.Need-returns-3
 unfolding holdAll numberOf
-returns-3 c = rw (pair-tests (c .before .before .before .before .before .before .before .before .before .before .before .args .t) (c .before .before .before .before .before .before .before .before .before .before .before .args .n), ne-eqb _ _ (c .before .before .before .before .before .before .before .before .if1 .left), eq-eqb _ _ (c .before .before .before .before .before .before .before .if3 .taken)) (c .before .before .before .before .hold2 .ensures)
+returns-3 c =
+    let at-hold2 = c .before .before .before .before in
+    let at-if3 = at-hold2 .before .before .before in
+    let start = at-if3 .before .before .before .before in
+    rw (pair-tests (start .args .t) (start .args .n), ne-eqb _ _ (at-if3 .before .if1 .left), eq-eqb _ _ (at-if3 .if3 .taken)) (at-hold2 .hold2 .ensures)
 
 returns-4 : tie.Need-returns-4
 unfolding holdAll numberOf
-returns-4 c = rw (pair-tests (c .before .before .before .before .before .before .before .before .before .before .before .before .args .t) (c .before .before .before .before .before .before .before .before .before .before .before .before .args .n), ne-eqb _ _ (c .before .before .before .before .before .before .before .before .before .if1 .left), ne-eqb _ _ (c .before .before .before .before .before .before .before .before .if3 .left), eq-eqb _ _ (c .before .before .before .before .before .before .before .if4 .taken)) (c .before .before .before .before .hold3 .ensures)
+returns-4 c =
+    let at-hold3 = c .before .before .before .before in
+    let at-if4 = at-hold3 .before .before .before in
+    let at-if3 = at-if4 .before in
+    let start = at-if3 .before .before .before .before in
+    rw (
+      pair-tests (start .args .t) (start .args .n),
+      ne-eqb _ _ (at-if3 .before .if1 .left),
+      ne-eqb _ _ (at-if3 .if3 .left),
+      eq-eqb _ _ (at-if4 .if4 .taken),
+    )
+    (at-hold3 .hold3 .ensures)
 
 returns-5 : tie.Need-returns-5
 unfolding holdAll numberOf
-returns-5 c = rw (pair-tests (c .before .before .before .before .before .before .before .before .before .before .before .before .before .before .before .before .before .before .before .args .t) (c .before .before .before .before .before .before .before .before .before .before .before .before .before .before .before .before .before .before .before .args .n), ne-eqb _ _ (c .before .before .before .before .before .before .before .before .before .before .before .before .before .before .before .before .if1 .left), ne-eqb _ _ (c .before .before .before .before .before .before .before .before .before .before .before .before .before .before .before .if3 .left), ne-eqb _ _ (c .before .before .before .before .before .before .before .before .before .before .before .before .before .before .if4 .left), ← c .before .before .before .before .before .before .before .before .before .before .before .hold4 .ensures) (c .before .before .before .before .hold5 .ensures)
+returns-5 c =
+    let at-hold5 = c .before .before .before .before in
+    let at-hold4 = at-hold5 .before .before .before .before .before .before .before in
+    let at-if4 = at-hold4 .before .before .before in
+    let at-if3 = at-if4 .before in
+    let start = at-if3 .before .before .before .before in
+    rw (
+      pair-tests (start .args .t) (start .args .n),
+      ne-eqb _ _ (at-if3 .before .if1 .left),
+      ne-eqb _ _ (at-if3 .if3 .left),
+      ne-eqb _ _ (at-if4 .if4 .left),
+      ← at-hold4 .hold4 .ensures,
+    )
+    (at-hold5 .hold5 .ensures)
 
 pub hold-pair-spec : {M : Type 1} → statement M
 hold-pair-spec =

@@ -9,7 +9,9 @@ returns c = rw (c .if1 .taken)
 
 returns-2 : tie.Need-returns-2
 unfolding holdAll numberOf
-returns-2 c = rw (c .before .before .before .before .before .before .before .if1 .left) (c .before .before .before .before .hold .ensures)
+returns-2 c =
+    let at-hold = c .before .before .before .before in
+    rw (at-hold .before .before .before .if1 .left) (at-hold .hold .ensures)
 
 pub hold-scale-spec : {M : Type 1} → statement M
 hold-scale-spec =

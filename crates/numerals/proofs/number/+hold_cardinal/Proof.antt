@@ -67,30 +67,89 @@ pub +hold-cardinal-spec : {M : Type 1} → statement M
     (λ c κs. search needs)
     (λ c. search needs)
     (λ c. search needs)
-    (λ c. hold-1 (c .before .before .before .before .before .before .before .before .before .before .before .before .before .args .ds .now) _ (c .before .before .before .before .before .before .before .before .if2 .taken) (rw (c .before .before .before .before .before .before .before .byte-at .ensures) at (c .before .before .before .before .hold .ensures)))
+    (λ c.
+    let at-hold = c .before .before .before .before in
+    let at-byte-at = at-hold .before .before .before in
+    hold-1 (at-byte-at .before .before .before .before .before .before .args .ds .now) _ (at-byte-at .before .if2 .taken)
+    (rw (at-byte-at .byte-at .ensures) at (at-hold .hold .ensures)))
     (λ c κs. search needs)
     (λ c κs. search needs)
     (λ c κs. search needs)
     (λ c. search needs)
     (λ c. search needs)
-    (λ c. hold-2 (c .before .before .before .before .before .before .before .before .before .before .before .before .before .before .before .args .ds .now) _ (c .before .before .before .before .before .before .before .before .before .if3 .taken) (rw (c .before .before .before .before .before .before .before .before .byte-at2 .ensures, c .before .before .before .before .before .before .before .byte-at3 .ensures) at (c .before .before .before .before .hold-pair .ensures)))
+    (λ c.
+    let at-hold-pair = c .before .before .before .before in
+    let at-byte-at3 = at-hold-pair .before .before .before in
+    let at-if3 = at-byte-at3 .before .before in
+    hold-2 (at-if3 .before .before .before .before .before .before .args .ds .now) _ (at-if3 .if3 .taken)
+    (rw (at-byte-at3 .before .byte-at2 .ensures, at-byte-at3 .byte-at3 .ensures) at (at-hold-pair .hold-pair .ensures)))
     (λ c κs. search needs)
     (λ c κs. search needs)
     (λ c κs. search needs)
-    (λ c κs. rw (c .before .before .tail .ensures) (omega (arith, length-drop 1 (c .before .before .before .before .before .before .before .before .before .before .before .before .before .before .before .before .before .before .args .ds .now), c .before .before .before .before .before .before .before .before .before .before .before .before .before .before .before .before .before .before .pre .0), omega (arith, length-drop 1 (c .before .before .before .before .before .before .before .before .before .before .before .before .before .before .before .before .before .before .args .ds .now))))
+    (λ c κs.
+    let at-tail = c .before .before in
+    let start = at-tail .before .before .before .before .before .before .before .before .before .before .before .before .before .before .before .before in
+    rw (at-tail .tail .ensures) (omega (arith, length-drop 1 (start .args .ds .now), start .pre .0), omega (arith, length-drop 1 (start .args .ds .now))))
     (λ c. search needs)
     (λ c. search needs)
-    (λ c. hold-3 (c .before .before .before .before .before .before .before .before .before .before .before .before .before .before .before .before .before .before .before .before .before .before .before .args .ds .now) _ (c .before .before .before .before .before .before .before .before .before .before .before .before .before .before .before .before .if4 .taken) (rw (c .before .before .before .before .before .before .before .before .before .before .before .before .before .before .before .byte-at4 .ensures) at (c .before .before .before .before .before .before .before .before .before .before .before .before .hold-hundreds .ensures)) (rw (c .before .before .before .before .before .before .before .tail .ensures) at (c .before .before .before .before .hold-cardinal .ensures)))
+    (λ c.
+    let at-hold-cardinal = c .before .before .before .before in
+    let at-tail = at-hold-cardinal .before .before .before in
+    let at-hold-hundreds = at-tail .before .before .before .before .before in
+    let at-byte-at4 = at-hold-hundreds .before .before .before in
+    hold-3 (at-byte-at4 .before .before .before .before .before .before .before .before .args .ds .now) _ (at-byte-at4 .before .if4 .taken)
+    (rw (at-byte-at4 .byte-at4 .ensures) at (at-hold-hundreds .hold-hundreds .ensures))
+    (rw (at-tail .tail .ensures) at (at-hold-cardinal .hold-cardinal .ensures)))
     (λ c κs. search needs)
     (λ c. search needs)
     (λ c. search needs)
-    (λ c. let p = parts-shorter (c .before .before .before .before .before .before .before .before .args .ds .now) (c .scale .result) (over-3 _ (c .before .before .before .before .if1 .left) (c .before .before .before .if2 .left) (c .before .before .if3 .left) (c .before .if4 .left)) (c .scale .ensures .0) in omega (arith, p .0))
+    (λ c.
+    let at-if3 = c .before .before in
+    let at-if1 = at-if3 .before .before in
+    let p =
+    parts-shorter (at-if1 .before .before .before .before .args .ds .now) (c .scale .result)
+    (over-3 _ (at-if1 .if1 .left) (at-if3 .before .if2 .left) (at-if3 .if3 .left) (c .before .if4 .left)) (c .scale .ensures .0) in
+    omega (arith, p .0))
     (λ c κs. search needs)
-    (λ c κs. let p = parts-shorter (c .before .before .before .before .before .before .before .before .before .before .before .args .ds .now) (c .before .before .before .scale .result) (over-3 _ (c .before .before .before .before .before .before .before .if1 .left) (c .before .before .before .before .before .before .if2 .left) (c .before .before .before .before .before .if3 .left) (c .before .before .before .before .if4 .left)) (c .before .before .before .scale .ensures .0) in rw (c .before .before .front .ensures) (omega (arith, p .1, c .before .before .before .before .before .before .before .before .before .before .before .pre .0), omega (arith, p .1, c .before .before .before .before .before .before .before .before .before .before .before .pre .1)))
+    (λ c κs.
+    let at-scale = c .before .before .before in
+    let at-if3 = at-scale .before .before in
+    let at-if1 = at-if3 .before .before in
+    let start = at-if1 .before .before .before .before in
+    let p =
+    parts-shorter (start .args .ds .now) (at-scale .scale .result)
+    (over-3 _ (at-if1 .if1 .left) (at-if3 .before .if2 .left) (at-if3 .if3 .left) (at-scale .before .if4 .left))
+    (at-scale .scale .ensures .0) in
+    rw (c .before .before .front .ensures) (omega (arith, p .1, start .pre .0), omega (arith, p .1, start .pre .1)))
     (λ c κs. search needs)
     (λ c κs. search needs)
     (λ c κs. search needs)
-    (λ c κs. let p = parts-shorter (c .before .before .before .before .before .before .before .before .before .before .before .before .before .before .before .before .before .before .before .before .before .before .before .before .before .before .before .args .ds .now) (c .before .before .before .before .before .before .before .before .before .before .before .before .before .before .before .before .before .before .before .scale .result) (over-3 _ (c .before .before .before .before .before .before .before .before .before .before .before .before .before .before .before .before .before .before .before .before .before .before .before .if1 .left) (c .before .before .before .before .before .before .before .before .before .before .before .before .before .before .before .before .before .before .before .before .before .before .if2 .left) (c .before .before .before .before .before .before .before .before .before .before .before .before .before .before .before .before .before .before .before .before .before .if3 .left) (c .before .before .before .before .before .before .before .before .before .before .before .before .before .before .before .before .before .before .before .before .if4 .left)) (c .before .before .before .before .before .before .before .before .before .before .before .before .before .before .before .before .before .before .before .scale .ensures .0) in rw (c .before .before .tail2 .ensures) (omega (arith, p .2, c .before .before .before .before .before .before .before .before .before .before .before .before .before .before .before .before .before .before .before .before .before .before .before .before .before .before .before .pre .0), omega (arith, p .2, c .before .before .before .before .before .before .before .before .before .before .before .before .before .before .before .before .before .before .before .before .before .before .before .before .before .before .before .pre .1)))
+    (λ c κs.
+    let at-tail2 = c .before .before in
+    let at-scale = at-tail2 .before .before .before .before .before .before .before .before .before .before .before .before .before .before .before .before .before in
+    let at-if3 = at-scale .before .before in
+    let at-if1 = at-if3 .before .before in
+    let start = at-if1 .before .before .before .before in
+    let p =
+    parts-shorter (start .args .ds .now) (at-scale .scale .result)
+    (over-3 _ (at-if1 .if1 .left) (at-if3 .before .if2 .left) (at-if3 .if3 .left) (at-scale .before .if4 .left))
+    (at-scale .scale .ensures .0) in
+    rw (at-tail2 .tail2 .ensures) (omega (arith, p .2, start .pre .0), omega (arith, p .2, start .pre .1)))
     (λ c. search needs)
     (λ c. search needs)
-    (λ c. hold-more (c .before .before .before .before .before .before .before .before .before .before .before .before .before .before .before .before .before .before .before .before .before .before .before .before .before .before .before .before .before .before .before .before .args .ds .now) _ (over-3 _ (c .before .before .before .before .before .before .before .before .before .before .before .before .before .before .before .before .before .before .before .before .before .before .before .before .before .before .before .before .if1 .left) (c .before .before .before .before .before .before .before .before .before .before .before .before .before .before .before .before .before .before .before .before .before .before .before .before .before .before .before .if2 .left) (c .before .before .before .before .before .before .before .before .before .before .before .before .before .before .before .before .before .before .before .before .before .before .before .before .before .before .if3 .left) (c .before .before .before .before .before .before .before .before .before .before .before .before .before .before .before .before .before .before .before .before .before .before .before .before .before .if4 .left)) (c .before .before .before .before .before .before .before .before .before .before .before .before .before .before .before .before .before .before .before .before .before .before .before .before .before .before .before .before .before .before .before .before .pre .1) (c .before .before .before .before .before .before .before .before .before .before .before .before .before .before .before .before .before .before .before .before .before .before .before .before .scale .result) (c .before .before .before .before .before .before .before .before .before .before .before .before .before .before .before .before .before .before .before .before .before .before .before .before .scale .ensures .0) (rw (c .before .before .before .before .before .before .before .before .before .before .before .before .before .before .before .before .before .before .before .before .before .before .before .front .ensures) at (c .before .before .before .before .before .before .before .before .before .before .before .before .before .before .before .before .before .before .before .before .hold-cardinal2 .ensures)) (rw (c .before .before .before .before .before .before .before .before .before .before .before .before .before .before .before .silent .ensures, c .before .before .before .before .before .before .before .before .before .before .before .before .before .before .before .before .before .before .before .before .before .before .before .front .ensures) at (c .before .before .before .before .before .before .before .before .before .before .before .before .hold-scale .ensures)) (rw (c .before .before .before .before .before .before .before .tail2 .ensures) at (c .before .before .before .before .hold-cardinal3 .ensures)))
+    (λ c.
+    let at-hold-cardinal3 = c .before .before .before .before in
+    let at-tail2 = at-hold-cardinal3 .before .before .before in
+    let at-hold-scale = at-tail2 .before .before .before .before .before in
+    let at-silent = at-hold-scale .before .before .before in
+    let at-hold-cardinal2 = at-silent .before .before .before .before .before in
+    let at-front = at-hold-cardinal2 .before .before .before in
+    let at-scale = at-front .before in
+    let at-if3 = at-scale .before .before in
+    let at-if1 = at-if3 .before .before in
+    let start = at-if1 .before .before .before .before in
+    hold-more (start .args .ds .now) _
+    (over-3 _ (at-if1 .if1 .left) (at-if3 .before .if2 .left) (at-if3 .if3 .left) (at-scale .before .if4 .left)) (start .pre .1)
+    (at-scale .scale .result) (at-scale .scale .ensures .0) (rw (at-front .front .ensures) at (at-hold-cardinal2 .hold-cardinal2 .ensures))
+    (rw (at-silent .silent .ensures, at-front .front .ensures) at (at-hold-scale .hold-scale .ensures))
+    (rw (at-tail2 .tail2 .ensures) at (at-hold-cardinal3 .hold-cardinal3 .ensures)))

@@ -5,4 +5,12 @@ use Rattle.numerals.proofs.number.say_few.Tie as tie
 
 pub say-few-spec : {M : Type 1} → statement M
 say-few-spec =
-    tie.close (tie.spec (λ c κs. search needs) (λ c κs. search needs) (λ c. search needs) (λ c. search needs) (λ c. few-said (c .before .before .before .before .before .before .before .before .before .before .before .before .before .before .before .before .before .args .ds .now) _ (c .before .before .before .before .before .before .before .before .before .before .before .hold-cardinal .ensures) (c .before .before .before .before .flush .ensures)))
+    tie.close (tie.spec
+    (λ c κs. search needs)
+    (λ c κs. search needs)
+    (λ c. search needs)
+    (λ c. search needs)
+    (λ c.
+    let at-flush = c .before .before .before .before in
+    let at-hold-cardinal = at-flush .before .before .before .before .before .before .before in
+    few-said (at-hold-cardinal .before .before .before .before .before .before .args .ds .now) _ (at-hold-cardinal .hold-cardinal .ensures) (at-flush .flush .ensures)))

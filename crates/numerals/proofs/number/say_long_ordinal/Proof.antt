@@ -13,7 +13,8 @@ say-long-ordinal-spec =
     tie.close
     (tie.spec
     (λ c κs. search needs)
-    (λ c. let z = last-some (c .before .before .before .before .args .s .now) (omega arith) in let q : (c .after-last .result ≡ 0 → ⊥) = rw (c .after-last .ensures) z in omega arith)
+    (λ c. let z = last-some (c .before .before .before .before .args .s .now) (omega arith) in let q : (c .after-last .result ≡ 0 → ⊥) =
+    rw (c .after-last .ensures) z in omega arith)
     (λ c κs. search needs)
     (λ c κs. search needs)
     (λ c κs. search needs)
@@ -24,4 +25,15 @@ say-long-ordinal-spec =
     (λ c κs. search needs)
     (λ c. search needs)
     (λ c. search needs)
-    (λ c. long-said (c .before .before .before .before .before .before .before .before .before .before .before .before .before .before .before .before .before .before .before .before .before .args .s .now) (take (c .before .before .before .before .before .before .before .before .before .before .before .before .before .before .before .before .before .after-last .result - 1) (c .before .before .before .before .before .before .before .before .before .before .before .before .before .before .before .before .before .before .before .before .before .args .s .now)) (c .before .before .before .before .before .before .before .digit-value .result) _ (c .before .before .before .before .before .before .before .before .before .before .before .before .before .before .before .before .before .before .before .before .before .pre) (rw (c .before .before .before .before .before .before .before .digit-value .ensures, c .before .before .before .before .before .before .before .before .byte-at .ensures, c .before .before .before .before .before .before .before .before .before .before .before .before .before .before .before .before .before .after-last .ensures) (clean-last (c .before .before .before .before .before .before .before .before .before .before .before .before .before .before .before .before .before .before .before .before .before .args .s .now) (last-some (c .before .before .before .before .before .before .before .before .before .before .before .before .before .before .before .before .before .before .before .before .before .args .s .now) (omega (arith, c .before .before .before .before .before .before .before .before .before .before .before .before .before .before .before .before .before .before .before .before .before .pre))))) (rw (c .before .before .before .before .before .before .before .before .before .before .before .before .before .before .before .before .front .ensures) at (c .before .before .before .before .before .before .before .before .before .before .before .before .before .say-digits .ensures)) (c .before .before .before .before .say .ensures)))
+    (λ c.
+    let at-say = c .before .before .before .before in
+    let at-digit-value = at-say .before .before .before in
+    let at-say-digits = at-digit-value .before .before .before .before .before .before in
+    let at-front = at-say-digits .before .before .before in
+    let at-after-last = at-front .before in
+    let start = at-after-last .before .before .before .before in
+    long-said (start .args .s .now) (take (at-after-last .after-last .result - 1) (start .args .s .now))
+    (at-digit-value .digit-value .result) _ (start .pre)
+    (rw (at-digit-value .digit-value .ensures, at-digit-value .before .byte-at .ensures, at-after-last .after-last .ensures)
+    (clean-last (start .args .s .now) (last-some (start .args .s .now) (omega (arith, start .pre)))))
+    (rw (at-front .front .ensures) at (at-say-digits .say-digits .ensures)) (at-say .say .ensures)))

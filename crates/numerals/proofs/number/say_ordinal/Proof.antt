@@ -20,13 +20,30 @@ say-ordinal-spec =
     (λ c. search needs)
     (λ c. search needs)
     (λ c κs. search needs)
-    (λ c κs. rw (c .before .before .front .ensures) (omega (arith, length-take-le (c .before .before .before .before .before .before .before .find-few .result .n) (c .before .before .before .before .before .before .before .find-few .result .d) (omega (arith, c .before .before .before .before .before .before .before .find-few .ensures .size)))))
+    (λ c κs.
+    let at-front = c .before .before in
+    let at-find-few = at-front .before .before .before .before .before in
+    rw (at-front .front .ensures)
+    (omega (
+      arith,
+      length-take-le (at-find-few .find-few .result .n) (at-find-few .find-few .result .d)
+          (omega (arith, at-find-few .find-few .ensures .size)),
+    )))
     (λ c κs. search needs)
     (λ c κs. search needs)
     (λ c. search needs)
     (λ c. search needs)
     (λ c.
-    let f = c .before .before .before .before .before .before .before .before .before .before .before .before .before .before .before .before .before .before .before .before .find-few in
-    let e = f .ensures .all (c .before .before .before .before .before .before .before .before .before .before .before .before .before .before .before .before .before .before .if1 .left) in
-    let n : length (clean (c .before .before .before .before .before .before .before .before .before .before .before .before .before .before .before .before .before .before .before .before .before .before .before .before .args .s .now)) ≤ 12 = omega (arith, ap length e, length-take-le (f .result .n) (f .result .d) (omega (arith, f .ensures .size))) in
-    ordinal-said (c .before .before .before .before .before .before .before .before .before .before .before .before .before .before .before .before .before .before .before .before .before .before .before .before .args .s .now) (take (f .result .n) (f .result .d)) _ e n (rw (c .before .before .before .before .before .before .before .before .before .before .before .before .before .before .before .front .ensures) at (c .before .before .before .before .before .before .before .before .before .before .before .before .hold-cardinal .ensures)) _ (c .before .before .before .before .before .before .before .ordinal-number .ensures) (c .before .before .before .before .say .ensures)))
+    let at-say = c .before .before .before .before in
+    let at-ordinal-number = at-say .before .before .before in
+    let at-hold-cardinal = at-ordinal-number .before .before .before .before .before in
+    let at-front = at-hold-cardinal .before .before .before in
+    let at-if1 = at-front .before .before .before in
+    let at-find-few = at-if1 .before .before in
+    let start = at-find-few .before .before .before .before in
+    let f = at-find-few .find-few in
+    let e = f .ensures .all (at-if1 .if1 .left) in
+    let n : length (clean (start .args .s .now)) ≤ 12 = omega (arith, ap length e, length-take-le (f .result .n) (f .result .d) (omega (arith, f .ensures .size))) in
+    ordinal-said (start .args .s .now) (take (f .result .n) (f .result .d)) _ e n
+    (rw (at-front .front .ensures) at (at-hold-cardinal .hold-cardinal .ensures)) _ (at-ordinal-number .ordinal-number .ensures)
+    (at-say .say .ensures)))

@@ -5,4 +5,8 @@ use Rattle.numerals.proofs.number.scale.Statement.{statement}
 use Rattle.numerals.proofs.number.scale.Tie as tie
 
 pub scale-spec : {M : Type 1} → statement M
-scale-spec = tie.close (tie.spec (λ c. rw (lt-ltb _ _ (c .if1 .taken)) (refl, omega arith)) (λ c. rw (le-ltb _ _ (c .before .if1 .left), lt-ltb _ _ (c .if2 .taken)) (refl, omega arith)) (λ c. rw (le-ltb _ _ (c .before .if1 .left), le-ltb _ _ (c .if2 .left)) (refl, omega arith)))
+scale-spec =
+    tie.close
+    (tie.spec (λ c. rw (lt-ltb _ _ (c .if1 .taken)) (refl, omega arith))
+    (λ c. rw (le-ltb _ _ (c .before .if1 .left), lt-ltb _ _ (c .if2 .taken)) (refl, omega arith))
+    (λ c. rw (le-ltb _ _ (c .before .if1 .left), le-ltb _ _ (c .if2 .left)) (refl, omega arith)))

@@ -13,4 +13,7 @@ say-spec =
     (λ c κs. search needs)
     (λ c. search needs)
     (λ c. search needs)
-    (λ c. rw (c .before .before .before .before .before .unpacked .ensures, c .before .before .before .before .before .before .before .before .before .row .ensures, word-row (c .before .before .before .before .before .before .before .before .before .before .before .before .args .k)) at (c .before .before .before .before .word .ensures)))
+    (λ c.
+    let at-word = c .before .before .before .before in
+    let at-row = at-word .before .before .before .before .before in
+    rw (at-word .before .unpacked .ensures, at-row .row .ensures, word-row (at-row .before .before .before .args .k)) at (at-word .word .ensures)))

@@ -16,7 +16,10 @@ returns-2 c = rw (clean-high _ (c .before .if1 .left) (c .if2 .taken))
 
 returns-3 : tie.Need-returns-3
 unfolding digits spelled emitAll spell
-returns-3 c = rw (clean-digit _ (c .before .before .before .before .before .before .before .before .if1 .left) (c .before .before .before .before .before .before .before .if2 .left)) (c .before .before .before .before .say .ensures)
+returns-3 c =
+    let at-say = c .before .before .before .before in
+    let at-if2 = at-say .before .before .before in
+    rw (clean-digit _ (at-if2 .before .if1 .left) (at-if2 .if2 .left)) (at-say .say .ensures)
 
 pub say-digit-spec : {M : Type 1} → statement M
 say-digit-spec =

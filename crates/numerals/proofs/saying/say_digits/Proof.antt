@@ -13,7 +13,9 @@ use Rattle.numerals.proofs.saying.say_digits.Statement.{statement}
 use Rattle.numerals.proofs.saying.say_digits.Tie as tie
 
 abbrev Inv-loop : tie.InvT-loop
-Inv-loop s store₀ table₀ p₀ i₀ store table p i = (i ≤ length s) × (emitAll (spelled (digits (drop i s))) (sink store table p) ≡ emitAll (spelled (digits s)) (sink store₀ table₀ p₀)) × (length store ≡ length store₀) × (length table ≡ length table₀)
+Inv-loop s store₀ table₀ p₀ i₀ store table p i =
+    (i ≤ length s) × (emitAll (spelled (digits (drop i s))) (sink store table p) ≡ emitAll (spelled (digits s)) (sink store₀ table₀ p₀))
+    × (length store ≡ length store₀) × (length table ≡ length table₀)
 
 abbrev μ-loop : tie.MeasureT-loop
 μ-loop s store₀ table₀ p₀ i₀ store table p i = length s - i
@@ -29,7 +31,19 @@ say-digits-spec =
     (λ c κs. search needs)
     (λ c. search needs)
     (λ c. search needs)
-    (λ c. (omega arith, turn (λ (t : List ℕ). spelled (digits t)) (c .before .before .before .before .before .before .before .before .before .before .before .before .before .args .s .now) (c .before .before .before .before .before .before .before .before .before .loop .i) 1 _ (digits-at (c .before .before .before .before .before .before .before .before .before .before .before .before .before .args .s .now) (c .before .before .before .before .before .before .before .before .before .loop .i) (omega arith)) (sink (c .before .before .before .before .before .before .before .before .before .loop .store) (c .before .before .before .before .before .before .before .before .before .loop .table) (c .before .before .before .before .before .before .before .before .before .loop .p)) (c .before .before .before .before .say-digit .ensures) (c .before .before .before .before .before .before .before .before .before .loop .inv .1), c .before .before .before .before .say-digit .kept .1 .0 ∙ c .before .before .before .before .before .before .before .before .before .loop .inv .2, c .before .before .before .before .say-digit .kept .1 .1 .0 ∙ c .before .before .before .before .before .before .before .before .before .loop .inv .3))
+    (λ c.
+    let at-say-digit = c .before .before .before .before in
+    let at-loop = at-say-digit .before .before .before .before .before in
+    let start = at-loop .before .before .before .before in (
+      omega arith,
+      turn (λ (t : List ℕ). spelled (digits t)) (start .args .s .now) (at-loop .loop .i) 1 _
+          (digits-at (start .args .s .now) (at-loop .loop .i) (omega arith))
+          (sink (at-loop .loop .store) (at-loop .loop .table) (at-loop .loop .p)) (at-say-digit .say-digit .ensures) (at-loop .loop .inv .1),
+      at-say-digit .say-digit .kept .1 .0 ∙ at-loop .loop .inv .2,
+      at-say-digit .say-digit .kept .1 .1 .0 ∙ at-loop .loop .inv .3,
+    ))
     (λ c. search needs)
     (λ c. search needs)
-    (λ c. walked (λ (t : List ℕ). spelled (digits t)) (c .before .before .before .before .before .args .s .now) (c .before .loop .i) no-digits (omega arith) _ (c .before .loop .inv .1)))
+    (λ c.
+    let at-loop = c .before in
+    walked (λ (t : List ℕ). spelled (digits t)) (at-loop .before .before .before .before .args .s .now) (at-loop .loop .i) no-digits (omega arith) _ (at-loop .loop .inv .1)))

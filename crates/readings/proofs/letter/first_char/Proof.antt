@@ -9,4 +9,9 @@ use Rattle.readings.proofs.letter.first_char.Tie as tie
 
 pub first-char-spec : {M : Type 1} → statement M
 first-char-spec =
-    tie.close (tie.spec (λ c κs. search needs) (λ c κs. search needs) (λ c. omega (arith, span-le continuation (c .before .tail .result .now))) (λ c κs. search needs) (λ c. c .front .ensures ∙ first-char (c .before .before .before .before .args .s .now) (c .before .before .tail .ensures) (c .before .span-of .ensures)))
+    tie.close
+    (tie.spec (λ c κs. search needs) (λ c κs. search needs) (λ c. omega (arith, span-le continuation (c .before .tail .result .now)))
+    (λ c κs. search needs)
+    (λ c.
+    c .front .ensures
+    ∙ first-char (c .before .before .before .before .args .s .now) (c .before .before .tail .ensures) (c .before .span-of .ensures)))

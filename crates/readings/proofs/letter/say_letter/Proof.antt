@@ -11,16 +11,25 @@ say-letter-spec =
     (λ c κs. search needs)
     (λ c. search needs)
     (λ c. search needs)
-    (λ c. rw (letter-whole (c .before .before .before .before .before .before .before .before .before .before .before .args .c .now) (c .before .before .before .before .before .before .before .if1 .taken)) (c .before .before .before .before .word .ensures))
+    (λ c.
+    let at-word = c .before .before .before .before in
+    let at-if1 = at-word .before .before .before in
+    rw (letter-whole (at-if1 .before .before .before .before .args .c .now) (at-if1 .if1 .taken)) (at-word .word .ensures))
     (λ c κs. search needs)
     (λ c κs. search needs)
     (λ c. search needs)
     (λ c κs. search needs)
     (λ c. search needs)
     (λ c. search needs)
-    (λ c. rw (letter-a (c .before .before .before .before .before .before .before .before .before .before .before .before .before .before .before .args .c .now) (omega arith) (cc) (c .before .before .before .before .before .before .before .before .if2 .taken)) (c .before .before .before .before .word2 .ensures))
+    (λ c.
+    let at-word2 = c .before .before .before .before in
+    let at-if2 = at-word2 .before .before .before .before in
+    rw (letter-a (at-if2 .before .before .before .before .before .before .before .args .c .now) (omega arith) (cc) (at-if2 .if2 .taken)) (at-word2 .word2 .ensures))
     (λ c. search needs)
     (λ c κs. search needs)
     (λ c. search needs)
     (λ c. search needs)
-    (λ c. rw (letter-other (c .before .before .before .before .before .before .before .before .before .before .before .before .before .before .before .args .c .now) (omega arith) (cc) (c .before .before .before .before .before .before .before .before .if2 .left)) (c .before .before .before .before .word3 .ensures)))
+    (λ c.
+    let at-word3 = c .before .before .before .before in
+    let at-if2 = at-word3 .before .before .before .before in
+    rw (letter-other (at-if2 .before .before .before .before .before .before .before .args .c .now) (omega arith) (cc) (at-if2 .if2 .left)) (at-word3 .word3 .ensures)))

@@ -22,7 +22,9 @@ roman-spec =
     (λ c. search needs)
     (λ c. search needs)
     (λ c κs. search needs)
-    (λ c. foreign (c .before .before .before .before .before .before .args .s .now) (c .before .before .before .before .loop .i) (c .before .value .result) (omega arith) (omega arith) (c .before .value .ensures .0) (c .if1 .taken))
+    (λ c.
+    let at-loop = c .before .before .before .before in
+    foreign (at-loop .before .before .args .s .now) (at-loop .loop .i) (c .before .value .result) (omega arith) (omega arith) (c .before .value .ensures .0) (c .if1 .taken))
     (λ c κs. search needs)
     (λ c. search needs)
     (λ c. search needs)
@@ -30,6 +32,16 @@ roman-spec =
     (λ c κs. search needs)
     (λ c. search needs)
     (λ c. search needs)
-    (λ c. summed-more (c .before .before .before .before .before .before .before .before .args .s .now) (c .before .before .before .before .before .before .loop .i) (c .before .before .before .value .result) (omega arith) (omega arith) (c .before .before .before .value .ensures .0) (c .before .before .before .before .before .before .loop .inv) (c .before .before .if1 .left) (c .before .before .before .value .ensures .1) (c .before .subtracted .ensures) (c .larger .ensures))
-    (λ c. summed-all (c .before .before .before .before .args .s .now) (c .before .before .loop .i) (c .before .before .loop .add) (c .before .before .loop .sub) (c .before .before .loop .most) (c .before .before .loop .inv) (omega arith))
-    (λ c. let z : 0 ≡ c .before .before .loop .add - c .before .before .loop .sub = omega arith in z ∙ summed-all (c .before .before .before .before .args .s .now) (c .before .before .loop .i) (c .before .before .loop .add) (c .before .before .loop .sub) (c .before .before .loop .most) (c .before .before .loop .inv) (omega arith)))
+    (λ c.
+    let at-value = c .before .before .before in
+    let at-loop = at-value .before .before .before in
+    summed-more (at-loop .before .before .args .s .now) (at-loop .loop .i) (at-value .value .result) (omega arith) (omega arith)
+    (at-value .value .ensures .0) (at-loop .loop .inv) (c .before .before .if1 .left) (at-value .value .ensures .1)
+    (c .before .subtracted .ensures) (c .larger .ensures))
+    (λ c.
+    let at-loop = c .before .before in
+    summed-all (at-loop .before .before .args .s .now) (at-loop .loop .i) (at-loop .loop .add) (at-loop .loop .sub) (at-loop .loop .most) (at-loop .loop .inv) (omega arith))
+    (λ c.
+    let at-loop = c .before .before in
+    let z : 0 ≡ at-loop .loop .add - at-loop .loop .sub = omega arith in
+    z ∙ summed-all (at-loop .before .before .args .s .now) (at-loop .loop .i) (at-loop .loop .add) (at-loop .loop .sub) (at-loop .loop .most) (at-loop .loop .inv) (omega arith)))

@@ -13,4 +13,15 @@ kept-spec =
     (λ c κs. search needs)
     (λ c κs. search needs)
     (λ c κs. search needs)
-    (λ c. rw (c .before .before .before .before .before .before .head-of .ensures, c .before .before .before .before .byte-at .ensures, c .before .before .before .before .before .minus .ensures, c .before .before .before .has .ensures, c .before .before .has2 .ensures, c .before .has3 .ensures, c .has4 .ensures)))
+    (λ c.
+    let at-has2 = c .before .before in
+    let at-byte-at = at-has2 .before .before in
+    rw (
+      at-byte-at .before .before .head-of .ensures,
+      at-byte-at .byte-at .ensures,
+      at-byte-at .before .minus .ensures,
+      at-has2 .before .has .ensures,
+      at-has2 .has2 .ensures,
+      c .before .has3 .ensures,
+      c .has4 .ensures,
+    )))

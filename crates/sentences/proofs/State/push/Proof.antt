@@ -8,8 +8,17 @@ push-spec =
     tie.close
     (tie.spec
     (λ c κs. search needs)
-    (λ c. step-refused (c .before .before .before .before .before .args .self) (c .before .before .before .before .before .args .whitespace .now) (c .before .before .before .before .before .args .name .now) (c .before .before .before .before .before .args .punctuation .now) _ (c .before .refusal-of-step .ensures) (c .if1 .taken))
+    (λ c.
+    let start = c .before .before .before .before .before in
+    step-refused (start .args .self) (start .args .whitespace .now) (start .args .name .now) (start .args .punctuation .now) _
+    (c .before .refusal-of-step .ensures) (c .if1 .taken))
     (λ c κs. search needs)
     (λ c κs. search needs)
     (λ c κs. search needs)
-    (λ c. step-done (c .before .before .before .before .before .before .before .before .args .self) (c .before .before .before .before .before .before .before .before .args .whitespace .now) (c .before .before .before .before .before .before .before .before .args .name .now) (c .before .before .before .before .before .before .before .before .args .punctuation .now) _ (c .before .before .before .before .refusal-of-step .ensures) (c .before .before .before .if1 .left) (rw (c .before .before .is-set .ensures, c .before .is-sentence-break .ensures)) (c .kept .ensures)))
+    (λ c.
+    let at-is-set = c .before .before in
+    let at-refusal-of-step = at-is-set .before .before in
+    let start = at-refusal-of-step .before .before .before .before in
+    step-done (start .args .self) (start .args .whitespace .now) (start .args .name .now) (start .args .punctuation .now) _
+    (at-refusal-of-step .refusal-of-step .ensures) (at-is-set .before .if1 .left)
+    (rw (at-is-set .is-set .ensures, c .before .is-sentence-break .ensures)) (c .kept .ensures)))
