@@ -84,7 +84,9 @@ fn read_before(
     place: &mut [usize; 3],
 ) -> Row
     requires { ⌜ isPercent (now name) ≡ false ⌝ }
-    ensures { λ r. ⌜ Says (signed (read (now (name .entry))) signs) (sink (now (store .entry)) (now (table .entry)) (penOf (now (place .entry)))) (sink (now (store .exit)) (now (table .exit)) (penOf (now (place .exit)))) r ⌝ }
+    ensures { λ r. ⌜ Says (signed (read (now (name .entry))) signs)
+        (sink (now (store .entry)) (now (table .entry)) (penOf (now (place .entry))))
+        (sink (now (store .exit)) (now (table .exit)) (penOf (now (place .exit)))) r ⌝ }
 {
     let said = read_leaf(name, store, table, pen_of(place));
     let p = say_per_cents(signs, store, table, said.pen);
@@ -102,7 +104,9 @@ fn read_entry(
     place: &mut [usize; 3],
 ) -> Row
     requires { ⌜ signs + length (now name) ≤ top ⌝ }
-    ensures { λ r. ⌜ Says (signed (read (now (name .entry))) signs) (sink (now (store .entry)) (now (table .entry)) (penOf (now (place .entry)))) (sink (now (store .exit)) (now (table .exit)) (penOf (now (place .exit)))) r ⌝ }
+    ensures { λ r. ⌜ Says (signed (read (now (name .entry))) signs)
+        (sink (now (store .entry)) (now (table .entry)) (penOf (now (place .entry))))
+        (sink (now (store .exit)) (now (table .exit)) (penOf (now (place .exit)))) r ⌝ }
 {
     if is_percent(name) {
         return read_percent(name, signs, store, table, place);
@@ -119,7 +123,9 @@ fn read_percent(
     place: &mut [usize; 3],
 ) -> Row
     requires { ⌜ (signs + length (now name) ≤ top) × (1 ≤ length (now name)) ⌝ }
-    ensures { λ r. ⌜ Says (by Row.Percent (read (take (length (now (name .entry)) - 1) (now (name .entry))) .words ++ perCents (signs + 1))) (sink (now (store .entry)) (now (table .entry)) (penOf (now (place .entry)))) (sink (now (store .exit)) (now (table .exit)) (penOf (now (place .exit)))) r ⌝ }
+    ensures { λ r. ⌜ Says (by Row.Percent (read (take (length (now (name .entry)) - 1) (now (name .entry))) .words ++ perCents (signs + 1)))
+        (sink (now (store .entry)) (now (table .entry)) (penOf (now (place .entry))))
+        (sink (now (store .exit)) (now (table .exit)) (penOf (now (place .exit)))) r ⌝ }
 {
     read_entry(without_back(name, 1), signs + 1, store, table, place);
     Row::Percent

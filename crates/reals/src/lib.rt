@@ -35,7 +35,8 @@ fn say_pointed(s: &[u8], store: &mut [u8], table: &mut [u8], pen: Pen) -> Pen
 
 // Says a leading sign, or the part up to the first "e" and that.
 fn say_part(s: &[u8], store: &mut [u8], table: &mut [u8], pen: Pen) -> Turn
-    ensures { λ r. ⌜ (sink (now (store .exit)) (now (table .exit)) (r .pen) ≡ emitAll (spelled (partWords (now (s .entry)))) (sink (now (store .entry)) (now (table .entry)) pen)) × (r .next ≡ partBytes (now (s .entry))) ⌝ }
+    ensures { λ r. ⌜ (sink (now (store .exit)) (now (table .exit)) (r .pen) ≡ emitAll (spelled (partWords (now (s .entry)))) (sink (now (store .entry)) (now (table .entry)) pen))
+        × (r .next ≡ partBytes (now (s .entry))) ⌝ }
 {
     if starts_with(s, b'-') {
         let pen = say(MINUS, store, table, pen);

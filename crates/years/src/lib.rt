@@ -53,7 +53,9 @@ fn say_pair(a: u8, b: u8, store: &mut [u8], table: &mut [u8], pen: Pen) -> Pen
 
 // Says the first digit of s, or the first two as a pair.
 fn say_lead(lone: bool, s: &[u8], store: &mut [u8], table: &mut [u8], pen: Pen) -> Turn
-    ensures { λ r. ⌜ (sink (now (store .exit)) (now (table .exit)) (r .pen) ≡ emitAll (spelled (leadWords lone (clean (now (s .entry))))) (sink (now (store .entry)) (now (table .entry)) pen)) × (clean (drop (r .next) (now (s .entry))) ≡ drop (leadCount lone) (clean (now (s .entry)))) × (r .next ≤ length (now (s .entry))) ⌝ }
+    ensures { λ r. ⌜ (sink (now (store .exit)) (now (table .exit)) (r .pen) ≡ emitAll (spelled (leadWords lone (clean (now (s .entry))))) (sink (now (store .entry)) (now (table .entry)) pen))
+        × (clean (drop (r .next) (now (s .entry))) ≡ drop (leadCount lone) (clean (now (s .entry))))
+        × (r .next ≤ length (now (s .entry))) ⌝ }
 {
     let a = pick(s);
     if lone {

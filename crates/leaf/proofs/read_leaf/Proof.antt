@@ -121,12 +121,9 @@ read-leaf-spec =
     (λ c κs. search needs)
     (λ c κs. search needs)
     (λ c.
-    omega (
-      arith,
-      c .before .span-of .ensures,
-      span-le (except (code ":"))
-          (c .before .before .before .before .before .before .before .before .before .before .before .before .args .name .now),
-    ))
+    let tests = c .before .before .before .before .before .before in
+    let name = tests .before .before .before .before .before .before .args .name .now in
+    omega (arith, c .before .span-of .ensures, span-le (except (code ":")) name))
     (λ c κs. search needs)
     (λ c κs. search needs)
     (λ c κs. search needs)

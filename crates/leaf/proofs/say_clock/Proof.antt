@@ -13,8 +13,10 @@ use Rattle.rows.specs.Rows.{clock}
 returns : tie.Need-returns
 unfolding clock
 returns c =
-    let at-say-cardinal = c .before .before .before .before .before .before .before in
-    says-more (cardinal (at-say-cardinal .before .before .before .before .before .before .before .args .hour .now)) []
+    let after-say-cardinal = c .before .before .before .before in
+    let at-say-cardinal = after-say-cardinal .before .before .before in
+    let before-say-cardinal = at-say-cardinal .before .before .before .before in
+    says-more (cardinal (before-say-cardinal .before .before .before .args .hour .now)) []
     (rw (sym (c .before .same .ensures) ∙ c .if1 .taken)) _ (at-say-cardinal .say-cardinal .ensures) (unfold spelled emitAll in refl)
 
 returns-2 : tie.Need-returns-2
@@ -22,8 +24,10 @@ unfolding clock
 returns-2 c =
     let at-say-year = c .before .before .before .before in
     let at-if1 = at-say-year .before .before .before in
-    let at-say-cardinal = at-if1 .before .before .before .before .before .before .before in
-    let start = at-say-cardinal .before .before .before .before .before .before .before in
+    let after-say-cardinal = at-if1 .before .before .before .before in
+    let at-say-cardinal = after-say-cardinal .before .before .before in
+    let before-say-cardinal = at-say-cardinal .before .before .before .before in
+    let start = before-say-cardinal .before .before .before in
     says-more (cardinal (start .args .hour .now)) (year (start .args .minute .now))
     (rw (sym (at-if1 .before .same .ensures) ∙ at-if1 .if1 .left)) _ (at-say-cardinal .say-cardinal .ensures)
     (at-say-year .say-year .ensures)

@@ -23,7 +23,8 @@ too-short-spec =
     (λ c κs. search needs)
     (λ c.
     let at-say-by = c .before .before .before in
-    let start = at-say-by .before .before .before .before .before .before .before in
+    let before-say-by = at-say-by .before .before .before .before in
+    let start = before-say-by .before .before .before in
     let m = at-say-by .say-by in
     c .short .ensures
     ∙ measured (spelled (wordsBy (start .args .reader) (start .args .s .now))) (start .args .store) (start .args .table) (start .pre .0)

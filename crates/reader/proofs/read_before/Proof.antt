@@ -20,8 +20,10 @@ read-before-spec =
     (λ c. search needs)
     (λ c.
     let at-say-per-cents = c .before .before .before .before .before .before in
-    let at-read-leaf = at-say-per-cents .before .before .before .before .before .before .before in
-    let start = at-read-leaf .before .before .before .before .before .before .before .before in
+    let after-read-leaf = at-say-per-cents .before .before .before .before in
+    let at-read-leaf = after-read-leaf .before .before .before in
+    let before-read-leaf = at-read-leaf .before .before .before .before in
+    let start = before-read-leaf .before .before .before .before in
     record {
       row = at-read-leaf .read-leaf .ensures .row;
       said =

@@ -22,7 +22,8 @@ read-name-spec =
     (λ c. search needs)
     (λ c. search needs)
     (λ c.
-    let at-read-percent = c .before .before .before .before .before .before .before in
+    let after-read-percent = c .before .before .before .before in
+    let at-read-percent = after-read-percent .before .before .before in
     let at-if1 = at-read-percent .before .before .before .before in
     let at-place-of = at-if1 .before .before in
     let start = at-place-of .before .before .before .before in
@@ -39,7 +40,8 @@ read-name-spec =
     (λ c. search needs)
     (λ c. search needs)
     (λ c.
-    let at-read-before = c .before .before .before .before .before .before .before in
+    let after-read-before = c .before .before .before .before in
+    let at-read-before = after-read-before .before .before .before in
     let at-place-of = at-read-before .before .before .before .before .before .before in
     says-same _ _ (unsigned (read (at-place-of .before .before .before .before .args .name .now))) _
     (rw (c .answer2 .ensures .0, c .answer2 .ensures .1, c .before .pen-of2 .ensures)

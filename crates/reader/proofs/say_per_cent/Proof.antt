@@ -12,8 +12,9 @@ returns : tie.Need-returns
 unfolding spell lexicon
 returns c =
     let at-say2 = c .before .before .before .before in
+    let after-say = at-say2 .before .before .before in
     says-more (other (bytes "per") ∷ []) (other (bytes "cent") ∷ []) refl _
-    (said-word (other (bytes "per")) _ (at-say2 .before .before .before .before .before .before .before .say .ensures))
+    (said-word (other (bytes "per")) _ (after-say .before .before .before .before .say .ensures))
     (said-word (other (bytes "cent")) _ (at-say2 .say2 .ensures))
 
 pub say-per-cent-spec : {M : Type 1} → statement M

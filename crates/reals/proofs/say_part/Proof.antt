@@ -45,7 +45,8 @@ say-part-spec =
     (λ c. search needs)
     (λ c.
     let at-say3 = c .before .before .before .before in
-    let at-say-pointed = at-say3 .before .before .before .before .before .before .before .before in
+    let after-say-pointed = at-say3 .before .before .before .before in
+    let at-say-pointed = after-say-pointed .before .before .before .before in
     let at-front = at-say-pointed .before .before .before in
     let at-if2 = at-front .before .before in
     let at-if1 = at-if2 .before .before in

@@ -28,7 +28,8 @@ say-pointed-spec =
     let at-say-digits = c .before .before .before .before in
     let at-tail = at-say-digits .before .before .before in
     let at-say = at-tail .before .before .before .before .before in
-    let at-say-cardinal2 = at-say .before .before .before .before .before .before .before in
+    let after-say-cardinal2 = at-say .before .before .before .before in
+    let at-say-cardinal2 = after-say-cardinal2 .before .before .before in
     let at-front = at-say-cardinal2 .before .before .before in
     let at-span-of = at-front .before .before in
     pointed-parts (at-span-of .before .before .before .before .args .s .now) _ (at-span-of .span-of .ensures) (omega arith)

@@ -51,7 +51,8 @@ say-four-spec =
     (λ c κs. search needs)
     (λ c κs.
     let at-front = c .before .before in
-    let start = at-front .before .before .before .before .before .before .before .before in
+    let before-front = at-front .before .before .before .before in
+    let start = before-front .before .before .before .before in
     omega (arith, ap length (at-front .front .ensures), length-take-le 2 (start .args .ds .now) (omega (arith, start .pre))))
     (λ c κs. search needs)
     (λ c. search needs)

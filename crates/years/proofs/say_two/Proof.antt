@@ -13,7 +13,8 @@ returns-2 : tie.Need-returns-2
 unfolding spell
 returns-2 c =
     let at-say2 = c .before .before .before .before in
-    let at-say = at-say2 .before .before .before .before .before .before .before in
+    let after-say = at-say2 .before .before .before .before in
+    let at-say = after-say .before .before .before in
     let at-if2 = at-say .before .before .before in
     let start = at-if2 .before .before .before .before in
     says-more (one 0 ∷ []) (one 0 ∷ []) (year-two (start .args .a) (start .args .b) ∙ rw (eq-eqb _ _ (at-if2 .before .if1 .left), eq-eqb _ _ (at-if2 .if2 .taken)))
@@ -23,7 +24,8 @@ returns-3 : tie.Need-returns-3
 unfolding spell
 returns-3 c =
     let at-say4 = c .before .before .before .before in
-    let at-say3 = at-say4 .before .before .before .before .before .before .before in
+    let after-say3 = at-say4 .before .before .before .before in
+    let at-say3 = after-say3 .before .before .before in
     let at-if2 = at-say3 .before .before .before in
     let start = at-if2 .before .before .before .before in
     says-more (other (bytes "oh") ∷ []) (one (start .args .b) ∷ [])

@@ -12,7 +12,8 @@ returns-2 : tie.Need-returns-2
 unfolding holdAll numberOf
 returns-2 c =
     let at-hold2 = c .before .before .before .before in
-    let at-hold = at-hold2 .before .before .before .before .before .before .before in
+    let after-hold = at-hold2 .before .before .before .before in
+    let at-hold = after-hold .before .before .before in
     rw (ne-eqb _ _ (at-hold .before .before .before .if1 .left), ← at-hold .hold .ensures) (at-hold2 .hold2 .ensures)
 
 pub hold-hundreds-spec : {M : Type 1} → statement M

@@ -46,7 +46,8 @@ returns-5 : tie.Need-returns-5
 unfolding holdAll numberOf
 returns-5 c =
     let at-hold5 = c .before .before .before .before in
-    let at-hold4 = at-hold5 .before .before .before .before .before .before .before in
+    let after-hold4 = at-hold5 .before .before .before .before in
+    let at-hold4 = after-hold4 .before .before .before in
     let at-if4 = at-hold4 .before .before .before in
     let at-if3 = at-if4 .before in
     let start = at-if3 .before .before .before .before in

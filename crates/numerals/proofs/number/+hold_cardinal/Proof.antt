@@ -88,7 +88,10 @@ pub +hold-cardinal-spec : {M : Type 1} → statement M
     (λ c κs. search needs)
     (λ c κs.
     let at-tail = c .before .before in
-    let start = at-tail .before .before .before .before .before .before .before .before .before .before .before .before .before .before .before .before in
+    let hundreds = at-tail .before .before .before .before .before in
+    let first = hundreds .before .before .before in
+    let tests = first .before .before .before .before in
+    let start = tests .before .before .before .before in
     rw (at-tail .tail .ensures) (omega (arith, length-drop 1 (start .args .ds .now), start .pre .0), omega (arith, length-drop 1 (start .args .ds .now))))
     (λ c. search needs)
     (λ c. search needs)
@@ -97,7 +100,8 @@ pub +hold-cardinal-spec : {M : Type 1} → statement M
     let at-tail = at-hold-cardinal .before .before .before in
     let at-hold-hundreds = at-tail .before .before .before .before .before in
     let at-byte-at4 = at-hold-hundreds .before .before .before in
-    hold-3 (at-byte-at4 .before .before .before .before .before .before .before .before .args .ds .now) _ (at-byte-at4 .before .if4 .taken)
+    let tests = at-byte-at4 .before .before .before .before in
+    hold-3 (tests .before .before .before .before .args .ds .now) _ (at-byte-at4 .before .if4 .taken)
     (rw (at-byte-at4 .byte-at4 .ensures) at (at-hold-hundreds .hold-hundreds .ensures))
     (rw (at-tail .tail .ensures) at (at-hold-cardinal .hold-cardinal .ensures)))
     (λ c κs. search needs)
@@ -126,7 +130,9 @@ pub +hold-cardinal-spec : {M : Type 1} → statement M
     (λ c κs. search needs)
     (λ c κs.
     let at-tail2 = c .before .before in
-    let at-scale = at-tail2 .before .before .before .before .before .before .before .before .before .before .before .before .before .before .before .before .before in
+    let past-scale = at-tail2 .before .before .before .before .before .before in
+    let after-scale = past-scale .before .before .before .before .before .before in
+    let at-scale = after-scale .before .before .before .before .before in
     let at-if3 = at-scale .before .before in
     let at-if1 = at-if3 .before .before in
     let start = at-if1 .before .before .before .before in

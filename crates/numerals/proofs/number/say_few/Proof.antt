@@ -12,5 +12,6 @@ say-few-spec =
     (λ c. search needs)
     (λ c.
     let at-flush = c .before .before .before .before in
-    let at-hold-cardinal = at-flush .before .before .before .before .before .before .before in
+    let after-hold-cardinal = at-flush .before .before .before .before in
+    let at-hold-cardinal = after-hold-cardinal .before .before .before in
     few-said (at-hold-cardinal .before .before .before .before .before .before .args .ds .now) _ (at-hold-cardinal .hold-cardinal .ensures) (at-flush .flush .ensures)))

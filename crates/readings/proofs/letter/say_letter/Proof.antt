@@ -24,7 +24,9 @@ say-letter-spec =
     (λ c.
     let at-word2 = c .before .before .before .before in
     let at-if2 = at-word2 .before .before .before .before in
-    rw (letter-a (at-if2 .before .before .before .before .before .before .before .args .c .now) (omega arith) (cc) (at-if2 .if2 .taken)) (at-word2 .word2 .ensures))
+    let lowered = at-if2 .before .before .before in
+    let s = lowered .before .before .before .before .args .c .now in
+    rw (letter-a s (omega arith) (cc) (at-if2 .if2 .taken)) (at-word2 .word2 .ensures))
     (λ c. search needs)
     (λ c κs. search needs)
     (λ c. search needs)
@@ -32,4 +34,6 @@ say-letter-spec =
     (λ c.
     let at-word3 = c .before .before .before .before in
     let at-if2 = at-word3 .before .before .before .before in
-    rw (letter-other (at-if2 .before .before .before .before .before .before .before .args .c .now) (omega arith) (cc) (at-if2 .if2 .left)) (at-word3 .word3 .ensures)))
+    let lowered = at-if2 .before .before .before in
+    let s = lowered .before .before .before .before .args .c .now in
+    rw (letter-other s (omega arith) (cc) (at-if2 .if2 .left)) (at-word3 .word3 .ensures)))

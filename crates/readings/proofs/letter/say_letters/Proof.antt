@@ -50,7 +50,8 @@ say-letters-spec =
     (λ c κs. search needs)
     (λ c κs. search needs)
     (λ c.
-    let at-first-char = c .before .before .before .before .before .before .before in
+    let after-first-char = c .before .before .before .before in
+    let at-first-char = after-first-char .before .before .before in
     let at-loop = at-first-char .before .before .before in
     omega (
       arith,
@@ -58,7 +59,8 @@ say-letters-spec =
           (at-first-char .before .tail .ensures) (at-first-char .first-char .ensures),
     ))
     (λ c.
-    let at-first-char = c .before .before .before .before .before .before .before in
+    let after-first-char = c .before .before .before .before in
+    let at-first-char = after-first-char .before .before .before in
     let at-loop = at-first-char .before .before .before in
     omega (
       arith,
