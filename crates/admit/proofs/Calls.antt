@@ -6,6 +6,7 @@ use Prim.Native.Nat.{ℕ, zero, suc, _≤_}
 use native.Mathlib.Omega.{arith}
 use lib.ListN.{length}
 use borrow.Author.Tests.{ltb-false, le-ltb, not-false}
+use Rattle.lists.specs.Bytes.{any, Every}
 use Rattle.admit.specs.Utf8.{utf8}
 use Rattle.admit.specs.Refusals.{number, Test, _when_, firstDue, textTests, textRefusal, call}
 use Rattle.admit.specs.declared.Refusal.{Refusal}
@@ -62,12 +63,12 @@ both-passed a b h = go (firstDue a) (sym (first-append a b) ∙ h)
     go zero h = (refl, h)
     go (suc n) h = absurd (omega arith)
 
--- none of these holds
-abbrev pub NoneOf : List Test → Type 0
-NoneOf [] = Unit
-NoneOf (r when holds ∷ tests) = (holds ≡ false) × NoneOf tests
+-- the test does not hold
+abbrev pub Fails : Test → Type 0
+Fails (r when holds) = holds ≡ false
 
-pub none-due : (tests : List Test) → firstDue tests ≡ 0 → NoneOf tests
+-- where no refusal is due, no test holds
+pub none-due : (tests : List Test) → firstDue tests ≡ 0 → Every Fails tests
 none-due [] h = tt
 none-due (r when true ∷ tests) h = absurd (omega (arith, h, numbered r 1 ∙ ap (λ (n : ℕ). orElse n 1) h))
 none-due (r when false ∷ tests) h = (refl, none-due tests h)
@@ -80,11 +81,11 @@ pub record Fit (limit : ℕ) (s : List ℕ) : Type 0 where
   pub good : utf8 s ≡ true
 
 pub text-fit : (limit : ℕ) (s : List ℕ) → textRefusal limit s ≡ 0 → Fit limit s
-unfolding textTests
+unfolding textTests any
 text-fit limit s h =
     let k = none-due (textTests limit (s ∷ [])) h in
     record { short = ltb-false _ _ (sym (or-false _) ∙ k .0); good = not-false _ (sym (or-false _) ∙ k .1 .0) }
 
 pub text-accepted : (limit : ℕ) (s : List ℕ) → Fit limit s → textRefusal limit s ≡ 0
-unfolding textTests
+unfolding textTests any
 text-accepted limit s h = rw (le-ltb limit (length s) (h .short), h .good)

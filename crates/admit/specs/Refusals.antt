@@ -1,9 +1,10 @@
 -- Document 01, "Calls held back": the refusals, their numbers, the tests of a call, and what a refused call answers. Definitions only.
-use mathlib.Core.Bool.{Bool, false, cond, not, _||_}
+use mathlib.Core.Bool.{Bool, cond, not}
 use mathlib.Core.List.{List, [], _∷_}
 use Prim.Native.Nat.{ℕ, zero, suc}
 use lib.Dec.{ltb}
 use lib.ListN.{length}
+use Rattle.lists.specs.Bytes.{any}
 use Rattle.admit.specs.Utf8.{utf8}
 use Rattle.admit.specs.declared.Refusal.{Refusal}
 use Rattle.admit.specs.declared.Refusal.the-variants.{TextTooLong, NotUtf8, NoSuchEntry, NameTooLong, BufferTooShort}
@@ -36,11 +37,6 @@ firstDue (refusal when holds ∷ tests) = cond holds (number refusal) (firstDue 
 
 -- ---- the tests that every call makes first
 
--- whether a text of these is p
-abbrev pub some : (List ℕ → Bool) → List (List ℕ) → Bool
-some p [] = false
-some p (s ∷ ss) = p s || some p ss
-
 -- "a text has more than 65,536 bytes", or than the limit of its call
 abbrev pub textLimit : ℕ
 textLimit = 65536
@@ -55,8 +51,8 @@ isBroken s = not (utf8 s)
 -- the tests of the texts that a call is given, one or several
 unfoldable pub textTests : ℕ → List (List ℕ) → List Test
 textTests limit texts =
-    TextTooLong when some (isTooLong limit) texts
-    ∷ NotUtf8 when some isBroken texts
+    TextTooLong when any (isTooLong limit) texts
+    ∷ NotUtf8 when any isBroken texts
     ∷ []
 
 -- the number that is due where a call is given one text, and is tested for nothing else

@@ -12,7 +12,7 @@ ghost use lib.ListN.{length, take};
 ghost use Rattle.lists.specs.Bytes.{all};
 ghost use Rattle.lists.specs.Classes.{ascii};
 ghost use Rattle.admit.specs.Utf8.{utf8Tail, lead2, lead3, lead4, charBytes, charLen, utf8, Passed};
-ghost use Rattle.admit.specs.Refusals.{answerNumber, textLimit, textRefusal};
+ghost use Rattle.admit.specs.Refusals.{number, answerNumber, textLimit, textRefusal};
 
 // The most bytes of a text.
 pub const TEXT_LIMIT: usize = 65536;
@@ -37,6 +37,21 @@ pub enum Refusal {
     BufferTooShort,
 }
 
+impl Refusal {
+    // Its number.
+    pub fn number(self) -> u8
+        ensures { λ r. ⌜ r ≡ number self ⌝ }
+    {
+        match self {
+            Refusal::TextTooLong => 1,
+            Refusal::NotUtf8 => 2,
+            Refusal::NoSuchEntry => 3,
+            Refusal::NameTooLong => 4,
+            Refusal::BufferTooShort => 5,
+        }
+    }
+}
+
 // How a call ends.
 pub enum Answer {
     Accepted,
@@ -50,13 +65,7 @@ impl Answer {
     {
         match self {
             Answer::Accepted => 0,
-            Answer::Refused(r) => match r {
-                Refusal::TextTooLong => 1,
-                Refusal::NotUtf8 => 2,
-                Refusal::NoSuchEntry => 3,
-                Refusal::NameTooLong => 4,
-                Refusal::BufferTooShort => 5,
-            },
+            Answer::Refused(why) => why.number(),
         }
     }
 }

@@ -1,10 +1,10 @@
 -- What the two calls answer. Assumes nothing.
-use mathlib.Core.Path.{_≡_, refl}
+use mathlib.Core.Path.{_≡_, refl, sym, ap, _∙_}
 use mathlib.Core.Bool.{Bool, true, false}
 use mathlib.Core.List.{List, [], _∷_}
-use Prim.Native.Nat.{ℕ, _≤_, _<_}
+use Prim.Native.Nat.{ℕ, _-_, _≤_, _<_}
 use lib.Dec.{leb, ltb}
-use lib.ListN.{length}
+use lib.ListN.{length, take, drop}
 use borrow.Author.Tests.{ltb-true, ltb-false, le-ltb, lt-ltb, le-leb, lt-leb}
 use Rattle.admit.specs.Refusals.{Test, _when_, textLimit, textTests, textRefusal}
 use Rattle.admit.specs.declared.Refusal.the-variants.{NoSuchEntry, NameTooLong, BufferTooShort}
@@ -18,6 +18,8 @@ use Rattle.rows.specs.declared.Row.{Row}
 use Rattle.sheets.specs.Sheet.{SheetEntry, entries, lineOf, callSheet}
 use Rattle.sheets.specs.Calls.{nameLimit, isLong, anyLong, sheetCall, entryAt, lineAt, entryCall}
 use Rattle.sheets.proofs.Entries.{line-at}
+use Rattle.entries.specs.Find.{named, FoundAt}
+use Rattle.entries.specs.declared.Found.{Found}
 use Rattle.calls.specs.Answers.{asSheet, asEntry}
 use Rattle.calls.specs.Walk.{refusedSheet, refusedEntry, lineTo, linesTo, nameCall}
 use Rattle.calls.specs.declared.CalledSheet.{CalledSheet}
@@ -91,12 +93,17 @@ module _ (s old : List ℕ) {n : ℕ} (due : n ≡ textRefusal textLimit s) wher
     unfolding entryCall
     entry-refused z q = rw q (held text here due _ _ z)
 
-    pub entry-none : n ≡ 0 → ltb k (length (tokens s)) ≡ false → {r : CalledEntry} → r ≡ refusedEntry 3 → asEntry r old ≡ entryCall s k old
-    unfolding entryCall
-    entry-none z f q = rw (q, passed text here due z, le-leb (length (tokens s)) k (ltb-false _ _ f))
+    -- r is where the code has found it, if it has
+    module _ (z : n ≡ 0) {r : Found} (f : FoundAt s k r) where
+      -- there is no such entry
+      pub entry-none : r .found ≡ false → {a : CalledEntry} → a ≡ refusedEntry 3 → asEntry a old ≡ entryCall s k old
+      unfolding entryCall
+      entry-none t q = rw (q, passed text here due z, le-leb (length (tokens s)) k (ltb-false _ _ (sym (f .there) ∙ t)))
 
-    pub entry-there : n ≡ 0 → ltb k (length (tokens s)) ≡ true → nameCall (entryAt s k) old ≡ entryCall s k old
-    unfolding entryCall nameCall
-    entry-there z t =
-        let h : k < length (tokens s) = ltb-true _ _ t in
-        rw (passed text here due z, lt-leb (length (tokens s)) k h, line-at s k h)
+      -- its call is that of the name which was found
+      pub entry-there : r .found ≡ true → {m : List ℕ} → m ≡ take (r .end - r .name) (drop (r .name) s) → nameCall (named (r .starts) m) old ≡ entryCall s k old
+      unfolding entryCall nameCall
+      entry-there t q =
+          let h : k < length (tokens s) = ltb-true _ _ (sym (f .there) ∙ t) in
+          ap (λ (e : SheetEntry). nameCall e old) (ap (named (r .starts)) q ∙ f .entry t)
+          ∙ rw (passed text here due z, lt-leb (length (tokens s)) k h, line-at s k h)

@@ -1,5 +1,3 @@
 pub mod Lines
 pub mod Room
-pub mod Turns
-pub mod Runs
 pub mod Answers

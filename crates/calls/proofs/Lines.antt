@@ -2,7 +2,7 @@
 use mathlib.Core.Path.{_≡_, refl, sym, ap, _∙_}
 use mathlib.Core.Bool.{Bool, true, false}
 use mathlib.Core.Logic.{⊎-elim}
-use mathlib.Core.List.{List, [], _∷_, _++_, map}
+use mathlib.Core.List.{List, [], _∷_, _++_, map, flatten}
 use Prim.Native.Nat.{ℕ, _+_, _≤_, _<_, min}
 use Prim.Native.Char.{code}
 use native.Mathlib.Omega.{arith}
@@ -13,7 +13,7 @@ use borrow.Author.Tests.{ltb-false, le-ltb, lt-ltb}
 use Rattle.lists.specs.Bytes.{bytes, over}
 use Rattle.lists.proofs.Sets.{sets-append, sets-front, le-or-lt}
 use Rattle.sink.specs.Sink.{top, Sink, sink, putByte, emit, emitAll}
-use Rattle.sink.specs.Words.{storeOf, spacedPen}
+use Rattle.sink.specs.Words.{spacedPen}
 use Rattle.sink.specs.declared.Pen.{Pen}
 use Rattle.sink.proofs.Finish.{storeBy, emitAll-at, emitAll-words, emitAll-is}
 use Rattle.sheets.specs.Sheet.{SheetEntry, wordsOf, mark, spaced, lineOf, countWords}
@@ -83,7 +83,8 @@ wrote-words ws {s} l =
     }
 
 -- the line in the code's steps
-pub line-said : (e : SheetEntry) {b : ℕ} (σ ρ ς : Sink) {τ : Sink} → b ≡ mark (e .starts) → ρ ≡ putByte b σ → ς ≡ emitAll (wordsOf e) ρ → τ ≡ putByte (code "\n") ς → τ ≡ lineTo e σ
+pub line-said : (e : SheetEntry) {b : ℕ} (σ ρ ς : Sink) {τ : Sink} → b ≡ mark (e .starts) → ρ ≡ putByte b σ → ς ≡ emitAll (wordsOf e) ρ
+    → τ ≡ putByte (code "\n") ς → τ ≡ lineTo e σ
 unfolding lineTo
 line-said e σ ρ ς m a w n = rw (n, w, a, m)
 
@@ -94,11 +95,21 @@ wrote-line e s l =
     let b = wrote-words (wordsOf e) (a .line) in
     wrote-both a (wrote-both b (wrote-byte (code "\n") (b .line)) refl) (omega arith)
 
-pub wrote-lines : (es : List SheetEntry) → Writes (storeOf (map lineOf es)) (countWords es) (linesTo es)
-unfolding storeOf countWords linesTo
+pub wrote-lines : (es : List SheetEntry) → Writes (flatten (map lineOf es)) (countWords es) (linesTo es)
+unfolding flatten countWords linesTo
 wrote-lines [] s l =
     record { line = l; at = let h = l .at in omega arith; words = let h = l .words in omega arith; store = λ h h′. refl }
 wrote-lines (e ∷ es) s l = let a = wrote-line e s l in wrote-both a (wrote-lines es (lineTo e s) (a .line)) refl
+
+-- the lines of what is left, after the next one
+pub lines-on : (σ : Sink) {es fs : List SheetEntry} {x : SheetEntry} {τ z : Sink} → es ≡ x ∷ fs → τ ≡ lineTo x σ → linesTo es σ ≡ z → linesTo fs τ ≡ z
+unfolding linesTo
+lines-on σ {fs = fs} e t h = ap (linesTo fs) t ∙ ap (λ (xs : List SheetEntry). linesTo xs σ) (sym e) ∙ h
+
+-- nothing is left
+pub lines-done : (σ : Sink) {es : List SheetEntry} {z : Sink} → es ≡ [] → linesTo es σ ≡ z → σ ≡ z
+unfolding linesTo
+lines-done σ e h = ap (λ (xs : List SheetEntry). linesTo xs σ) (sym e) ∙ h
 
 -- every word takes a byte, the space before it
 spaced-words : (ws : List (List ℕ)) → length ws ≤ length (spaced ws)
@@ -110,10 +121,10 @@ pub line-words : (e : SheetEntry) → length (wordsOf e) ≤ length (lineOf e)
 unfolding lineOf
 line-words e = omega (arith, spaced-words (wordsOf e), length-append (spaced (wordsOf e)) (bytes "\n"))
 
-pub lines-words : (es : List SheetEntry) → countWords es ≤ length (storeOf (map lineOf es))
-unfolding storeOf countWords
+pub lines-words : (es : List SheetEntry) → countWords es ≤ length (flatten (map lineOf es))
+unfolding flatten countWords
 lines-words [] = omega arith
-lines-words (e ∷ es) = omega (arith, line-words e, lines-words es, length-append (lineOf e) (storeOf (map lineOf es)))
+lines-words (e ∷ es) = omega (arith, line-words e, lines-words es, length-append (lineOf e) (flatten (map lineOf es)))
 
 -- from the start of a buffer on; every word takes a byte at least
 module _ {b : List ℕ} {n : ℕ} {f : Sink → Sink} (w : Writes b n f) (few : n ≤ length b) (x y x₀ y₀ : List ℕ) {p p₀ : Pen}

@@ -2,7 +2,7 @@
 use mathlib.Core.Path.{_≡_, sym, ap, _∙_}
 use mathlib.Core.Bool.{Bool, true, false, and-eq-true-iff}
 use mathlib.Core.Logic.{⊎-elim}
-use mathlib.Core.List.{List, [], _∷_, _++_, map}
+use mathlib.Core.List.{List, [], _∷_, _++_, map, flatten}
 use Prim.Native.Nat.{ℕ, _+_, _-_, _*_, _/_, _≤_, _<_}
 use Prim.Native.Char.{code}
 use native.Mathlib.Nat.{add-zero}
@@ -21,7 +21,6 @@ use Rattle.units.specs.Units.{unitAbbreviations, abbreviations, unitWords, befo
 use Rattle.units.proofs.Laws.{word-row, miss-word}
 use Rattle.shapes.specs.Shapes.{isDottedAbbrev, isCommaInt, isTime, isLeadingZeroDigits, isDigits, isDouble, isOrdinal, splitOnce, unitAt, hasUnit, unitPart}
 use Rattle.shapes.specs.Times.{endsInMeridiem, isMeridiemTime, timeParts, timeOf, separatorAt}
-use Rattle.sink.specs.Words.{storeOf}
 use Rattle.tokens.specs.Tokens.{Token, afterWhite, afterRun, firstToken, tokens, parts as fourParts}
 use Rattle.tokens.proofs.Forward.{tokens-none, tokens-more, tokens-induct, first-joined, size-parts}
 use Rattle.tokens.proofs.Walks.{first-white, tokens-past}
@@ -38,7 +37,7 @@ use Rattle.rows.specs.Rows.{Reading, by, perCent, clock, hourOf, minuteOf, cloc
 use Rattle.rows.specs.declared.Row.the-variants.{NoRow}
 use Rattle.rows.proofs.Laws.{ends-some, shorter}
 use Rattle.sheets.specs.Sheet.{SheetEntry, entriesOf, wordsOf, spaced, lineOf, callSheet}
-use Rattle.calls.specs.Walk.{named}
+use Rattle.entries.specs.Find.{named}
 
 spaced-width : (ws : List Word) → length (spaced (spelled ws)) ≡ width ws
 unfolding spaced spelled
@@ -88,11 +87,13 @@ meridiem-room s e =
     let c = clock-room (take n t) (drop (n + 1) t) (length t) (omega (arith, length-take n t, length-drop (n + 1) t)) in
     rw e (omega (arith, together (clock (take n t) (drop (n + 1) t)) (letters m), letters-room m, length-take (length s - 2) s, length-drop (length s - 2) s))
 
-read-room : (s : List ℕ) → RoomFor (length s) (read s .words)
+-- where the word of row 12 is no longer than its name
+read-room : (word : List ℕ → List ℕ) → ((s : List ℕ) → length (word s) ≤ length s) → (s : List ℕ) → RoomFor (length s) (readWith word s .words)
 unfolding readWith readStep spell
-read-room = recur-induct (λ s g. RoomFor (length s) (g .words)) (by NoRow []) (readStep (map lower)) step
+read-room word short = recur-induct (λ s g. RoomFor (length s) (g .words)) (by NoRow []) (readStep word) step
   where
-    step : (f : List ℕ → Reading) (s : List ℕ) → ((t : List ℕ) → length t < length s → RoomFor (length t) (f t .words)) → RoomFor (length s) (readStep (map lower) f s .words)
+    step : (f : List ℕ → Reading) (s : List ℕ) → ((t : List ℕ) → length t < length s → RoomFor (length t) (f t .words))
+        → RoomFor (length s) (readStep word f s .words)
     step f s h =
         let P : Reading → Type 0 = λ g. RoomFor (length s) (g .words) in
         cond-elim P (eqb (length s) 0) (λ e. omega arith) (λ e.
@@ -108,11 +109,13 @@ read-room = recur-induct (λ s g. RoomFor (length s) (g .words)) (by NoRow []) (
         let before = take (length s - 1) s in
         let l = shorter s (ends-some (code "%") s e) in
         omega (arith, together (f before .words) perCent, h before l)) (λ e.
-        cond-elim P (hasUnit s) (unit-room s) (λ e. omega (arith, length-map s lower))))))))))))
+        cond-elim P (hasUnit s) (unit-room s) (λ e. omega (arith, short s))))))))))))
 
 pub line-fits : (e : SheetEntry) → length (lineOf e) ≤ 11 * (length (e .name) + 1)
 unfolding lineOf
-line-fits e = omega (arith, read-room (e .name), spaced-width (read (e .name) .words), length-append (spaced (wordsOf e)) (bytes "\n"))
+line-fits e =
+    let r = read-room (map lower) (λ s. omega (arith, length-map s lower)) (e .name) in
+    omega (arith, spaced-width (read (e .name) .words), length-append (spaced (wordsOf e)) (bytes "\n"))
 
 -- ---- the names of a text
 
@@ -143,18 +146,18 @@ names-room =
     ⊎-elim (λ (h : length r ≤ 0). omega (arith, ap nameRoom (tokens-past r 0 h))) (λ (h : 0 < length r). i .1 (white-after s h))
     (le-or-lt (length r) 0) in
     let m = size-parts t in
-    let j = length-append (storeOf (fourParts t)) r in
+    let j = length-append (flatten (fourParts t)) r in
     let l = ap length (first-joined s) in
     let w = first-white s in
     rw (tokens-more s e) (omega arith, λ h. omega arith))
 
-lines-room : (bs : List Bool) (ts : List Token) → length (storeOf (map lineOf (entriesOf bs ts))) ≤ 11 * nameRoom ts
-unfolding entriesOf storeOf nameRoom
+lines-room : (bs : List Bool) (ts : List Token) → length (flatten (map lineOf (entriesOf bs ts))) ≤ 11 * nameRoom ts
+unfolding entriesOf flatten nameRoom
 lines-room [] ts = omega arith
 lines-room (b ∷ bs) [] = omega arith
 lines-room (b ∷ bs) (t ∷ ts) =
     let e = named b (t .name) in
-    omega (arith, line-fits e, lines-room bs ts, length-append (lineOf e) (storeOf (map lineOf (entriesOf bs ts))))
+    omega (arith, line-fits e, lines-room bs ts, length-append (lineOf e) (flatten (map lineOf (entriesOf bs ts))))
 
 pub sheet-room : (s : List ℕ) → length (callSheet s) ≤ 11 * (length s + 1)
 sheet-room s = omega (arith, lines-room (starts (tokens s)) (tokens s), names-room s .0)

@@ -1,24 +1,21 @@
 -- What the callers of entries pass on to each other. Definitions only; no public promise is made of them.
 use mathlib.Core.Path.{_≡_}
-use mathlib.Core.Bool.{Bool, true}
 use mathlib.Core.List.{List, [], _∷_}
-use Prim.Native.Nat.{ℕ, _-_}
+use Prim.Native.Nat.{ℕ}
 use Prim.Native.Char.{code}
 use lib.Dec.{ltb}
-use lib.ListN.{length, take, drop}
+use lib.ListN.{length}
 use Rattle.lists.specs.Bytes.{over}
 use Rattle.admit.specs.Refusals.{_when_, firstDue, Call, call}
 use Rattle.admit.specs.declared.Refusal.the-variants.{NameTooLong, BufferTooShort}
 use Rattle.sink.specs.Sink.{Sink, putByte, emitAll}
-use Rattle.tokens.specs.Tokens.{tokens}
 use Rattle.rows.specs.Rows.{rowNumber, rowSign, read}
 use Rattle.rows.specs.declared.Row.{Row}
 use Rattle.rows.specs.declared.Row.the-variants.{NoRow}
 use Rattle.sheets.specs.Sheet.{SheetEntry, wordsOf, mark, lineOf}
-use Rattle.sheets.specs.Calls.{isLong, entryAt, EntryGiven}
+use Rattle.sheets.specs.Calls.{isLong, EntryGiven}
 use Rattle.calls.specs.declared.CalledSheet.{CalledSheet}
 use Rattle.calls.specs.declared.CalledEntry.{CalledEntry}
-use Rattle.calls.specs.declared.Found.{Found}
 
 -- what a refused call answers
 abbrev pub refusedSheet : ℕ → CalledSheet
@@ -39,14 +36,6 @@ linesTo (e ∷ es) s = linesTo es (lineTo e s)
 pub record Lined (e : SheetEntry) (σ τ : Sink) (r : Row) : Type 0 where
   pub row : r ≡ read (e .name) .row
   pub written : τ ≡ lineTo e σ
-
-abbrev pub named : Bool → List ℕ → SheetEntry
-named b n = record { starts = b; name = n }
-
--- where entry k of s was found
-pub record FoundAt (s : List ℕ) (k : ℕ) (r : Found) : Type 0 where
-  pub there : r .found ≡ ltb k (length (tokens s))
-  pub entry : r .found ≡ true → named (r .starts) (take (r .end - r .name) (drop (r .name) s)) ≡ entryAt s k
 
 -- the call of an entry that is there, in a sheet that is accepted
 unfoldable pub nameCall : SheetEntry → List ℕ → Call EntryGiven

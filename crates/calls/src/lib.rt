@@ -1,11 +1,10 @@
 // The call sheet: one entry's line, and the lines of a whole sheet.
-use admit::Answer;
 use admit::Refusal;
 use admit::refusal_of;
+use entries::NAME_BYTES;
+use entries::find_entry;
+use entries::has_long_name;
 use leaf::Said;
-use lists::WHITESPACE;
-use lists::after_last;
-use lists::minus;
 use lists::part;
 use reader::read_name;
 use rows::Entry;
@@ -16,24 +15,17 @@ use sink::Pen;
 use sink::byte;
 use tokens::token_at;
 ghost use mathlib.Core.Path.{_≡_};
-ghost use mathlib.Core.Bool.{false};
 ghost use Prim.Native.Nat.{_<_};
 ghost use lib.Dec.{ltb};
 ghost use lib.ListN.{length};
-ghost use Rattle.admit.specs.Refusals.{number};
 ghost use Rattle.sink.specs.Sink.{top, sink};
 ghost use Rattle.sink.specs.Words.{spacedPen};
 ghost use Rattle.tokens.specs.Tokens.{tokens};
 ghost use Rattle.sheets.specs.Sheet.{entries, mark, lineOf, callSheet};
-ghost use Rattle.sheets.specs.Calls.{anyLong, sheetCall, entryCall};
+ghost use Rattle.sheets.specs.Calls.{sheetCall, entryCall};
+ghost use Rattle.entries.specs.Find.{named};
 ghost use Rattle.calls.specs.Answers.{asSheet, asEntry};
-ghost use Rattle.calls.specs.Walk.{refusedSheet, refusedEntry, linesTo, Lined, named, FoundAt, nameCall};
-
-// The longest name that is called.
-const NAME_BYTES: usize = 4096;
-
-// The shortest run in which a name may be longer.
-const RUN_BYTES: usize = NAME_BYTES + 1;
+ghost use Rattle.calls.specs.Walk.{refusedSheet, refusedEntry, linesTo, Lined, nameCall};
 
 // The most bytes of a call sheet, for each byte of the sheet and one more.
 const GROWTH: usize = 11;
@@ -53,14 +45,6 @@ pub struct CalledEntry {
     pub entry: Entry,
     pub words: usize,
     pub bytes: usize,
-}
-
-// Where an entry was found, if it was: whether it starts a sentence, and its name's place in the sheet.
-struct Found {
-    found: bool,
-    starts: bool,
-    name: usize,
-    end: usize,
 }
 
 // A walk over all entries: how many there are, and the pen after their lines.
@@ -91,7 +75,8 @@ fn say_line(starts: bool, name: &[u8], out: &mut [u8], table: &mut [u8], pen: Pe
 
 // Writes the lines of all entries.
 fn say_sheet(s: &[u8], out: &mut [u8], table: &mut [u8]) -> Walked
-    ensures { λ r. ⌜ (r .tokens ≡ length (tokens (now (s .entry)))) × (sink (now (out .exit)) (now (table .exit)) (r .pen) ≡ linesTo (entries (now (s .entry))) (sink (now (out .entry)) (now (table .entry)) spacedPen)) ⌝ }
+    ensures { λ r. ⌜ (r .tokens ≡ length (tokens (now (s .entry))))
+        × (sink (now (out .exit)) (now (table .exit)) (r .pen) ≡ linesTo (entries (now (s .entry))) (sink (now (out .entry)) (now (table .entry)) spacedPen)) ⌝ }
 {
     let mut state = State::fresh();
     let mut pen = Pen::spaced();
@@ -99,7 +84,7 @@ fn say_sheet(s: &[u8], out: &mut [u8], table: &mut [u8]) -> Walked
     let mut at = 0;
     while at < s.len() {
         let t = token_at(s, at);
-        if t.prepunctuation == s.len() {
+        if t.none_left(s.len()) {
             return Walked { tokens, pen };
         }
         let name = part(s, t.name, t.punctuation);
@@ -111,43 +96,6 @@ fn say_sheet(s: &[u8], out: &mut [u8], table: &mut [u8]) -> Walked
         at = t.end;
     }
     Walked { tokens, pen }
-}
-
-// Whether more bytes than a name may have stand together without whitespace. From each place the last whitespace is looked for
-// that would end such a run, so few bytes are read.
-fn has_long_run(s: &[u8]) -> bool
-    ensures { λ r. ⌜ (r ≡ false → anyLong (entries (now (s .entry))) ≡ false) ⌝ }
-{
-    let mut at = 0;
-    while NAME_BYTES < s.len() - at {
-        let ahead = after_last(WHITESPACE, 0, part(s, at, at + RUN_BYTES));
-        if ahead == 0 {
-            return true;
-        }
-        at += ahead;
-    }
-    false
-}
-
-// Whether a name is longer than is called.
-fn has_long_name(s: &[u8]) -> bool
-    ensures { λ r. ⌜ r ≡ anyLong (entries (now (s .entry))) ⌝ }
-{
-    if !has_long_run(s) {
-        return false;
-    }
-    let mut at = 0;
-    while at < s.len() {
-        let places = token_at(s, at);
-        if places.prepunctuation == s.len() {
-            return false;
-        }
-        if NAME_BYTES < minus(places.punctuation, places.name) {
-            return true;
-        }
-        at = places.end;
-    }
-    false
 }
 
 // Whether a buffer of so many bytes is smaller than the call sheet. Where it may be, the lines are measured.
@@ -162,13 +110,6 @@ fn is_sheet_short(s: &[u8], room: usize) -> bool
     let mut no_table = [0u8; 0];
     let lines = say_sheet(s, &mut no_out, &mut no_table);
     room < lines.pen.at
-}
-
-fn number_of(why: Refusal) -> u8
-    ensures { λ r. ⌜ r ≡ number why ⌝ }
-{
-    let answer = Answer::Refused(why);
-    answer.number()
 }
 
 fn sheet_refused(refusal: u8) -> CalledSheet
@@ -191,10 +132,10 @@ pub fn call_sheet(s: &[u8], out: &mut [u8]) -> CalledSheet
         return sheet_refused(due);
     }
     if has_long_name(s) {
-        return sheet_refused(number_of(Refusal::NameTooLong));
+        return sheet_refused(Refusal::NameTooLong.number());
     }
     if is_sheet_short(s, out.len()) {
-        return sheet_refused(number_of(Refusal::BufferTooShort));
+        return sheet_refused(Refusal::BufferTooShort.number());
     }
     let mut no_table = [0u8; 0];
     let written = say_sheet(s, out, &mut no_table);
@@ -217,45 +158,6 @@ fn entry_refused(refusal: u8) -> CalledEntry
     }
 }
 
-fn nowhere() -> Found
-    ensures { λ r. ⌜ r .found ≡ false ⌝ }
-{
-    Found {
-        found: false,
-        starts: false,
-        name: 0,
-        end: 0,
-    }
-}
-
-// Finds entry number k.
-fn find_entry(s: &[u8], k: usize) -> Found
-    ensures { λ r. ⌜ FoundAt (now (s .entry)) k r ⌝ }
-{
-    let mut state = State::fresh();
-    let mut n = 0;
-    let mut at = 0;
-    while at < s.len() {
-        let token = token_at(s, at);
-        if token.prepunctuation == s.len() {
-            return nowhere();
-        }
-        let name = part(s, token.name, token.punctuation);
-        if n == k {
-            return Found {
-                found: true,
-                starts: starts_sentence(state, part(s, at, token.prepunctuation), name),
-                name: token.name,
-                end: token.punctuation,
-            };
-        }
-        state = State::kept(name, part(s, token.punctuation, token.end));
-        n += 1;
-        at = token.end;
-    }
-    nowhere()
-}
-
 // Whether a buffer of so many bytes is smaller than an entry's line. Where it may be, the line is measured.
 fn is_line_short(starts: bool, name: &[u8], room: usize) -> bool
     requires { ⌜ room < top ⌝ }
@@ -275,10 +177,10 @@ fn call_name(starts: bool, name: &[u8], out: &mut [u8]) -> CalledEntry
     ensures { λ r. ⌜ asEntry r (now (out .exit)) ≡ nameCall (named starts (now (name .entry))) (now (out .entry)) ⌝ }
 {
     if NAME_BYTES < name.len() {
-        return entry_refused(number_of(Refusal::NameTooLong));
+        return entry_refused(Refusal::NameTooLong.number());
     }
     if is_line_short(starts, name, out.len()) {
-        return entry_refused(number_of(Refusal::BufferTooShort));
+        return entry_refused(Refusal::BufferTooShort.number());
     }
     let mut no_table = [0u8; 0];
     let called = say_line(starts, name, out, &mut no_table, Pen::spaced());
@@ -301,7 +203,7 @@ pub fn call_entry(s: &[u8], k: usize, out: &mut [u8]) -> CalledEntry
     }
     let found = find_entry(s, k);
     if !found.found {
-        return entry_refused(number_of(Refusal::NoSuchEntry));
+        return entry_refused(Refusal::NoSuchEntry.number());
     }
     call_name(found.starts, part(s, found.name, found.end), out)
 }

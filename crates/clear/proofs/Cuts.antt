@@ -1,47 +1,29 @@
 -- Where a name is cut: at its front, at its end, and past the bytes of a class. Assumes nothing.
-use mathlib.Core.Path.{_≡_, refl, sym, ap, _∙_}
-use mathlib.Core.Bool.{Bool, true, false, not, _&&_, _||_, true≢false, false≢true}
-use mathlib.Core.List.{List, [], _∷_, _++_}
-use mathlib.Core.Logic.{_⊎_, inl, inr}
+use mathlib.Core.Path.{_≡_, refl, sym, _∙_}
+use mathlib.Core.Bool.{Bool, true, false, false≢true, and-eq-true-iff}
+use mathlib.Core.List.{List, [], _∷_, _++_, append-nil}
 use Prim.Native.Nat.{ℕ, suc, _-_}
 use native.Mathlib.Nat.{add-zero}
 use native.Mathlib.Omega.{arith}
-use lib.Dec.{T, eqb}
 use lib.ListN.{length, take, drop, getD, length-append}
 use lib.Seq.{take-at, drop-at, getD-at, split-at, drop-length}
-use borrow.Author.Tests.{eqb-true, eq-eqb, ne-eqb, not-true}
+use borrow.Author.Tests.{eqb-true, eq-eqb, ne-eqb}
 use Rattle.lists.specs.Bytes.{all, span, sameBy, same, starts, ends, lead, after}
 use Rattle.lists.specs.Classes.{digit}
-use Rattle.lists.proofs.Scan.{span-append}
-use Rattle.lists.proofs.Table.{same→≡}
+use Rattle.lists.proofs.Scan.{span-append, apart, starts-first}
+use Rattle.lists.proofs.Table.{same-true}
 use Rattle.shapes.specs.Shapes.{isDigits}
+use Rattle.shapes.proofs.Laws.{digits-all}
 
 -- ---- tests
 
-pub ands : (a b : Bool) → (a && b) ≡ true → (a ≡ true) × (b ≡ true)
-ands true b h = (refl, h)
-ands false b h = absurd (false≢true h)
-
-pub ors : (a b : Bool) → (a || b) ≡ true → (a ≡ true) ⊎ (b ≡ true)
-ors true b h = inl refl
-ors false b h = inr h
-
-true-T : (b : Bool) → b ≡ true → T b
-true-T true h = tt
-true-T false h = absurd (false≢true h)
-
-pub T-true : (b : Bool) → T b → b ≡ true
-T-true true h = refl
-T-true false h = absurd h
-
-pub same-true : (s t : List ℕ) → same s t ≡ true → s ≡ t
-same-true s t h = same→≡ s t (true-T (same s t) h)
-
+-- a text is the same as itself
 pub same-self : (s : List ℕ) → same s s ≡ true
 unfolding sameBy
 same-self [] = refl
 same-self (b ∷ s) = rw (eq-eqb b b refl, same-self s)
 
+-- texts that differ fail the test
 pub same-false : (s t : List ℕ) → (s ≡ t → ⊥) → same s t ≡ false
 same-false s t n = go (same s t) refl
   where
@@ -51,9 +33,7 @@ same-false s t n = go (same s t) refl
 
 -- ---- at the front
 
-pub starts-first : (c b : ℕ) (s : List ℕ) → starts c (b ∷ s) ≡ eqb b c
-starts-first c b s = rw (ne-eqb (suc (length s)) 0 (omega arith))
-
+-- a text that starts with c is c and the rest
 pub starts-cons : (c : ℕ) (s : List ℕ) → starts c s ≡ true → c ∷ drop 1 s ≡ s
 starts-cons c [] h = absurd (false≢true h)
 starts-cons c (b ∷ s) h = let e : b ≡ c = eqb-true b c (sym (starts-first c b s) ∙ h) in rw e
@@ -61,12 +41,15 @@ starts-cons c (b ∷ s) h = let e : b ≡ c = eqb-true b c (sym (starts-first c 
 -- ---- at the end
 
 module _ (s t : List ℕ) (n : ℕ) (e : length t ≡ n) where
+  -- what stands before the last n bytes
   pub cut-front : take (length (s ++ t) - n) (s ++ t) ≡ s
   cut-front = take-at s t (length (s ++ t) - n) (omega (arith, length-append s t))
 
+  -- and those bytes
   pub cut-back : drop (length (s ++ t) - n) (s ++ t) ≡ t
   cut-back = drop-at s t (length (s ++ t) - n) (omega (arith, length-append s t))
 
+-- a text that ends in c is the rest and c
 pub ends-snoc : (c : ℕ) (s : List ℕ) → ends c s ≡ true → take (length s - 1) s ++ (c ∷ []) ≡ s
 ends-snoc c [] h = absurd (false≢true h)
 ends-snoc c (b ∷ s) h =
@@ -74,6 +57,7 @@ ends-snoc c (b ∷ s) h =
     let l : getD (b ∷ s) (length s) 0 ≡ c = eqb-true _ _ (rw (ne-eqb (suc (length s)) 0 (omega arith), e) at h) in
     rw e (sym (rw (l, drop-length s) at (split-at (b ∷ s) (length s) 0 (omega arith))))
 
+-- and the other way round
 pub snoc-ends : (c : ℕ) (s : List ℕ) → ends c (s ++ (c ∷ [])) ≡ true
 snoc-ends c s =
     let n = length-append s (c ∷ []) in
@@ -82,27 +66,26 @@ snoc-ends c s =
 -- ---- past the bytes of a class
 
 module _ (p : ℕ → Bool) (s t : List ℕ) (h : all p s ≡ true) (z : span p t ≡ 0) where
+  -- the scan stops where the second text begins
   pub span-seam : span p (s ++ t) ≡ length s
   span-seam = span-append p s t ∙ rw (h, z) (add-zero (length s))
 
+  -- what it passed is the first text
   pub lead-seam : lead p (s ++ t) ≡ s
   lead-seam = take-at s t _ (sym span-seam)
 
+  -- what is left is the second
   pub after-seam : after p (s ++ t) ≡ t
   after-seam = drop-at s t _ (sym span-seam)
 
 -- ---- digits
 
-pub digits-all : (s : List ℕ) → isDigits s ≡ true → all digit s ≡ true
-unfolding isDigits
-digits-all s h = ands (not (eqb (length s) 0)) (all digit s) h .1
-
-pub digits-some : (s : List ℕ) → isDigits s ≡ true → eqb (length s) 0 ≡ false
-unfolding isDigits
-digits-some s h = not-true _ (ands (not (eqb (length s) 0)) (all digit s) h .0)
-
 -- a byte that is no digit is not the first of digits
 pub starts-digits : (c : ℕ) (s t : List ℕ) → digit c ≡ false → isDigits s ≡ true → starts c (s ++ t) ≡ false
 unfolding isDigits all
 starts-digits c [] t n h = absurd (false≢true h)
-starts-digits c (b ∷ s) t n h = starts-first c b (s ++ t) ∙ ne-eqb b c (λ e. true≢false (sym (ands (digit b) (all digit s) (digits-all (b ∷ s) h) .0) ∙ ap digit e ∙ n))
+starts-digits c (b ∷ s) t n h = starts-first c b (s ++ t) ∙ apart digit c b n (and-eq-true-iff (digit b) (all digit s) .0 (digits-all (b ∷ s) h) .0)
+
+-- also where nothing follows them
+pub digits-alone : (c : ℕ) (s : List ℕ) → digit c ≡ false → isDigits s ≡ true → starts c s ≡ false
+digits-alone c s n h = rw (append-nil s) at (starts-digits c s [] n h)

@@ -1,8 +1,7 @@
 -- The first two kinds, and either of them with one %. Assumes nothing.
 use mathlib.Core.Path.{_≡_, refl, ap, _∙_}
-use mathlib.Core.Bool.{Bool, true, false, cond, not, _&&_, _||_, or-true}
-use mathlib.Core.List.{List, [], _∷_, _++_, append-nil}
-use mathlib.Core.Logic.{⊎-elim}
+use mathlib.Core.Bool.{Bool, true, false, cond, not, _&&_, _||_, or-true, and-eq-true-iff}
+use mathlib.Core.List.{List, [], _∷_, _++_}
 use Prim.Native.Nat.{ℕ, suc, _-_}
 use Prim.Native.Char.{code}
 use native.Mathlib.Omega.{arith}
@@ -12,14 +11,17 @@ use lib.Seq.{length-take-le}
 use borrow.Author.Tests.{eqb-true, not-true}
 use Rattle.lists.specs.Bytes.{bytes, span, starts, ends, stripPrefix, lead, after}
 use Rattle.lists.specs.Classes.{digit}
-use Rattle.lists.proofs.Scan.{span-all, span-le}
+use Rattle.lists.proofs.Scan.{span-all, span-le, starts-first}
+use Rattle.lists.proofs.Bools.{or-true-elim}
 use Rattle.shapes.specs.Shapes.{isDigits, isLeadingZeroDigits, stripSign}
+use Rattle.shapes.proofs.Laws.{digits-all, digits-filled}
 use Rattle.clear.specs.Clear.{plain, Minus, no-minus, a-minus, Fraction, no-point, a-point, ExponentSign, no-sign, plus-sign, minus-sign, Exponent, no-exponent, an-exponent, Number, is-digits, is-figure, Clear, is-percent}
 use Rattle.clear.specs.Test.{isExponentClear, isFractionClear, isFigureClear, isNumberClear, isPercentClear}
-use Rattle.clear.proofs.Cuts.{ands, ors, starts-first, starts-cons, cut-front, ends-snoc, snoc-ends, lead-seam, after-seam, span-seam, digits-all, digits-some, starts-digits}
+use Rattle.clear.proofs.Cuts.{starts-cons, cut-front, ends-snoc, snoc-ends, lead-seam, after-seam, span-seam, starts-digits, digits-alone}
 
+-- plain digits are digits
 pub plain-digits : (s : List ℕ) → plain s ≡ true → isDigits s ≡ true
-plain-digits s h = ands (isDigits s) (not (isLeadingZeroDigits s)) h .0
+plain-digits s h = and-eq-true-iff (isDigits s) (not (isLeadingZeroDigits s)) .0 h .0
 
 -- ---- exponents
 
@@ -43,11 +45,9 @@ test-exponent s h = go (starts (code "e") s) refl h
     go true e h = rw (starts-cons (code "e") s e) at (signed (drop 1 s) h)
     go false e h = rw (empty s h) at no-exponent
 
-strip-sign : (g x : List ℕ) → ExponentSign g → isDigits x ≡ true → stripSign (g ++ x) ≡ x
-strip-sign g x no-sign h = rw (none (code "+") refl, none (code "-") refl)
-  where
-    none : (c : ℕ) → digit c ≡ false → starts c x ≡ false
-    none c n = rw append-nil at (starts-digits c x [] n h)
+-- the digits of an exponent, after its sign or without one
+pub strip-sign : (g x : List ℕ) → ExponentSign g → isDigits x ≡ true → stripSign (g ++ x) ≡ x
+strip-sign g x no-sign h = rw (digits-alone (code "+") x refl h, digits-alone (code "-") x refl h)
 strip-sign g x plus-sign h = rw (starts-first (code "+") (code "+") x)
 strip-sign g x minus-sign h = rw (starts-first (code "+") (code "-") x, starts-first (code "-") (code "-") x)
 
@@ -57,7 +57,7 @@ exponent-test s no-exponent = refl
 exponent-test s (an-exponent g x r h) = rw (starts-first (code "e") (code "e") (g ++ x), strip-sign g x r (plain-digits x h)) h
 
 -- no digit stands at the front of an exponent
-exponent-front : (s : List ℕ) → Exponent s → span digit s ≡ 0
+pub exponent-front : (s : List ℕ) → Exponent s → span digit s ≡ 0
 unfolding span
 exponent-front s no-exponent = refl
 exponent-front s (an-exponent g x r h) = refl
@@ -85,7 +85,7 @@ test-fraction s h = go (starts (code ".") s) refl h
 
     go : (t : Bool) → starts (code ".") s ≡ t → cond t (not (eqb (span digit d) 0) && isExponentClear (after digit d)) (isExponentClear s) ≡ true → Tail s
     go true e h =
-        let p = ands (not (eqb (span digit d) 0)) (isExponentClear (after digit d)) h in
+        let p = and-eq-true-iff (not (eqb (span digit d) 0)) (isExponentClear (after digit d)) .0 h in
         record {
           f = code "." ∷ lead digit d;
           x = after digit d;
@@ -95,7 +95,8 @@ test-fraction s h = go (starts (code ".") s) refl h
         }
     go false e h = record { f = []; x = s; point = no-point; exponent = test-exponent s h; whole = refl }
 
-exponent-point : (x : List ℕ) → Exponent x → starts (code ".") x ≡ false
+-- nor does a point
+pub exponent-point : (x : List ℕ) → Exponent x → starts (code ".") x ≡ false
 exponent-point x no-exponent = refl
 exponent-point x (an-exponent g y r h) = starts-first (code ".") (code "e") (g ++ y)
 
@@ -105,7 +106,7 @@ fraction-test f x no-point e = rw (exponent-point x e) (exponent-test x e)
 fraction-test f x (a-point d h) e =
     let z = exponent-front x e in
     let a = digits-all d h in
-    rw (starts-first (code ".") (code ".") (d ++ x), after-seam digit d x a z, span-seam digit d x a z, digits-some d h) (exponent-test x e)
+    rw (starts-first (code ".") (code ".") (d ++ x), after-seam digit d x a z, span-seam digit d x a z, digits-filled d h) (exponent-test x e)
 
 fraction-front : (f x : List ℕ) → Fraction f → Exponent x → span digit (f ++ x) ≡ 0
 unfolding span
@@ -117,12 +118,13 @@ fraction-front f x (a-point d h) e = refl
 figure : (m s : List ℕ) → Minus m → isFigureClear s ≡ true → Number (m ++ s)
 unfolding isFigureClear
 figure m s r h =
-    let p = ands (plain (lead digit s)) (isFractionClear (after digit s)) h in
+    let p = and-eq-true-iff (plain (lead digit s)) (isFractionClear (after digit s)) .0 h in
     let t = test-fraction (after digit s) (p .1) in
     rw (t .whole, take-append-drop) at (is-figure m (lead digit s) (t .f) (t .x) r (p .0) (t .point) (t .exponent))
 
+-- a name that passes the test is a number
 pub test-number : (s : List ℕ) → isNumberClear s ≡ true → Number s
-test-number s h = ⊎-elim (is-digits s) (λ k. go (starts (code "-") s) refl k) (ors (isDigits s) (isFigureClear (stripPrefix (code "-") s)) h)
+test-number s = or-true-elim (isDigits s) (isFigureClear (stripPrefix (code "-") s)) (is-digits s) (go (starts (code "-") s) refl)
   where
     go : (t : Bool) → starts (code "-") s ≡ t → isFigureClear (cond t (drop 1 s) s) ≡ true → Number s
     go true e k = rw (starts-cons (code "-") s e) at (figure (bytes "-") (drop 1 s) a-minus k)
@@ -132,6 +134,7 @@ strip-minus : (m a t : List ℕ) → Minus m → isDigits a ≡ true → stripPr
 strip-minus m a t no-minus h = rw (starts-digits (code "-") a t refl h)
 strip-minus m a t a-minus h = rw (starts-first (code "-") (code "-") (a ++ t))
 
+-- a number passes the test
 pub number-test : (s : List ℕ) → Number s → isNumberClear s ≡ true
 unfolding isFigureClear
 number-test s (is-digits t h) = rw h
@@ -149,10 +152,12 @@ number-test s (is-figure m a f x r h p e) =
 
 -- ---- with one %
 
+-- a name that passes the test is clear
 pub test-percent : (s : List ℕ) → isPercentClear s ≡ true → Clear s
 test-percent s h =
-    let p = ands (ends (code "%") s) (isNumberClear (take (length s - 1) s)) h in
+    let p = and-eq-true-iff (ends (code "%") s) (isNumberClear (take (length s - 1) s)) .0 h in
     rw (ends-snoc (code "%") s (p .0)) at (is-percent (take (length s - 1) s) (test-number (take (length s - 1) s) (p .1)))
 
+-- a number with one % passes the test
 pub percent-test : (s : List ℕ) → Number s → isPercentClear (s ++ bytes "%") ≡ true
 percent-test s n = rw (snoc-ends (code "%") s, cut-front s (bytes "%") 1 refl) (number-test s n)

@@ -1,28 +1,27 @@
 -- The first rows of the units, and the words of the tables by number: each one test at every number, which antt computes. Assumes nothing.
-use mathlib.Core.Path.{_≡_, refl}
+use mathlib.Core.Path.{_≡_, refl, sym}
 use mathlib.Core.Bool.{Bool, true, false, cond, not, _&&_, _||_}
-use mathlib.Core.List.{List, [], _∷_}
+use mathlib.Core.List.{List, []}
 use mathlib.Core.Logic.{⊎-elim}
 use Prim.Native.Nat.{ℕ, zero, suc, _+_, _-_, _≤_, _<_}
 use native.Mathlib.Numerals.{add-one}
 use native.Mathlib.Omega.{arith}
-use lib.Dec.{T, ltb, eqb, leb·suc-suc}
+use lib.Dec.{ltb, eqb, leb·suc-suc}
 use lib.ListN.{length, drop, getD, drop-of-length-le}
 use lib.Seq.{drop-cons}
-use borrow.Author.Tests.{lt-ltb, le-ltb}
+use borrow.Author.Tests.{lt-ltb, le-ltb, not-true}
 use Rattle.lists.specs.Bytes.{same}
 use Rattle.lists.proofs.Sets.{le-or-lt}
-use Rattle.lists.proofs.Table.{below, same→≡}
+use Rattle.lists.proofs.Table.{below, same-true}
 use Rattle.lexicon.specs.Lexicon.{wordOf}
 use Rattle.lexicon.proofs.Laws.{lexicon}
 use Rattle.units.specs.Units.{unitAbbreviations, unitWords, before, wordNumbers}
 use Rattle.clear.specs.Clear.{tableWords, listed}
 
-agree : (a b : Bool) → T (cond a b (not b)) → a ≡ b
-agree true true t = refl
-agree true false t = absurd t
-agree false true t = absurd t
-agree false false t = refl
+-- two tests agree
+agree : (a b : Bool) → cond a b (not b) ≡ true → a ≡ b
+agree true b t = sym t
+agree false b t = sym (not-true b t)
 
 -- there is a row k, and it is the first with its word
 abbrev firstRow : ℕ → Bool
@@ -32,6 +31,7 @@ firstRow k = ltb k (length unitAbbreviations) && eqb (before (getD unitWords k [
 abbrev newWord : ℕ → Bool
 newWord k = ltb k 22 && ltb (getD wordNumbers (k - 1) 0) (getD wordNumbers k 0)
 
+-- row 0 has a word that no row before it has
 pub first-zero : true ≡ firstRow 0
 unfolding lexicon before unitWords unitAbbreviations
 first-zero = refl
@@ -45,7 +45,7 @@ unfolding first lexicon wordNumbers before unitWords unitAbbreviations
 first-row zero h = absurd (h refl)
 first-row (suc k) h =
     ⊎-elim (λ (g : 21 ≤ k). rw (le-ltb (suc k) 22 (omega arith)))
-    (λ (g : k < 21). agree (newWord (suc k)) (firstRow (suc k)) (below first 21 tt k g)) (le-or-lt 21 k)
+    (λ (g : k < 21). agree (newWord (suc k)) (firstRow (suc k)) (below first 21 refl k g)) (le-or-lt 21 k)
 
 -- where the lexicon has the words of the tables
 abbrev numberAt : ℕ → ℕ
@@ -54,9 +54,10 @@ numberAt i = cond (ltb i 30) (16 + i) (cond (ltb i 60) (16 + 34 + (i - 30)) (46 
 tabled : ℕ → Bool
 tabled i = same (wordOf (numberAt i)) (getD tableWords i [])
 
+-- each word of the tables stands in the lexicon
 pub table-row : (i : ℕ) → i < 63 → wordOf (numberAt i) ≡ getD tableWords i []
 unfolding tabled lexicon tableWords
-table-row i h = same→≡ _ _ (below tabled 63 tt i h)
+table-row i h = same-true _ _ (below tabled 63 refl i h)
 
 tables : length tableWords ≡ 63
 unfolding tableWords lexicon
@@ -77,6 +78,7 @@ listed-more s i h = rw (add-one, drop-cons tableWords i [] (rw tables h)) (go (s
     go true = lt-ltb 0 (suc m) (omega arith)
     go false = leb·suc-suc (suc n) m
 
+-- past the last word nothing is found
 pub listed-end : (s : List ℕ) (i : ℕ) → 63 ≤ i → listed s (drop i tableWords) ≡ false
 unfolding before
 listed-end s i h = rw (drop-of-length-le tableWords {i = i} (rw tables h))

@@ -1,47 +1,48 @@
 -- Plain digits with a suffix: ordinals, and the first abbreviations of the units. Assumes nothing.
 use mathlib.Core.Path.{_≡_, refl, sym, _∙_}
-use mathlib.Core.Bool.{Bool, true, false, cond, _&&_}
+use mathlib.Core.Bool.{Bool, true, false, cond, _&&_, and-eq-true-iff}
 use mathlib.Core.List.{List, [], _∷_, _++_}
 use Prim.Native.Nat.{ℕ, suc, _-_, _<_}
 use Prim.Native.Char.{code}
 use native.Mathlib.Nat.{add-zero}
 use native.Mathlib.Omega.{arith}
-use lib.Dec.{ltb, eqb, eqb→eq}
+use lib.Dec.{ltb, eqb}
 use lib.ListN.{length, take, drop, getD, take-append-drop}
 use lib.Seq.{take-at, drop-at}
-use mir.Facts.{and-yes}
 use borrow.Author.Tests.{eqb-true, eq-eqb, ltb-true, lt-ltb}
 use Rattle.lists.specs.Bytes.{bytes, span, afterLast, sameBy, same}
 use Rattle.lists.specs.Classes.{digit}
+use Rattle.lists.proofs.Recursion.{cond-elim}
 use Rattle.lists.proofs.Scan.{last-span}
-use Rattle.lists.proofs.Table.{below}
+use Rattle.lists.proofs.Table.{below, same-true}
 use Rattle.units.specs.Units.{unitAbbreviations, abbreviations, unitWords, before, unitIndex, isUnit, unitWord}
 use Rattle.shapes.specs.Shapes.{unitAt}
+use Rattle.shapes.proofs.Laws.{digits-all}
 use Rattle.clear.specs.Clear.{plain, suffix, Clear, is-ordinal, is-unit}
 use Rattle.clear.specs.Test.{butLastTwo, lastTwo, isOrdinalClear, isFirstUnit, isUnitClear}
-use Rattle.clear.proofs.Cuts.{ands, same-true, same-self, cut-front, cut-back, span-seam, after-seam, digits-all}
+use Rattle.clear.proofs.Cuts.{same-self, cut-front, cut-back, span-seam, after-seam}
 use Rattle.clear.proofs.Figures.{plain-digits}
 
-suffix-two : (s : List ℕ) → length (suffix s) ≡ 2
+-- what holds of each suffix holds of the suffix of any digits
+pub suffix-elim : (P : List ℕ → Type 0) → P (bytes "st") → P (bytes "nd") → P (bytes "rd") → P (bytes "th") → (s : List ℕ) → P (suffix s)
 unfolding suffix
-suffix-two s = go (ltb 1 (length s) && eqb (getD s (length s - 2) 0) (code "1")) (eqb last (code "1")) (eqb last (code "2")) (eqb last (code "3"))
-  where
-    last : ℕ
-    last = getD s (length s - 1) 0
+suffix-elim P st nd rd th s =
+    let b = getD s (length s - 1) 0 in
+    cond-elim P (ltb 1 (length s) && eqb (getD s (length s - 2) 0) (code "1")) (λ e. th)
+    (λ e. cond-elim P (eqb b (code "1")) (λ e. st) (λ e. cond-elim P (eqb b (code "2")) (λ e. nd) (λ e. cond-elim P (eqb b (code "3")) (λ e. rd) (λ e. th))))
 
-    go : (t a b c : Bool) → length (cond t (bytes "th") (cond a (bytes "st") (cond b (bytes "nd") (cond c (bytes "rd") (bytes "th"))))) ≡ 2
-    go true a b c = refl
-    go false true b c = refl
-    go false false true c = refl
-    go false false false true = refl
-    go false false false false = refl
+-- it has two bytes
+pub suffix-two : (s : List ℕ) → length (suffix s) ≡ 2
+suffix-two = suffix-elim (λ u. length u ≡ 2) refl refl refl refl
 
+-- a name that passes the test is clear
 pub test-ordinal : (s : List ℕ) → isOrdinalClear s ≡ true → Clear s
 test-ordinal s h =
-    let p = ands (plain (butLastTwo s)) (same (lastTwo s) (suffix (butLastTwo s))) h in
+    let p = and-eq-true-iff (plain (butLastTwo s)) (same (lastTwo s) (suffix (butLastTwo s))) .0 h in
     let e : suffix (butLastTwo s) ≡ lastTwo s = sym (same-true (lastTwo s) (suffix (butLastTwo s)) (p .1)) in
     rw (e, take-append-drop) at (is-ordinal (butLastTwo s) (p .0))
 
+-- plain digits with their suffix pass the test
 pub ordinal-test : (s : List ℕ) → plain s ≡ true → isOrdinalClear (s ++ suffix s) ≡ true
 ordinal-test s h =
     let l = suffix-two s in
@@ -65,37 +66,55 @@ columns : (length abbreviations ≡ length unitAbbreviations) × (length unitWor
 unfolding abbreviations unitWords unitAbbreviations
 columns = (refl, refl)
 
+-- a name that passes the test is clear
 pub test-unit : (s : List ℕ) → isUnitClear s ≡ true → Clear s
 test-unit s h =
     let u = drop (unitAt s) s in
-    let p = ands (plain (take (unitAt s) s)) (isFirstUnit u) h in
-    let q = ands (isUnit u) (eqb (before (unitWord u) unitWords) (unitIndex u)) (p .1) in
+    let p = and-eq-true-iff (plain (take (unitAt s) s)) (isFirstUnit u) .0 h in
+    let q = and-eq-true-iff (isUnit u) (eqb (before (unitWord u) unitWords) (unitIndex u)) .0 (p .1) in
     let l : unitIndex u < length unitAbbreviations = ltb-true _ _ (q .0) in
     let e : getD abbreviations (unitIndex u) [] ≡ u = before-at u abbreviations (rw (columns .0) l) in
     rw (e, take-append-drop) at (is-unit (take (unitAt s) s) (unitIndex u) (p .0) (rw (columns .1) l) (eqb-true _ _ (q .1)))
 
 -- a row's abbreviation stands in no row before it, and has no digit
-record Fine (k : ℕ) : Type 0 where
-  first : unitIndex (getD abbreviations k []) ≡ k
-  front : span digit (getD abbreviations k []) ≡ 0
-  last : afterLast digit (getD abbreviations k []) ≡ 0
+pub record UnitRow (k : ℕ) : Type 0 where
+  pub first : unitIndex (getD abbreviations k []) ≡ k
+  pub front : span digit (getD abbreviations k []) ≡ 0
+  pub last : afterLast digit (getD abbreviations k []) ≡ 0
 
-fineb : ℕ → Bool
-fineb k = let u = getD abbreviations k [] in eqb (unitIndex u) k && eqb (span digit u) 0 && eqb (afterLast digit u) 0
+unitRow : ℕ → Bool
+unitRow k = let u = getD abbreviations k [] in eqb (unitIndex u) k && eqb (span digit u) 0 && eqb (afterLast digit u) 0
 
-fine : (k : ℕ) → k < length unitWords → Fine k
-unfolding fineb abbreviations unitWords unitAbbreviations before sameBy span afterLast
-fine k l =
+-- every row of the table is such
+pub unit-row : (k : ℕ) → k < length unitWords → UnitRow k
+unfolding unitRow abbreviations unitWords unitAbbreviations before sameBy span afterLast
+unit-row k l =
     let u = getD abbreviations k [] in
-    let y = and-yes (eqb (unitIndex u) k && eqb (span digit u) 0) (eqb (afterLast digit u) 0) (below fineb 22 tt k l) in
-    let z = and-yes (eqb (unitIndex u) k) (eqb (span digit u) 0) (y .0) in
-    record { first = eqb→eq _ _ (z .0); front = eqb→eq _ _ (z .1); last = eqb→eq _ _ (y .1) }
+    let y = and-eq-true-iff (eqb (unitIndex u) k && eqb (span digit u) 0) (eqb (afterLast digit u) 0) .0 (below unitRow 22 refl k l) in
+    let z = and-eq-true-iff (eqb (unitIndex u) k) (eqb (span digit u) 0) .0 (y .0) in
+    record { first = eqb-true _ _ (z .0); front = eqb-true _ _ (z .1); last = eqb-true _ _ (y .1) }
 
-pub unit-test : (s : List ℕ) (k : ℕ) → plain s ≡ true → k < length unitWords → before (getD unitWords k []) unitWords ≡ k → isUnitClear (s ++ getD abbreviations k []) ≡ true
+-- the unit starts after the digits
+pub unit-at : (s : List ℕ) (k : ℕ) → plain s ≡ true → k < length unitWords → unitAt (s ++ getD abbreviations k []) ≡ length s
+unit-at s k h l =
+    let u = getD abbreviations k [] in
+    let r = unit-row k l in
+    let d = digits-all s (plain-digits s h) in
+    last-span digit (s ++ u) ∙ rw (after-seam digit s u d (r .front), span-seam digit s u d (r .front), r .last) (add-zero (length s))
+
+-- plain digits with a unit pass the test, if no row before has the unit's word
+pub unit-test : (s : List ℕ) (k : ℕ) → plain s ≡ true → k < length unitWords → before (getD unitWords k []) unitWords ≡ k
+    → isUnitClear (s ++ getD abbreviations k []) ≡ true
 unit-test s k h l w =
     let u = getD abbreviations k [] in
-    let f = fine k l in
-    let d = digits-all s (plain-digits s h) in
-    let e : unitAt (s ++ u) ≡ length s = last-span digit (s ++ u) ∙ rw (after-seam digit s u d (f .front), span-seam digit s u d (f .front), f .last) (add-zero (length s)) in
+    let e = unit-at s k h l in
     let r : k < length unitAbbreviations = rw (columns .1) at l in
-    rw (take-at s u (unitAt (s ++ u)) (sym e), drop-at s u (unitAt (s ++ u)) (sym e), h, f .first, lt-ltb k (length unitAbbreviations) r, w) (eq-eqb k k refl)
+    rw (
+      take-at s u (unitAt (s ++ u)) (sym e),
+      drop-at s u (unitAt (s ++ u)) (sym e),
+      h,
+      unit-row k l .first,
+      lt-ltb k (length unitAbbreviations) r,
+      w,
+    )
+    (eq-eqb k k refl)

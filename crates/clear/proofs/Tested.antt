@@ -25,23 +25,25 @@ chain false false false false false true g h i j k l m n o p r = n refl
 chain false false false false false false true h i j k l m n o p r = o refl
 chain false false false false false false false h i j k l m n o p r = p r
 
-pub clear-test : (s : List ℕ) → isClear s ≡ true → Clear s
+-- a name that passes the test is clear
+pub test-clear : (s : List ℕ) → isClear s ≡ true → Clear s
 unfolding isClear
-clear-test s =
+test-clear s =
     chain (isNumberClear s) (isPercentClear s) (isTimeClear s) (isMeridiemClear s) (isOrdinalClear s) (isUnitClear s) (isInitialsClear s) (isWordClear s)
     (λ h. is-number s (test-number s h)) (test-percent s) (test-time s) (test-meridiem s) (test-ordinal s) (test-unit s) (test-initials s) (test-word s)
 
-pub test-clear : (s : List ℕ) → Clear s → isClear s ≡ true
+-- a clear name passes the test
+pub clear-test : (s : List ℕ) → Clear s → isClear s ≡ true
 unfolding isClear
-test-clear s (is-number t n) = rw (number-test t n)
-test-clear s (is-percent t n) = rw (percent-test t n, or-true)
-test-clear s (is-time h m p q n) = rw (time-test h m p q n, or-true)
-test-clear s (is-meridiem h m x p q r) = rw (meridiem-test h m x p q r, or-true)
-test-clear s (is-ordinal t h) = rw (ordinal-test t h, or-true)
-test-clear s (is-unit t k h l w) = rw (unit-test t k h l w, or-true)
-test-clear s (is-initials c d cs h) = rw (initials-test c d cs h, or-true)
-test-clear s (is-word t h a n c o) = rw (word-test t h a n, or-true)
+clear-test s (is-number t n) = rw (number-test t n)
+clear-test s (is-percent t n) = rw (percent-test t n, or-true)
+clear-test s (is-time h m p q n) = rw (time-test h m p q n, or-true)
+clear-test s (is-meridiem h m x p q r) = rw (meridiem-test h m x p q r, or-true)
+clear-test s (is-ordinal t h) = rw (ordinal-test t h, or-true)
+clear-test s (is-unit t k h l w) = rw (unit-test t k h l w, or-true)
+clear-test s (is-initials c d cs h) = rw (initials-test c d cs h, or-true)
+clear-test s (is-word t h a n c o) = rw (word-test t h a n, or-true)
 
 -- the test passes exactly the clear names
 pub clear-tested : (s : List ℕ) → (isClear s ≡ true) ↔ Clear s
-clear-tested s = (clear-test s, test-clear s)
+clear-tested s = (test-clear s, clear-test s)

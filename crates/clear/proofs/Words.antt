@@ -1,30 +1,27 @@
 -- Words of two or more letters a to z: a word that alone is an answer of `cardinal` or `ordinal` stands in the tables. Assumes nothing.
 use mathlib.Core.Path.{_≡_, refl, sym, ap, _∙_}
-use mathlib.Core.Bool.{Bool, true, false, not, _&&_, true≢false}
+use mathlib.Core.Bool.{Bool, true, false, not, _&&_, true≢false, and-eq-true-iff}
 use mathlib.Core.List.{List, [], _∷_, map, cons-eq-cons, nil≢cons, cons≢nil}
 use Prim.Native.Nat.{ℕ, zero, suc, _+_, _≤_, _<_}
 use Prim.Native.Char.{code}
 use native.Mathlib.Omega.{arith}
-use lib.Dec.{leb, eqb}
-use lib.ListN.{length, take, drop, length-drop}
-use mir.Facts.{and-yes}
+use lib.Dec.{leb}
+use lib.ListN.{length}
 use borrow.Author.Tests.{leb-true, le-leb, not-true}
 use Rattle.lists.specs.Bytes.{all, small, keep}
 use Rattle.lists.specs.Classes.{except}
-use Rattle.lists.proofs.Recursion.{recur-induct, cond-elim}
 use Rattle.lists.proofs.Table.{below}
+use Rattle.lists.proofs.Every.{every-drop}
 use Rattle.lexicon.specs.Lexicon.{wordOf, onesAt, teensAt, tensAt, ordinalStep}
 use Rattle.lexicon.proofs.Laws.{lexicon}
 use Rattle.units.specs.Units.{before}
 use Rattle.numerals.specs.Words.{Word, one, teen, ten, scale, other, spell, spelled}
-use Rattle.numerals.specs.Cardinal.{clean, pair, scaleFor, join, splitAt, byScale, cardinalStep, cardinalFew, cardinalOf, cardinal}
+use Rattle.numerals.specs.Cardinal.{clean, pair, scaleFor, join, cardinalFew, cardinal}
 use Rattle.numerals.specs.Ordinal.{ordinalForm, orZero, onLast, ordinal}
-use Rattle.numerals.proofs.Cardinal.{split-parts}
-use Rattle.numerals.proofs.Every.{every-drop}
+use Rattle.numerals.proofs.Cardinal.{few-induct, cardinalOf-elim}
 use Rattle.numerals.proofs.Forms.{Digits, clean-digits, form-number}
 use Rattle.clear.specs.Clear.{tableWords, listed, Alone, Clear, is-word}
 use Rattle.clear.specs.Test.{isWordClear}
-use Rattle.clear.proofs.Cuts.{ands, T-true}
 
 -- ---- an answer of one word
 
@@ -68,19 +65,14 @@ join-lone (v ∷ []) w r h = tt
 join-lone (v ∷ u ∷ l) w r h = tt
 
 few-lone : (s : List ℕ) → Digits s → Lone Small (cardinalFew s)
-unfolding cardinalFew cardinalStep byScale
-few-lone = recur-induct (λ s ws. Digits s → Lone Small ws) [] cardinalStep step
-  where
-    step : (f : List ℕ → List Word) (s : List ℕ) → ((t : List ℕ) → length t < length s → Digits t → Lone Small (f t)) → Digits s → Lone Small (cardinalStep f s)
-    step f [] i h = tt
-    step f (a ∷ []) i h = small-one a (h .0)
-    step f (a ∷ b ∷ []) i h = pair-lone a b (h .0) (h .1 .0)
-    step f (a ∷ b ∷ c ∷ []) i h = cond-elim (Lone Small) (eqb a 0) (λ e. i (b ∷ c ∷ []) (omega arith) (h .1)) (λ e. tt)
-    step f (a ∷ b ∷ c ∷ d ∷ s) i h =
-        let t = a ∷ b ∷ c ∷ d ∷ s in
-        let n = splitAt (length t) in
-        let p = split-parts (length t) (omega arith) in
-        join-lone (f (take n t)) (scale (scaleFor (length t))) (f (drop n t)) (i (drop n t) (omega (arith, length-drop n t, p .whole, p .right)) (every-drop (λ d. d < 10) n t h))
+few-lone = few-induct (λ d. d < 10) (λ n ws. Lone Small ws) (record {
+  none = tt;
+  single = small-one;
+  double = pair-lone;
+  zero-led = λ ws h. h;
+  triple = λ a b c p q r. tt;
+  joined = λ n left right l h k. join-lone left (scale (scaleFor n)) right k;
+})
 
 ones-lone : (s : List ℕ) → Digits s → Lone Small (map one s)
 ones-lone [] h = tt
@@ -88,8 +80,8 @@ ones-lone (a ∷ []) h = small-one a (h .0)
 ones-lone (a ∷ b ∷ s) h = tt
 
 cardinal-lone : (t : List ℕ) → Lone Small (cardinal t)
-unfolding cardinal cardinalOf
-cardinal-lone t = let d = clean-digits t in cond-elim (Lone Small) (leb (length (clean t)) 12) (λ e. few-lone (clean t) d) (λ e. ones-lone (clean t) d)
+unfolding cardinal
+cardinal-lone t = let d = clean-digits t in cardinalOf-elim (Lone Small) (clean t) (λ l. few-lone (clean t) d) (ones-lone (clean t) d)
 
 -- ---- it is one of the tables'
 
@@ -102,8 +94,8 @@ barredb k = listed (wordOf (onesAt + k)) tableWords && listed (wordOf (onesAt + 
 barred : (k : ℕ) → k < 30 → (listed (wordOf (onesAt + k)) tableWords ≡ true) × (listed (wordOf (onesAt + ordinalStep + k)) tableWords ≡ true)
 unfolding barredb tableWords before lexicon
 barred k h =
-    let y = and-yes (listed (wordOf (onesAt + k)) tableWords) (listed (wordOf (onesAt + ordinalStep + k)) tableWords) (below barredb 30 tt k h) in
-    (T-true _ (y .0), T-true _ (y .1))
+    and-eq-true-iff (listed (wordOf (onesAt + k)) tableWords) (listed (wordOf (onesAt + ordinalStep + k)) tableWords) .0
+    (below barredb 30 refl k h)
 
 small-barred : (w : Word) → Small w → Barred w
 small-barred w f = rw (f .word) (barred (f .place) (f .within) .0)
@@ -130,21 +122,25 @@ lone-listed w [] h e = absurd (nil≢cons e)
 lone-listed w (v ∷ []) h e = let f : spell v ≡ w = cc in rw f at h
 lone-listed w (v ∷ u ∷ ws) h e = absurd (cons≢nil (cons-eq-cons .0 e .1))
 
+-- a word that alone is an answer of `cardinal`
 pub cardinal-alone : (w : List ℕ) → Alone cardinal w → listed w tableWords ≡ true
 cardinal-alone w a = lone-listed w (cardinal (a .0)) (lone-imply (cardinal (a .0)) (cardinal-lone (a .0))) (a .1)
 
+-- or of `ordinal`
 pub ordinal-alone : (w : List ℕ) → Alone ordinal w → listed w tableWords ≡ true
 unfolding ordinal
 ordinal-alone w a = let c = keep (except (code ",")) (a .0) in lone-listed w (onLast (orZero (cardinal c))) (last-lone (cardinal c) (cardinal-lone c)) (a .1)
 
 -- ---- the kind
 
+-- a word that passes the test is clear
 pub test-word : (s : List ℕ) → isWordClear s ≡ true → Clear s
 test-word s h =
-    let p = ands (leb 2 (length s) && all small s) (not (listed s tableWords)) h in
-    let q = ands (leb 2 (length s)) (all small s) (p .0) in
+    let p = and-eq-true-iff (leb 2 (length s) && all small s) (not (listed s tableWords)) .0 h in
+    let q = and-eq-true-iff (leb 2 (length s)) (all small s) .0 (p .0) in
     let n : listed s tableWords ≡ false = not-true _ (p .1) in
     is-word s (leb-true 2 (length s) (q .0)) (q .1) n (λ a. true≢false (sym (cardinal-alone s a) ∙ n)) (λ a. true≢false (sym (ordinal-alone s a) ∙ n))
 
+-- letters that are no word of the tables pass the test
 pub word-test : (s : List ℕ) → 2 ≤ length s → all small s ≡ true → listed s tableWords ≡ false → isWordClear s ≡ true
 word-test s h a n = rw (le-leb 2 (length s) h, a, n)

@@ -8,7 +8,7 @@ use Rattle.hearing.proofs.TimeRows.{time-heeded, meridiem-heeded}
 use Rattle.hearing.proofs.Ordinals.{ordinal-heeded}
 use Rattle.hearing.proofs.Units.{unit-heeded}
 use Rattle.hearing.proofs.Initials.{initials-heeded}
-use Rattle.hearing.proofs.OneWord.{word-heeded}
+use Rattle.hearing.proofs.OneWord.{lowered, word-heeded}
 
 -- a word outside the tables is heard as itself, whether or not it is an answer of `cardinal` or `ordinal`
 pub clear-heeded : (n : List ℕ) → Clear n → Heeded n
@@ -19,4 +19,4 @@ clear-heeded n (is-meridiem h m x a b c) = meridiem-heeded h m x a b c
 clear-heeded n (is-ordinal s a) = ordinal-heeded s a
 clear-heeded n (is-unit s k a b c) = unit-heeded s k a b c
 clear-heeded n (is-initials c d cs a) = initials-heeded c d cs a
-clear-heeded n (is-word s a b c d e) = word-heeded s a b c
+clear-heeded n (is-word s a b c d e) = word-heeded s (lowered s b) a b c

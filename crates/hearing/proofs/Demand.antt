@@ -1,20 +1,18 @@
 -- Document 01, demand 3, in one theorem about two whole sheets. Assumes nothing.
 use mathlib.Core.Path.{_≡_, refl, sym, ap, _∙_}
 use mathlib.Core.Bool.{Bool, true, false}
-use mathlib.Core.List.{List, [], _∷_, map, cons-eq-cons}
+use mathlib.Core.List.{List, [], _∷_, map, cons-eq-cons, flatten}
 use mathlib.Core.Logic.{_↔_}
 use Prim.Native.Nat.{ℕ, zero, suc, _≤_}
 use native.Mathlib.Omega.{arith}
 use lib.ListN.{length, drop, length-map}
 use lib.Seq.{take-at, ext-getD}
 use borrow.Author.Tests.{le-ltb}
-use Rattle.lists.specs.Bytes.{over}
-use Rattle.sink.specs.Words.{storeOf}
+use Rattle.lists.specs.Bytes.{over, Every}
 use Rattle.tokens.specs.Tokens.{Token, tokens}
 use Rattle.sentences.specs.Sentences.{starts}
 use Rattle.sentences.specs.Calls.{flags}
 use Rattle.sentences.proofs.Marking.{starts-length}
-use Rattle.numerals.proofs.Every.{Every}
 use Rattle.sheets.specs.Sheet.{SheetEntry, entriesOf, entries, lineOf, callSheet, countWords}
 use Rattle.admit.specs.Refusals.{firstDue, call}
 use Rattle.sheets.specs.Calls.{sheetTests, SheetGiven, sheetCall, Accepted}
@@ -37,7 +35,7 @@ marks-length s = go (starts (tokens s)) ∙ starts-length s
 
 -- clear names are heeded
 entries-heeded : (bs : List Bool) (ts : List Token) → AllClear (map nameOf ts) → Every (λ (e : SheetEntry). Heeded (e .name)) (entriesOf bs ts)
-unfolding entriesOf AllClear
+unfolding entriesOf
 entries-heeded [] ts h = tt
 entries-heeded (b ∷ bs) [] h = tt
 entries-heeded (b ∷ bs) (t ∷ ts) h = (clear-heeded (t .name) (h .0), entries-heeded bs ts (h .1))
@@ -92,7 +90,7 @@ entries-from s t h =
 pub told-apart : (s t : List ℕ) → Accepted s → Accepted t → AllClear (names s) → AllClear (names t) → (callSheet s ≡ callSheet t) ↔ SameEntries s t
 told-apart s t a b p q = (
   λ e. entries-told s t (sym (sheet-heard (entries s) (entries-heeded _ _ p)) ∙ ap hearSheet e ∙ sheet-heard (entries t) (entries-heeded _ _ q)),
-  λ h. ap (λ (es : List SheetEntry). storeOf (map lineOf es)) (entries-from s t h),
+  λ h. ap (λ (es : List SheetEntry). flatten (map lineOf es)) (entries-from s t h),
 )
 
 -- "A sheet is accepted when calling it whole, with room for the result, isn't held back."

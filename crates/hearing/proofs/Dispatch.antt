@@ -7,18 +7,18 @@ use native.Mathlib.Omega.{arith}
 use lib.ListN.{length, getD, length-append}
 use lib.Seq.{take-at, getD-at}
 use borrow.Author.Tests.{ne-eqb, not-true}
-use Rattle.lists.specs.Bytes.{bytes, all, same}
+use Rattle.lists.specs.Bytes.{bytes, all, same, Every}
+use Rattle.lists.proofs.Every.{every-append, every-map, every-imply}
 use Rattle.lexicon.specs.Lexicon.{ordinals}
 use Rattle.lexicon.proofs.Laws.{lexicon}
 use Rattle.units.specs.Units.{abbreviations, unitWords, before}
 use Rattle.numerals.specs.Words.{Word, other, spell, spelled}
 use Rattle.numerals.specs.Cardinal.{cardinal}
 use Rattle.numerals.proofs.Digits.{spelled-append}
-use Rattle.numerals.proofs.Every.{Every, every-append, every-map, every-imply}
-use Rattle.rows.specs.Rows.{read}
+use Rattle.rows.specs.Rows.{readWith}
 use Rattle.clear.specs.Clear.{plain, listed}
 use Rattle.hearing.specs.Hear.{counted, vocabulary, know, known, firstWord, lastWord, butLast, hearDigits, isLetterWord, isLone, cardinalWord, withSuffix, hear}
-use Rattle.hearing.proofs.Told.{solid, Heeded}
+use Rattle.hearing.proofs.Told.{solid, HeededWith}
 use Rattle.hearing.proofs.Numerals.{Numeral, numeral-test, numeral-known, every-known, plain-some}
 
 -- ---- the words of a line
@@ -29,24 +29,30 @@ every-at P [] i d l h = absurd (omega arith)
 every-at P (a ∷ s) zero d l h = h .0
 every-at P (a ∷ s) (suc i) d l h = every-at P s i d (omega arith) (h .1)
 
+-- the last word
 pub last-word : (ws : List (List ℕ)) (x : List ℕ) → lastWord (ws ++ x ∷ []) ≡ x
 last-word ws x = getD-at ws x [] [] (length (ws ++ x ∷ []) - 1) (omega (arith, length-append ws (x ∷ [])))
 
+-- the words before the last ones
 pub but-last : (ws vs : List (List ℕ)) → butLast (length vs) (ws ++ vs) ≡ ws
 but-last ws vs = take-at ws vs (length (ws ++ vs) - length vs) (omega (arith, length-append ws vs))
 
+-- two words are not one word alone
 pub not-lone : (ws : List (List ℕ)) → 2 ≤ length ws → isLone ws ≡ false
 not-lone ws h = rw (ne-eqb (length ws) 1 (omega arith))
 
 -- ---- the words of numbers
 
+-- the words of a number are known by their spelling
 pub numerals-known : (ws : List Word) → Every Numeral ws → known (spelled ws) ≡ ws
 numerals-known ws h = every-known ws (every-imply Numeral (λ w. know (spell w) ≡ w) numeral-known ws h)
 
+-- no word of a number is a letter's word
 pub numeral-no-letter : (w : Word) → Numeral w → isLetterWord (spell w) ≡ false
-unfolding vocabulary counted spell lexicon
+unfolding vocabulary counted spell lexicon all
 numeral-no-letter w n = not-true (isLetterWord (spell w)) (numeral-test (λ w. not (isLetterWord (spell w))) refl w n)
 
+-- no word of a number has a space or an LF
 pub numerals-solid : (ws : List Word) → Every Numeral ws → Every (λ w. solid w ≡ true) (spelled ws)
 unfolding vocabulary counted spell spelled lexicon all
 numerals-solid = every-map Numeral (λ w. solid w ≡ true) spell (λ w n. numeral-test (λ w. solid (spell w)) refl w n)
@@ -59,7 +65,8 @@ plain-not-lone s h x vs =
     rw (k .2) (not-lone (spell (k .0) ∷ (map spell (k .1) ++ x ∷ vs)) (omega (arith, length-append (map spell (k .1)) (x ∷ vs))))
 
 -- a name by its words
-pub heeded : (n : List ℕ) (ws : List Word) → read n .words ≡ ws → hear (spelled ws) ≡ n → Every (λ w. solid w ≡ true) (spelled ws) → Heeded n
+pub heeded : {word : List ℕ → List ℕ} (n : List ℕ) (ws : List Word) → readWith word n .words ≡ ws → hear (spelled ws) ≡ n
+    → Every (λ w. solid w ≡ true) (spelled ws) → HeededWith word n
 heeded n ws e h k = record { heard = rw e h; words = rw e k }
 
 -- ---- a number and one word more
@@ -76,7 +83,9 @@ module _ (ns : List Word) (x : List ℕ) (e : Every Numeral ns) (q : lateWord x 
   past-letter = let k = and-eq-true-iff (not (isLetterWord x)) _ .0 q in (not-true (isLetterWord x) (k .0), k .1)
 
   past-cent : (same x (bytes "cent") ≡ false) × ((not (same x (bytes "m")) && solid x) ≡ true)
-  past-cent = let k = and-eq-true-iff (not (same x (bytes "cent"))) (not (same x (bytes "m")) && solid x) .0 (past-letter .1) in (not-true (same x (bytes "cent")) (k .0), k .1)
+  past-cent =
+      let k = and-eq-true-iff (not (same x (bytes "cent"))) (not (same x (bytes "m")) && solid x) .0 (past-letter .1) in
+      (not-true (same x (bytes "cent")) (k .0), k .1)
 
   past-m : (same x (bytes "m") ≡ false) × (solid x ≡ true)
   past-m = let k = and-eq-true-iff (not (same x (bytes "m"))) (solid x) .0 (past-cent .1) in (not-true (same x (bytes "m")) (k .0), k .1)
@@ -89,15 +98,19 @@ module _ (ns : List Word) (x : List ℕ) (e : Every Numeral ns) (q : lateWord x 
       go [] e = past-letter .0
       go (w ∷ ws) e = numeral-no-letter w (e .0)
 
+  -- a number and a unit's word
   pub hear-unit : listed x unitWords ≡ true → hear line ≡ hearDigits ns ++ getD abbreviations (before x unitWords) []
   unfolding hear
   hear-unit u = rw (l, first, last-word (spelled ns) x, past-cent .0, past-m .0, u, but-last (spelled ns) (x ∷ []), numerals-known ns e)
 
-  pub hear-ordinal : listed x unitWords ≡ false → listed x (map bytes ordinals) ≡ true → hear line ≡ withSuffix (hearDigits (known (spelled ns ++ cardinalWord x ∷ [])))
+  -- a number whose last word is in its ordinal form
+  pub hear-ordinal : listed x unitWords ≡ false → listed x (map bytes ordinals) ≡ true
+      → hear line ≡ withSuffix (hearDigits (known (spelled ns ++ cardinalWord x ∷ [])))
   unfolding hear
   hear-ordinal u o = rw (l, first, last-word (spelled ns) x, past-cent .0, past-m .0, u, o, but-last (spelled ns) (x ∷ []))
 
-  pub heeded-late : (n : List ℕ) → read n .words ≡ ns ++ other x ∷ [] → hear line ≡ n → Heeded n
+  -- a name that is read as a number and one word more
+  pub heeded-late : {word : List ℕ → List ℕ} (n : List ℕ) → readWith word n .words ≡ ns ++ other x ∷ [] → hear line ≡ n → HeededWith word n
   unfolding spelled spell
   heeded-late n r h =
       let s : spelled (ns ++ other x ∷ []) ≡ line = spelled-append ns (other x ∷ []) in

@@ -5,19 +5,19 @@ use mathlib.Core.List.{List, [], _∷_, _++_, map, append-nil}
 use Prim.Native.Nat.{ℕ}
 use Prim.Native.Char.{code}
 use lib.Dec.{ltb, eqb}
-use Rattle.lists.specs.Bytes.{bytes, all, same}
+use Rattle.lists.specs.Bytes.{bytes, all, same, Every}
+use Rattle.lists.proofs.Every.{every-append, every-imply}
 use Rattle.lexicon.specs.Lexicon.{ordinals}
 use Rattle.lexicon.proofs.Laws.{lexicon}
 use Rattle.units.specs.Units.{unitAbbreviations, unitWords, before}
 use Rattle.shapes.specs.Shapes.{isDigits}
-use Rattle.numerals.specs.Words.{Word, one, other, spell}
+use Rattle.numerals.specs.Words.{Word, other, spell}
 use Rattle.numerals.specs.Cardinal.{clean, cardinal, digits}
-use Rattle.numerals.proofs.Every.{Every, every-append, every-imply}
 use Rattle.clear.specs.Clear.{plain, listed, tableWords, Fraction, no-point, a-point, no-sign, plus-sign, minus-sign, Exponent, no-exponent, an-exponent}
 use Rattle.hearing.specs.Hear.{counted, vocabulary, knowIn, know, inked, digitOf, signByte, smallValue, hearAfter, hears, hearFigure}
 use Rattle.hearing.proofs.Told.{solid}
 use Rattle.hearing.proofs.Shown.{inked-clean}
-use Rattle.hearing.proofs.Numerals.{Numeral, numeral-test, cardinal-numerals, digits-numerals, numeral-known, plain-some, hear-plain}
+use Rattle.hearing.proofs.Numerals.{Numeral, numeral-test, cardinal-numerals, digits-numerals, numeral-known, digits-back, plain-some, hear-plain}
 use Rattle.hearing.proofs.Real.{fractionWords, exponentWords}
 
 -- ---- words that a figure may have
@@ -26,6 +26,7 @@ use Rattle.hearing.proofs.Real.{fractionWords, exponentWords}
 abbrev pub plainEnd : List ℕ → Bool
 plainEnd w = not (same w (bytes "cent")) && not (same w (bytes "m")) && not (listed w unitWords) && not (listed w (map bytes ordinals))
 
+-- known by its spelling, without space and LF, and no ending of another kind of name
 pub record Fine (w : Word) : Type 0 where
   pub again : know (spell w) ≡ w
   pub whole : solid (spell w) ≡ true
@@ -36,9 +37,15 @@ unfoldable pub dictionary : Unit {0}
 unfolding lexicon spell vocabulary counted know knowIn all before unitWords unitAbbreviations tableWords digitOf smallValue signByte
 dictionary = tt
 
+-- the words of numbers are such
 pub numeral-fine : (w : Word) → Numeral w → Fine w
 unfolding dictionary
-numeral-fine w n = record { again = numeral-known w n; whole = numeral-test (λ v. solid (spell v)) refl w n; ending = numeral-test (λ v. plainEnd (spell v)) refl w n }
+numeral-fine w n =
+    record {
+      again = numeral-known w n;
+      whole = numeral-test (λ v. solid (spell v)) refl w n;
+      ending = numeral-test (λ v. plainEnd (spell v)) refl w n;
+    }
 
 -- a word between digits, and its byte
 pub record Sign (w : Word) (c : ℕ) : Type 0 where
@@ -47,6 +54,7 @@ pub record Sign (w : Word) (c : ℕ) : Type 0 where
   pub some : eqb c 0 ≡ false
   pub large : ltb (smallValue w) 100 ≡ false
 
+-- the words between digits and their bytes
 pub minus-is : Sign (other (bytes "minus")) (code "-")
 unfolding dictionary
 minus-is = record { fine = record { again = refl; whole = refl; ending = refl }; byte = refl; some = refl; large = refl }
@@ -86,6 +94,7 @@ pub front-heard : (a : List Word) {t : List ℕ} {r : List Word} → Every Numer
 unfolding hearFigure
 front-heard a {t} {r} n k = rw (numerals-pending a r n, tail-heard k, append-nil a)
 
+-- the words of signs and digits are such
 pub tail-fine : {t : List ℕ} {r : List Word} → Tail t r → Every Fine r
 tail-fine none = tt
 tail-fine (part w c a d {t} {r} s n h k) = (s .fine, every-append Fine a r (every-imply Numeral Fine numeral-fine a n) (tail-fine k))
@@ -96,21 +105,14 @@ plain-after : (c : ℕ) (s : List ℕ) → eqb c (code ".") ≡ false → plain 
 unfolding hearAfter
 plain-after c s n h = let p = plain-some s h in rw (p .2) (rw (n, ← p .2) (hear-plain s h))
 
+-- a sign and plain digits, before others
 pub plain-part : {w : Word} {c : ℕ} → Sign w c → eqb c (code ".") ≡ false → (x : List ℕ) → plain x ≡ true → {t : List ℕ} {r : List Word}
     → Tail t r → Tail (c ∷ (x ++ t)) (w ∷ (cardinal x ++ r))
 plain-part {w} {c} s n x h k = part w c (cardinal x) x s (cardinal-numerals x) (plain-after c x n h) k
 
-digits-back : (s : List ℕ) → map digitOf (digits s) ≡ clean s
-unfolding digits digitOf
-digits-back s = go (clean s)
-  where
-    go : (ds : List ℕ) → map digitOf (map one ds) ≡ ds
-    go [] = refl
-    go (d ∷ ds) = ap (λ (es : List ℕ). d ∷ es) (go ds)
-
 point-after : (s : List ℕ) → isDigits s ≡ true → hearAfter (code ".") (digits s) ≡ s
-unfolding hearAfter inked
-point-after s h = go (digits s) (ap inked (digits-back s) ∙ inked-clean s h)
+unfolding hearAfter inked digits
+point-after s h = go (digits s) (ap inked (digits-back (clean s)) ∙ inked-clean s h)
   where
     go : (ws : List Word) → inked (map digitOf ws) ≡ s → hearAfter (code ".") ws ≡ s
     go [] e = e
@@ -129,5 +131,6 @@ fraction-tail : {f t : List ℕ} {r : List Word} (d : Fraction f) → Tail t r �
 fraction-tail no-point k = k
 fraction-tail (a-point f h) k = part (other (bytes "point")) (code ".") (digits f) f point-is (digits-numerals f) (point-after f h) k
 
+-- a fraction and an exponent, as their words are heard
 pub figure-tail : {f x : List ℕ} (d : Fraction f) (e : Exponent x) → Tail (f ++ x) (fractionWords d ++ exponentWords e)
 figure-tail {f} {x} d e = rw (append-nil x, append-nil (exponentWords e)) at (fraction-tail d (exponent-tail e none))

@@ -6,23 +6,25 @@ use Prim.Native.Nat.{ℕ, _-_, _<_}
 use Prim.Native.Char.{code}
 use native.Mathlib.Omega.{arith}
 use lib.Dec.{ltb}
-use lib.ListN.{length, take, length-append, length-map, List·getD-append}
-use lib.Seq.{getD-at, take-at, append-snoc}
-use borrow.Author.Tests.{ne-eqb, not-true, not-false}
-use Rattle.lists.specs.Bytes.{bytes, all, same, sameBy, starts, ends}
+use lib.ListN.{length, length-append, length-map, List·getD-append}
+use lib.Seq.{append-snoc}
+use borrow.Author.Tests.{not-true, not-false}
+use Rattle.lists.specs.Bytes.{bytes, all, same, sameBy, starts, Every}
+use Rattle.lists.proofs.Every.{every-append, every-map, every-imply}
 use Rattle.lexicon.specs.Lexicon.{ordinals}
 use Rattle.units.specs.Units.{unitWords}
 use Rattle.shapes.specs.Shapes.{isDigits, isLeadingZeroDigits}
+use Rattle.shapes.proofs.Laws.{digits-some}
 use Rattle.numerals.specs.Words.{Word, one, other, spell, spelled}
 use Rattle.numerals.specs.Cardinal.{clean, cardinal, digits}
 use Rattle.numerals.proofs.Digits.{spelled-append}
-use Rattle.numerals.proofs.Every.{Every, every-append, every-map, every-imply}
-use Rattle.rows.specs.Rows.{read, perCent}
-use Rattle.rows.proofs.Percent.{percent-read}
+use Rattle.rows.specs.Rows.{readWith, perCent}
+use Rattle.rows.proofs.Percent.{percent-with}
+use Rattle.clear.proofs.Cuts.{cut-front, snoc-ends}
 use Rattle.clear.specs.Clear.{plain, listed, tableWords, Minus, no-minus, a-minus, Fraction, no-point, Exponent, no-exponent, Number, is-digits, is-figure}
-use Rattle.hearing.specs.Hear.{know, known, firstWord, lastWord, smallValue, allSmall, timeLike, hearDigits, hearAfter, hearFigure, isLetterWord, isLone, hear}
-use Rattle.hearing.proofs.Told.{solid, Heeded}
-use Rattle.hearing.proofs.Shown.{digits-some, clean-length}
+use Rattle.hearing.specs.Hear.{know, known, firstWord, lastWord, smallValue, timeLike, hearDigits, hearAfter, hearFigure, isLetterWord, isLone, hear, isSmall}
+use Rattle.hearing.proofs.Told.{solid, HeededWith}
+use Rattle.hearing.proofs.Shown.{clean-length}
 use Rattle.hearing.proofs.Numerals.{Numeral, numeral-test, cardinal-numerals, digits-numerals, every-known, plain-some, hear-plain, hear-leading}
 use Rattle.hearing.proofs.Dispatch.{every-at, last-word, but-last, not-lone, numeral-no-letter, heeded}
 use Rattle.hearing.proofs.Real.{minusWords}
@@ -52,15 +54,16 @@ unfolding dictionary
 numeral-listed = numeral-test (λ w. not (ltb (smallValue w) 100) || listed (spell w) tableWords) refl
 
 sound-lone : (w : Word) (v : List Word) → Numeral w → Sound (w ∷ v) → isLone (spelled (w ∷ v)) ≡ false
-unfolding spelled allSmall
+unfolding spelled all
 sound-lone w [] n o =
-    let h : ltb (smallValue w) 100 ≡ true = and-eq-true-iff (ltb (smallValue w) 100) true .0 (not-false (allSmall (w ∷ [])) (o .alone)) .0 in
+    let h : ltb (smallValue w) 100 ≡ true = and-eq-true-iff (ltb (smallValue w) 100) true .0 (not-false (all isSmall (w ∷ [])) (o .alone)) .0 in
     let k : listed (spell w) tableWords ≡ true = rw h at (numeral-listed w n) in
     rw k
 sound-lone w (x ∷ v) n o = not-lone (spelled (w ∷ x ∷ v)) (omega arith)
 
 -- words of numbers, and the signs after them
-front-spoken : (a : List Word) (s : List ℕ) {t : List ℕ} {r : List Word} → 0 < length a → Every Numeral a → Sound a → hearDigits a ≡ s → Tail t r → Spoken (s ++ t) (a ++ r)
+front-spoken : (a : List Word) (s : List ℕ) {t : List ℕ} {r : List Word} → 0 < length a → Every Numeral a → Sound a → hearDigits a ≡ s
+    → Tail t r → Spoken (s ++ t) (a ++ r)
 unfolding spelled hearAfter
 front-spoken [] s z n o e k = absurd (omega arith)
 front-spoken (w ∷ a) s {t} {r} z n o e k = record {
@@ -73,7 +76,8 @@ front-spoken (w ∷ a) s {t} {r} z n o e k = record {
 }
 
 -- plain digits, after a minus or not
-plain-spoken : {m : List ℕ} (p : Minus m) (a : List ℕ) → plain a ≡ true → {t : List ℕ} {r : List Word} → Tail t r → Spoken (m ++ (a ++ t)) (minusWords p ++ (cardinal a ++ r))
+plain-spoken : {m : List ℕ} (p : Minus m) (a : List ℕ) → plain a ≡ true → {t : List ℕ} {r : List Word} → Tail t r
+    → Spoken (m ++ (a ++ t)) (minusWords p ++ (cardinal a ++ r))
 unfolding spelled spell hearAfter sameBy
 plain-spoken p a h {t} {r} k = let e = plain-some a h in go p (rw (e .2) (omega arith))
   where
@@ -99,16 +103,17 @@ leading-spoken s h =
     let z : 0 < length (digits s) = omega (arith, length-map (clean s) one, clean-length s k, digits-some s k) in
     rw (append-nil s, append-nil (digits s)) at (front-spoken (digits s) s z (digits-numerals s) (digits-sound s) (hear-leading s h) none)
 
-figure-spoken : {m f x : List ℕ} → Minus m → (a : List ℕ) → plain a ≡ true → Fraction f → Exponent x → Spoken (m ++ (a ++ (f ++ x))) (read (m ++ (a ++ (f ++ x))) .words)
-figure-spoken p a h t e = rw (figure-read p a h t e) (plain-spoken p a h (figure-tail t e))
+figure-spoken : (word : List ℕ → List ℕ) {m f x : List ℕ} → Minus m → (a : List ℕ) → plain a ≡ true → Fraction f → Exponent x
+    → Spoken (m ++ (a ++ (f ++ x))) (readWith word (m ++ (a ++ (f ++ x))) .words)
+figure-spoken word p a h t e = rw (figure-read word p a h t e) (plain-spoken p a h (figure-tail t e))
 
-number-spoken : (s : List ℕ) → Number s → Spoken s (read s .words)
-number-spoken n (is-figure m a f x p h t e) = figure-spoken p a h t e
-number-spoken n (is-digits s h) = go (isLeadingZeroDigits s) refl
+number-spoken : (word : List ℕ → List ℕ) (s : List ℕ) → Number s → Spoken s (readWith word s .words)
+number-spoken word n (is-figure m a f x p h t e) = figure-spoken word p a h t e
+number-spoken word n (is-digits s h) = go (isLeadingZeroDigits s) refl
   where
-    go : (b : Bool) → isLeadingZeroDigits s ≡ b → Spoken s (read s .words)
-    go true e = rw (leading-read s e) (leading-spoken s e)
-    go false e = let k : plain s ≡ true = rw (e, h) in rw (append-nil s) at (figure-spoken no-minus s k no-point no-exponent)
+    go : (b : Bool) → isLeadingZeroDigits s ≡ b → Spoken s (readWith word s .words)
+    go true e = rw (leading-read word s e) (leading-spoken s e)
+    go false e = let k : plain s ≡ true = rw (e, h) in rw (append-nil s) at (figure-spoken word no-minus s k no-point no-exponent)
 
 -- ---- how `hear` goes by these words
 
@@ -165,21 +170,18 @@ module _ {s : List ℕ} {ws : List Word} (o : Spoken s ws) where
       rw (← append-snoc (spelled ws) (bytes "per") (bytes "cent" ∷ [])) (last-word (spelled ws ++ bytes "per" ∷ []) (bytes "cent")) in
       rw (said-percent, not-lone (spelled ws ++ v) (omega (arith, o .some)), f, o .first, l, but-last (spelled ws) v, fine-known, o .heard)
 
-pub number-heeded : (s : List ℕ) → Number s → Heeded s
-number-heeded s n = let o = number-spoken s n in record { heard = hear-number o; words = fine-solid o }
+-- a number is heeded
+pub number-heeded : {word : List ℕ → List ℕ} (s : List ℕ) → Number s → HeededWith word s
+number-heeded {word} s n = let o = number-spoken word s n in record { heard = hear-number o; words = fine-solid o }
 
-percent-words : (s : List ℕ) → read (s ++ bytes "%") .words ≡ read s .words ++ perCent
-percent-words s =
-    let n = length-append s (bytes "%") in
-    let t : take (length (s ++ bytes "%") - 1) (s ++ bytes "%") ≡ s = take-at s (bytes "%") (length (s ++ bytes "%") - 1) (omega arith) in
-    let e : ends (code "%") (s ++ bytes "%") ≡ true =
-    rw (getD-at s (code "%") [] 0 (length (s ++ bytes "%") - 1) (omega arith), ne-eqb (length (s ++ bytes "%")) 0 (λ z. omega arith)) in
-    rw (percent-read (s ++ bytes "%") e, t)
+percent-words : (word : List ℕ → List ℕ) (s : List ℕ) → readWith word (s ++ bytes "%") .words ≡ readWith word s .words ++ perCent
+percent-words word s = rw (percent-with word (s ++ bytes "%") (snoc-ends (code "%") s), cut-front s (bytes "%") 1 refl)
 
-pub percent-heeded : (s : List ℕ) → Number s → Heeded (s ++ bytes "%")
+-- so is a number with one %
+pub percent-heeded : {word : List ℕ → List ℕ} (s : List ℕ) → Number s → HeededWith word (s ++ bytes "%")
 unfolding spelled spell all
-percent-heeded s n =
-    let o = number-spoken s n in
-    heeded (s ++ bytes "%") (read s .words ++ perCent) (percent-words s) (hear-percent o)
+percent-heeded {word} s n =
+    let o = number-spoken word s n in
+    heeded (s ++ bytes "%") (readWith word s .words ++ perCent) (percent-words word s) (hear-percent o)
     (rw (said-percent o)
-    (every-append (λ w. solid w ≡ true) (spelled (read s .words)) (bytes "per" ∷ bytes "cent" ∷ []) (fine-solid o) (refl, (refl, tt))))
+    (every-append (λ w. solid w ≡ true) (spelled (readWith word s .words)) (bytes "per" ∷ bytes "cent" ∷ []) (fine-solid o) (refl, (refl, tt))))

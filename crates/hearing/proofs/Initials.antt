@@ -1,6 +1,6 @@
 -- Capitals with single dots between: row 2 takes them, and they are heard from their letters. Assumes nothing.
 use mathlib.Core.Path.{_≡_, refl, ap, ap₂, _∙_}
-use mathlib.Core.Bool.{Bool, true, false, _&&_, and-eq-true-iff, not}
+use mathlib.Core.Bool.{Bool, true, _&&_, and-eq-true-iff, not}
 use mathlib.Core.List.{List, [], _∷_, map}
 use Prim.Native.Nat.{ℕ, _+_, _-_, _≤_}
 use Prim.Native.Char.{code}
@@ -8,24 +8,23 @@ use native.Mathlib.Omega.{arith}
 use lib.Dec.{eqb, leb}
 use lib.ListN.{length}
 use borrow.Author.Tests.{leb-true, eqb-true, ne-eqb}
-use Rattle.lists.specs.Bytes.{all, keep, sameBy, capital, ends}
+use Rattle.lists.specs.Bytes.{all, keep, sameBy, capital, ends, Every}
 use Rattle.lists.specs.Classes.{letter, except}
-use Rattle.lists.proofs.Scan.{all-within}
+use Rattle.lists.proofs.Scan.{all-within, apart}
+use Rattle.lists.proofs.Table.{below}
 use Rattle.shapes.specs.Shapes.{isDottedAbbrev}
 use Rattle.numerals.specs.Words.{other, spell, spelled}
-use Rattle.numerals.proofs.Every.{Every}
 use Rattle.readings.specs.Letters.{letterWord}
-use Rattle.rows.specs.Rows.{by, readStep, read}
+use Rattle.rows.specs.Rows.{by, readStep, readWith}
 use Rattle.rows.specs.declared.Row.the-variants.{Dotted}
-use Rattle.rows.proofs.Laws.{read-eq}
+use Rattle.rows.proofs.Laws.{step-eq}
 use Rattle.rows.proofs.Dotted.{letter-chars}
 use Rattle.clear.specs.Test.{capitalOrPoint}
 use Rattle.clear.proofs.Initials.{initials-test}
 use Rattle.clear.specs.Clear.{dotted}
 use Rattle.hearing.specs.Hear.{isLetterWord, capitalOf, hearInitials, hear}
-use Rattle.hearing.proofs.Told.{solid, Heeded}
+use Rattle.hearing.proofs.Told.{solid, HeededWith}
 use Rattle.hearing.proofs.Dispatch.{not-lone, heeded}
-use Rattle.hearing.proofs.Times.{tested}
 
 -- ---- capitals
 
@@ -42,16 +41,13 @@ capital-range b h = (leb-true 65 b (and-eq-true-iff (leb 65 b) (leb b 90) .0 h .
 capital-letter : (b : ℕ) → capital b ≡ true → letter b ≡ true
 capital-letter b h = rw h
 
-no-point : (b : ℕ) → capital b ≡ true → eqb b (code ".") ≡ false
-no-point b h = let r = capital-range b h in ne-eqb b 46 (λ z. omega arith)
-
 -- a capital's letter is a letter's word, and the capital is heard from it
 capital-told : (b : ℕ) → capital b ≡ true → told b ≡ true
 unfolding told letterWord sameBy all
 capital-told b h =
     let r = capital-range b h in
     let e : b - 65 + 65 ≡ b = omega arith in
-    rw e at (tested (λ k. told (k + 65)) 26 refl (b - 65) (omega arith))
+    rw e at (below (λ k. told (k + 65)) 26 refl (b - 65) (omega arith))
 
 module _ (b : ℕ) (h : capital b ≡ true) where
   is-letter : isLetterWord (initial b) ≡ true
@@ -77,9 +73,9 @@ dotted-some c (d ∷ cs) = omega arith
 
 dotted-keep : (c : ℕ) (cs : List ℕ) → all capital (c ∷ cs) ≡ true → keep (except (code ".")) (dotted c cs) ≡ c ∷ cs
 unfolding dotted keep all
-dotted-keep c [] h = rw (no-point c (and-eq-true-iff (capital c) true .0 h .0))
+dotted-keep c [] h = rw (apart capital (code ".") c refl (and-eq-true-iff (capital c) true .0 h .0))
 dotted-keep c (d ∷ cs) h =
-    rw (no-point c (and-eq-true-iff (capital c) (all capital (d ∷ cs)) .0 h .0))
+    rw (apart capital (code ".") c refl (and-eq-true-iff (capital c) (all capital (d ∷ cs)) .0 h .0))
     (ap (λ (s : List ℕ). c ∷ s) (dotted-keep d cs (and-eq-true-iff (capital c) (all capital (d ∷ cs)) .0 h .1)))
 
 -- ---- its letters
@@ -111,11 +107,19 @@ module _ (c d : ℕ) (cs : List ℕ) (h : all capital (c ∷ d ∷ cs) ≡ true)
   is-dotted : isDottedAbbrev name ≡ true
   is-dotted =
       let name-dotted = isDottedAbbrev name && not (ends (code ".") name) in
-      and-eq-true-iff (isDottedAbbrev name) (not (ends (code ".") name)) .0 (and-eq-true-iff name-dotted (all capitalOrPoint name) .0 (initials-test c d cs h) .0) .0
+      and-eq-true-iff (isDottedAbbrev name) (not (ends (code ".") name)) .0
+      (and-eq-true-iff name-dotted (all capitalOrPoint name) .0 (initials-test c d cs h) .0) .0
 
-  row : read name ≡ by Dotted (map (λ b. other (initial b)) (c ∷ d ∷ cs))
+  row : (word : List ℕ → List ℕ) → readWith word name ≡ by Dotted (map (λ b. other (initial b)) (c ∷ d ∷ cs))
   unfolding readStep
-  row = read-eq name ∙ rw (ne-eqb (length name) 0 (λ z. omega (arith, dotted-some c (d ∷ cs))), is-dotted, dotted-keep c (d ∷ cs) h, letter-chars (c ∷ d ∷ cs) capitals-letters)
+  row word =
+      step-eq word name
+      ∙ rw (
+        ne-eqb (length name) 0 (λ z. omega (arith, dotted-some c (d ∷ cs))),
+        is-dotted,
+        dotted-keep c (d ∷ cs) h,
+        letter-chars (c ∷ d ∷ cs) capitals-letters,
+      )
 
   letters-heard : hear (map initial (c ∷ d ∷ cs)) ≡ name
   unfolding hear hearInitials all
@@ -124,7 +128,9 @@ module _ (c d : ℕ) (cs : List ℕ) (h : all capital (c ∷ d ∷ cs) ≡ true)
       rw (not-lone (map initial (c ∷ d ∷ cs)) (omega arith), is-letter c p)
       (ap₂ dotted (same-capital c p) (capitals (d ∷ cs) (and-eq-true-iff (capital c) (all capital (d ∷ cs)) .0 h .1)))
 
-pub initials-heeded : (c d : ℕ) (cs : List ℕ) → all capital (c ∷ d ∷ cs) ≡ true → Heeded (dotted c (d ∷ cs))
-initials-heeded c d cs h =
+-- capitals with dots between are heeded
+pub initials-heeded : {word : List ℕ → List ℕ} (c d : ℕ) (cs : List ℕ) → all capital (c ∷ d ∷ cs) ≡ true → HeededWith word (dotted c (d ∷ cs))
+initials-heeded {word} c d cs h =
     let e = spelled-initials (c ∷ d ∷ cs) in
-    heeded (dotted c (d ∷ cs)) (map (λ b. other (initial b)) (c ∷ d ∷ cs)) (ap (λ r. r .words) (row c d cs h)) (rw e (letters-heard c d cs h)) (rw e (all-solid (c ∷ d ∷ cs) h))
+    heeded (dotted c (d ∷ cs)) (map (λ b. other (initial b)) (c ∷ d ∷ cs)) (ap (λ r. r .words) (row c d cs h word))
+    (rw e (letters-heard c d cs h)) (rw e (all-solid (c ∷ d ∷ cs) h))

@@ -1,19 +1,17 @@
 -- A call sheet whose names are heeded is heard as its entries. Assumes nothing.
 use mathlib.Core.Path.{_≡_, refl, ap, ap₂, _∙_}
 use mathlib.Core.Bool.{Bool, true, false, not, cond, _&&_, and-eq-true-iff}
-use mathlib.Core.List.{List, [], _∷_, _++_, map, append-assoc, append-nil}
+use mathlib.Core.List.{List, [], _∷_, _++_, map, append-assoc, append-nil, flatten}
 use Prim.Native.Nat.{ℕ, _-_}
 use Prim.Native.Char.{code}
 use native.Mathlib.Omega.{arith}
 use lib.Dec.{eqb}
 use lib.ListN.{length, drop, length-append}
 use lib.Seq.{take-at}
-use Rattle.lists.specs.Bytes.{bytes, all, split, onto}
+use Rattle.lists.specs.Bytes.{bytes, all, split, onto, Every}
 use Rattle.lists.specs.Classes.{except}
 use Rattle.lists.proofs.Scan.{all-append, all-within, all-span}
 use Rattle.lists.proofs.Parts.{split-last}
-use Rattle.sink.specs.Words.{storeOf}
-use Rattle.numerals.proofs.Every.{Every}
 use Rattle.sheets.specs.Sheet.{SheetEntry, wordsOf, mark, spaced, lineOf}
 use Rattle.hearing.specs.Sheets.{hearLine, hearSheet}
 use Rattle.hearing.proofs.Told.{solid, Heeded}
@@ -42,7 +40,8 @@ unfolding spaced
 words-parted w [] h =
     let k : all (except (code " ")) w ≡ true = solid-except w (h .0) .0 in
     rw append-nil (split-last (code " ") w (omega (arith, all-span (except (code " ")) w k)))
-words-parted w (v ∷ ws) h = split-at (code " ") w (v ++ spaced ws) refl (solid-except w (h .0) .0) ∙ ap (λ (vs : List (List ℕ)). w ∷ vs) (words-parted v ws (h .1))
+words-parted w (v ∷ ws) h =
+    split-at (code " ") w (v ++ spaced ws) refl (solid-except w (h .0) .0) ∙ ap (λ (vs : List (List ℕ)). w ∷ vs) (words-parted v ws (h .1))
 
 words-heard : (ws : List (List ℕ)) → Every (λ w. solid w ≡ true) ws → drop 1 (split (code " ") (spaced ws)) ≡ ws
 unfolding spaced split
@@ -64,12 +63,12 @@ bare : SheetEntry → List ℕ
 bare e = mark (e .starts) ∷ spaced (wordsOf e)
 
 -- the lines are the parts at LF, and nothing follows the last LF
-lines-parted : (es : List SheetEntry) → Every (λ (e : SheetEntry). Heeded (e .name)) es → split (code "\n") (storeOf (map lineOf es)) ≡ map bare es ++ [] ∷ []
-unfolding storeOf lineOf bare all
+lines-parted : (es : List SheetEntry) → Every (λ (e : SheetEntry). Heeded (e .name)) es → split (code "\n") (flatten (map lineOf es)) ≡ map bare es ++ [] ∷ []
+unfolding flatten lineOf bare all
 lines-parted [] h = unfold split in refl
 lines-parted (e ∷ es) h =
-    ap (λ (l : List ℕ). split (code "\n") (mark (e .starts) ∷ l)) (append-assoc (spaced (wordsOf e)) (bytes "\n") (storeOf (map lineOf es)))
-    ∙ split-at (code "\n") (bare e) (storeOf (map lineOf es)) refl (rw (mark-told (e .starts) .1) (spaced-except (wordsOf e) (h .0 .words)))
+    ap (λ (l : List ℕ). split (code "\n") (mark (e .starts) ∷ l)) (append-assoc (spaced (wordsOf e)) (bytes "\n") (flatten (map lineOf es)))
+    ∙ split-at (code "\n") (bare e) (flatten (map lineOf es)) refl (rw (mark-told (e .starts) .1) (spaced-except (wordsOf e) (h .0 .words)))
     ∙ ap (λ (ls : List (List ℕ)). bare e ∷ ls) (lines-parted es (h .1))
 
 line-heard : (e : SheetEntry) → Heeded (e .name) → hearLine (bare e) ≡ e
@@ -80,6 +79,7 @@ lines-heard : (es : List SheetEntry) → Every (λ (e : SheetEntry). Heeded (e .
 lines-heard [] h = refl
 lines-heard (e ∷ es) h = ap₂ (λ (l : SheetEntry) (ls : List SheetEntry). l ∷ ls) (line-heard e (h .0)) (lines-heard es (h .1))
 
-pub sheet-heard : (es : List SheetEntry) → Every (λ (e : SheetEntry). Heeded (e .name)) es → hearSheet (storeOf (map lineOf es)) ≡ es
+-- a call sheet is heard as its entries
+pub sheet-heard : (es : List SheetEntry) → Every (λ (e : SheetEntry). Heeded (e .name)) es → hearSheet (flatten (map lineOf es)) ≡ es
 sheet-heard es h =
     rw (lines-parted es h, take-at (map bare es) ([] ∷ []) (length (map bare es ++ [] ∷ []) - 1) (simp length-append (omega arith))) (lines-heard es h)

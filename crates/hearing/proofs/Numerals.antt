@@ -7,22 +7,23 @@ use Prim.Native.Nat.{ℕ, zero, suc, _+_, _≤_, _<_}
 use Prim.Native.Char.{code}
 use native.Mathlib.Nat.{suc-add, zero-add}
 use native.Mathlib.Omega.{arith}
-use lib.Dec.{leb, ltb, eqb, eqb→eq}
-use lib.ListN.{length, take, drop, getD, length-take, length-drop, length-map}
-use borrow.Author.Tests.{lt-ltb, le-leb, lt-leb, ltb-true}
-use Rattle.lists.specs.Bytes.{same, starts}
-use Rattle.lists.proofs.Recursion.{recur-induct, cond-elim}
+use lib.Dec.{ltb, eqb}
+use lib.ListN.{length, getD, length-map}
+use borrow.Author.Tests.{lt-ltb, le-leb, lt-leb, ltb-true, eqb-true}
+use Rattle.lists.specs.Bytes.{same, starts, Every, all}
+use Rattle.lists.proofs.Recursion.{cond-elim}
 use Rattle.lists.proofs.Sets.{le-or-lt}
 use Rattle.lists.proofs.Table.{below}
+use Rattle.lists.proofs.Every.{every-append, every-take, every-drop, every-map}
+use Rattle.lists.proofs.Scan.{all-at}
 use Rattle.lexicon.proofs.Laws.{lexicon}
 use Rattle.units.specs.Units.{before}
 use Rattle.shapes.specs.Shapes.{isDigits, isLeadingZeroDigits}
 use Rattle.numerals.specs.Words.{Word, one, teen, ten, hundred, scale, spell, spelled}
-use Rattle.numerals.specs.Cardinal.{clean, pair, scaleFor, join, splitAt, byScale, cardinalStep, cardinalFew, cardinalOf, cardinal, digits}
+use Rattle.numerals.specs.Cardinal.{clean, pair, scaleFor, join, cardinalFew, cardinalOf, cardinal, digits}
 use Rattle.numerals.specs.Value.{value, valueFrom}
-use Rattle.numerals.proofs.Cardinal.{split-parts, cardinal-1}
-use Rattle.numerals.proofs.Every.{Every, every-append, every-take, every-drop, every-map}
-use Rattle.numerals.proofs.Forms.{Digits, clean-digits}
+use Rattle.numerals.proofs.Cardinal.{few-induct, cardinal-1}
+use Rattle.numerals.proofs.Forms.{Says, ones-every, cardinal-every, Digits, clean-digits}
 use Rattle.numerals.proofs.Value.{cardinal-names}
 use Rattle.clear.specs.Clear.{plain}
 use Rattle.hearing.specs.Hear.{counted, vocabulary, knowIn, know, known, shown, digitOf, isOne, twoOnes, hearDigits}
@@ -33,19 +34,9 @@ use Rattle.hearing.proofs.Shown.{plain-values, shown-plain, clean-lengt
 abbrev pub Numeral : Word → Type 0
 Numeral w = (k : ℕ) × (k < length vocabulary) × (w ≡ getD vocabulary k hundred)
 
--- every word of a list passes p
-abbrev pub allWords : (Word → Bool) → List Word → Bool
-allWords p [] = true
-allWords p (w ∷ ws) = p w && allWords p ws
-
-all-at : (p : Word → Bool) (ws : List Word) (k : ℕ) → allWords p ws ≡ true → k < length ws → p (getD ws k hundred) ≡ true
-all-at p [] k h l = absurd (omega arith)
-all-at p (w ∷ ws) zero h l = and-eq-true-iff (p w) (allWords p ws) .0 h .0
-all-at p (w ∷ ws) (suc k) h l = all-at p ws k (and-eq-true-iff (p w) (allWords p ws) .0 h .1) (omega arith)
-
 -- what the vocabulary passes, each of its words passes: a computed test is a rule
-pub numeral-test : (p : Word → Bool) → allWords p vocabulary ≡ true → (w : Word) → Numeral w → p w ≡ true
-numeral-test p h w n = rw (n .2) (all-at p vocabulary (n .0) h (n .1))
+pub numeral-test : (p : Word → Bool) → all p vocabulary ≡ true → (w : Word) → Numeral w → p w ≡ true
+numeral-test p h w n = rw (n .2) (all-at p hundred vocabulary (n .0) h (n .1))
 
 -- ---- the words of a cardinal number
 
@@ -96,50 +87,17 @@ scale-in n =
     cond-elim (λ k. Numeral (scale k)) (ltb 9 n) (λ e. (31, omega arith, refl))
     (λ e. cond-elim (λ k. Numeral (scale k)) (ltb 6 n) (λ f. (30, omega arith, refl)) (λ f. (29, omega arith, refl)))
 
-pair-in : (a b : ℕ) → a < 10 → b < 10 → Every Numeral (pair a b)
-unfolding pair
-pair-in zero zero h k = tt
-pair-in zero (suc b) h k = (one-in (suc b) k, tt)
-pair-in (suc a) zero h k = (ten-in a h, tt)
-pair-in (suc zero) (suc b) h k = (teen-in b k, tt)
-pair-in (suc (suc a)) (suc b) h k = (ten-in (suc a) h, (one-in (suc b) k, tt))
-
-join-in : (l : List Word) (w : Word) (r : List Word) → Every Numeral l → Numeral w → Every Numeral r → Every Numeral (join l w r)
-unfolding join
-join-in [] w r p q h = h
-join-in (v ∷ l) w r p q h = every-append Numeral (v ∷ l) (w ∷ r) p (q, h)
-
-few-numerals : (s : List ℕ) → Digits s → Every Numeral (cardinalFew s)
-unfolding cardinalFew cardinalStep byScale
-few-numerals = recur-induct (λ s ws. Digits s → Every Numeral ws) [] cardinalStep step
-  where
-    step : (f : List ℕ → List Word) (s : List ℕ) → ((t : List ℕ) → length t < length s → Digits t → Every Numeral (f t)) → Digits s → Every Numeral (cardinalStep f s)
-    step f [] h d = tt
-    step f (a ∷ []) h d = (one-in a (d .0), tt)
-    step f (a ∷ b ∷ []) h d = pair-in a b (d .0) (d .1 .0)
-    step f (a ∷ b ∷ c ∷ []) h d =
-        cond-elim (Every Numeral) (eqb a 0) (λ e. h (b ∷ c ∷ []) (omega arith) (d .1))
-        (λ e. (one-in a (d .0), (hundred-in, pair-in b c (d .1 .0) (d .1 .1 .0))))
-    step f (a ∷ b ∷ c ∷ e ∷ s) h d =
-        let t = a ∷ b ∷ c ∷ e ∷ s in
-        let n = splitAt (length t) in
-        let p = split-parts (length t) (omega arith) in
-        join-in (f (take n t)) (scale (scaleFor (length t))) (f (drop n t))
-        (h (take n t) (omega (arith, length-take n t, p .left)) (every-take (λ d. d < 10) n t d))
-        (scale-in (length t))
-        (h (drop n t) (omega (arith, length-drop n t, p .whole, p .right)) (every-drop (λ d. d < 10) n t d))
-
-ones-numerals : (s : List ℕ) → Digits s → Every Numeral (map one s)
-ones-numerals = every-map (λ d. d < 10) Numeral one one-in
+numerals-said : Says (λ d. d < 10) Numeral
+numerals-said = record { ones = one-in; teens = teen-in; tens = ten-in; hundreds = hundred-in; scales = scale-in }
 
 -- a cardinal number has no other words, nor have digits
 pub cardinal-numerals : (s : List ℕ) → Every Numeral (cardinal s)
-unfolding cardinal cardinalOf
-cardinal-numerals s = cond-elim (Every Numeral) (leb (length (clean s)) 12) (λ e. few-numerals (clean s) (clean-digits s)) (λ e. ones-numerals (clean s) (clean-digits s))
+unfolding cardinal
+cardinal-numerals s = cardinal-every (λ d. d < 10) Numeral numerals-said (clean s) (clean-digits s)
 
 pub digits-numerals : (s : List ℕ) → Every Numeral (digits s)
 unfolding digits
-digits-numerals s = ones-numerals (clean s) (clean-digits s)
+digits-numerals s = ones-every (λ d. d < 10) Numeral numerals-said (clean s) (clean-digits s)
 
 -- ---- words that are known
 
@@ -149,7 +107,8 @@ unfolding knowIn before
 know-first [] w h = absurd (omega arith)
 know-first (v ∷ vs) w h = go (same (spell v) w) h (know-first vs w)
   where
-    go : (t : Bool) → cond t 0 (suc (before w (map spell vs))) < suc (length vs) → (before w (map spell vs) < length vs → knowIn vs w ≡ getD vs (before w (map spell vs)) hundred)
+    go : (t : Bool) → cond t 0 (suc (before w (map spell vs))) < suc (length vs)
+        → (before w (map spell vs) < length vs → knowIn vs w ≡ getD vs (before w (map spell vs)) hundred)
         → cond t v (knowIn vs w) ≡ getD (v ∷ vs) (cond t 0 (suc (before w (map spell vs)))) hundred
     go true h r = refl
     go false h r = r (omega arith)
@@ -163,7 +122,7 @@ pub numeral-known : (w : Word) → Numeral w → know (spell w) ≡ w
 unfolding first know vocabulary counted before spell lexicon
 numeral-known w n =
     let k = n .0 in
-    let e : before (spell (getD vocabulary k hundred)) (map spell vocabulary) ≡ k = eqb→eq _ _ (below first 32 tt k (n .1)) in
+    let e : before (spell (getD vocabulary k hundred)) (map spell vocabulary) ≡ k = eqb-true _ _ (below first 32 refl k (n .1)) in
     rw (n .2, know-first vocabulary (spell (getD vocabulary k hundred)) (rw e (n .1)), e)
 
 pub every-known : (ws : List Word) → Every (λ w. know (spell w) ≡ w) ws → known (spelled ws) ≡ ws
@@ -174,7 +133,7 @@ every-known (w ∷ ws) h = rw (h .0, every-known ws (h .1))
 -- ---- digits that are heard
 
 -- digit by digit
-digits-back : (d : List ℕ) → map digitOf (map one d) ≡ d
+pub digits-back : (d : List ℕ) → map digitOf (map one d) ≡ d
 unfolding digitOf
 digits-back [] = refl
 digits-back (a ∷ d) = ap (λ (r : List ℕ). a ∷ r) (digits-back d)
@@ -204,22 +163,16 @@ join-not [] k r p q = q
 join-not (v ∷ []) k r p q = and-false (isOne v)
 join-not (v ∷ u ∷ l) k r p q = p
 
-few-not : (s : List ℕ) → twoOnes (cardinalFew s) ≡ false
-unfolding cardinalFew cardinalStep byScale twoOnes digitOf
-few-not = recur-induct (λ s ws. twoOnes ws ≡ false) [] cardinalStep step
-  where
-    step : (f : List ℕ → List Word) (s : List ℕ) → ((t : List ℕ) → length t < length s → twoOnes (f t) ≡ false) → twoOnes (cardinalStep f s) ≡ false
-    step f [] h = refl
-    step f (a ∷ []) h = refl
-    step f (a ∷ b ∷ []) h = pair-not a b
-    step f (a ∷ b ∷ c ∷ []) h = cond-elim (λ (ws : List Word). twoOnes ws ≡ false) (eqb a 0) (λ e. h (b ∷ c ∷ []) (omega arith)) (λ e. and-false (ltb a 10))
-    step f (a ∷ b ∷ c ∷ e ∷ s) h =
-        let t = a ∷ b ∷ c ∷ e ∷ s in
-        let n = splitAt (length t) in
-        let p = split-parts (length t) (omega arith) in
-        join-not (f (take n t)) (scaleFor (length t)) (f (drop n t))
-        (h (take n t) (omega (arith, length-take n t, p .left)))
-        (h (drop n t) (omega (arith, length-drop n t, p .whole, p .right)))
+few-not : (s : List ℕ) → Digits s → twoOnes (cardinalFew s) ≡ false
+unfolding twoOnes digitOf
+few-not = few-induct (λ d. d < 10) (λ n ws. twoOnes ws ≡ false) (record {
+  none = refl;
+  single = λ a d. refl;
+  double = λ a b d e. pair-not a b;
+  zero-led = λ ws h. h;
+  triple = λ a b c d e f. and-false (ltb a 10);
+  joined = λ n left right l h k. join-not left (scaleFor n) right h k;
+})
 
 few : (s : List ℕ) → length (clean s) ≤ 12 → cardinal s ≡ cardinalFew (clean s)
 unfolding cardinal cardinalOf
@@ -240,6 +193,7 @@ zero-named s h l z =
     let d : 0 ∷ [] ≡ clean s = rw z at (shown-value s h l) in
     few s l ∙ rw (← d) (cardinal-1 (0 ∷ []) refl)
 
+-- more than twelve digits have a word each
 pub many-length : (s : List ℕ) → 12 < length (clean s) → length (cardinal s) ≡ length (clean s)
 unfolding digits
 many-length s l = ap length (many s l) ∙ length-map (clean s) one
@@ -264,7 +218,7 @@ pub hear-plain : (s : List ℕ) → plain s ≡ true → hearDigits (cardinal s)
 unfolding hearDigits
 hear-plain s h =
     ⊎-elim
-    (λ (l : length (clean s) ≤ 12). rw (ap twoOnes (few s l) ∙ few-not (clean s), shown-value s h l) (inked-clean s i))
+    (λ (l : length (clean s) ≤ 12). rw (ap twoOnes (few s l) ∙ few-not (clean s) (clean-digits s), shown-value s h l) (inked-clean s i))
     (λ (l : 12 < length (clean s)). ap hearDigits (many s l) ∙ hear-each s i (omega (arith, clean-length s i)))
     (le-or-lt (length (clean s)) 12)
   where

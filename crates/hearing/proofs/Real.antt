@@ -10,22 +10,18 @@ use lib.Seq.{take-append-seam, drop-append-add}
 use borrow.Author.Tests.{lt-ltb, le-ltb}
 use Rattle.lists.specs.Bytes.{bytes, all, starts}
 use Rattle.lists.specs.Classes.{digit, except, notE}
-use Rattle.lists.proofs.Scan.{all-append, all-span, all-within, span-before}
+use Rattle.lists.proofs.Scan.{all-append, all-span, all-within, span-before, apart, starts-first}
 use Rattle.shapes.specs.Shapes.{isDigits}
+use Rattle.shapes.proofs.Laws.{digits-all}
 use Rattle.numerals.specs.Words.{Word, other}
 use Rattle.numerals.specs.Cardinal.{cardinal, digits}
 use Rattle.reals.specs.Real.{pointAt, eAt, pointed, realStep, real}
-use Rattle.reals.proofs.RealLaws.{starts-cons, real-eq, real-plain}
-use Rattle.rows.proofs.Taken.{digits-all}
+use Rattle.reals.proofs.RealLaws.{real-eq, real-plain}
 use Rattle.clear.proofs.Figures.{plain-digits}
-use Rattle.clear.proofs.Cuts.{starts-digits}
-use Rattle.hearing.proofs.Suffixed.{apart}
+use Rattle.clear.proofs.Cuts.{starts-digits, digits-alone}
 use Rattle.clear.specs.Clear.{Minus, no-minus, a-minus, Fraction, no-point, a-point, ExponentSign, no-sign, plus-sign, minus-sign, Exponent, no-exponent, an-exponent}
 
 -- ---- digits
-
-pub digits-alone : (c : ℕ) (s : List ℕ) → digit c ≡ false → isDigits s ≡ true → starts c s ≡ false
-digits-alone c s n h = rw (append-nil s) at (starts-digits c s [] n h)
 
 -- digits are within each class that the other bytes of figures mark off
 digits-but : (c : ℕ) (s : List ℕ) → digit c ≡ false → all digit s ≡ true → all (except c) s ≡ true
@@ -45,18 +41,24 @@ pointed-none s h =
 pointed-some : (s f : List ℕ) → all digit s ≡ true → pointed (s ++ (bytes "." ++ f)) ≡ cardinal s ++ other (bytes "point") ∷ digits f
 unfolding pointed
 pointed-some s f h =
-    let e : pointAt (s ++ code "." ∷ f) ≡ length s = span-before (except (code ".")) s (code ".") f refl ∙ all-span (except (code ".")) s (digits-but (code ".") s refl h) in
-    rw (e, lt-ltb (length s) (length (s ++ code "." ∷ f)) (omega (arith, length-append s (code "." ∷ f))), take-append-seam s (code "." ∷ f), drop-append-add s (code "." ∷ f) 1)
+    let e : pointAt (s ++ code "." ∷ f) ≡ length s =
+    span-before (except (code ".")) s (code ".") f refl ∙ all-span (except (code ".")) s (digits-but (code ".") s refl h) in
+    rw (
+      e,
+      lt-ltb (length s) (length (s ++ code "." ∷ f)) (omega (arith, length-append s (code "." ∷ f))),
+      take-append-seam s (code "." ∷ f),
+      drop-append-add s (code "." ∷ f) 1,
+    )
 
 -- ---- `real`
 
 real-minus : (s : List ℕ) → real (bytes "-" ++ s) ≡ other (bytes "minus") ∷ real s
 unfolding realStep
-real-minus s = real-eq (code "-" ∷ s) ∙ rw (starts-cons (code "-") (code "-") s)
+real-minus s = real-eq (code "-" ∷ s) ∙ rw (starts-first (code "-") (code "-") s)
 
 real-plus : (s : List ℕ) → real (bytes "+" ++ s) ≡ other (bytes "plus") ∷ real s
 unfolding realStep
-real-plus s = real-eq (code "+" ∷ s) ∙ rw (starts-cons (code "-") (code "+") s, starts-cons (code "+") (code "+") s)
+real-plus s = real-eq (code "+" ∷ s) ∙ rw (starts-first (code "-") (code "+") s, starts-first (code "+") (code "+") s)
 
 -- neither sign leads the text
 module _ (s : List ℕ) (m : starts (code "-") s ≡ false) (p : starts (code "+") s ≡ false) (n : all notE s ≡ true) where
@@ -80,7 +82,9 @@ module _ (s : List ℕ) (m : starts (code "-") s ≡ false) (p : starts (code "+
 
 -- digits alone
 pub real-digits : (s : List ℕ) → isDigits s ≡ true → real s ≡ cardinal s
-real-digits s h = real-pointed s (digits-alone (code "-") s refl h) (digits-alone (code "+") s refl h) (digits-notE s (digits-all s h)) ∙ pointed-none s (digits-all s h)
+real-digits s h =
+    real-pointed s (digits-alone (code "-") s refl h) (digits-alone (code "+") s refl h) (digits-notE s (digits-all s h))
+    ∙ pointed-none s (digits-all s h)
 
 -- ---- the words of each part of a figure, as the part is written
 
@@ -135,7 +139,8 @@ module _ (a : List ℕ) (h : isDigits a ≡ true) where
         rw (append-assoc a f (bytes "e" ++ (g ++ x))) (starts-digits c a (f ++ (bytes "e" ++ (g ++ x))) n h) in
         ap real (sym (append-assoc a f (bytes "e" ++ (g ++ x))))
         ∙ real-e (a ++ f) (start (code "-") refl) (start (code "+") refl) notE-all (g ++ x) (whole (code "-") refl) (whole (code "+") refl)
-        ∙ rw (real-fraction, real-sign s x, real-digits x (plain-digits x k)) (append-assoc (cardinal a) (fractionWords t) (other (bytes "e") ∷ (signWords s ++ cardinal x)))
+        ∙ rw (real-fraction, real-sign s x, real-digits x (plain-digits x k))
+        (append-assoc (cardinal a) (fractionWords t) (other (bytes "e") ∷ (signWords s ++ cardinal x)))
 
 -- the words of a figure are those of its parts
 pub real-figure : {m f x : List ℕ} (p : Minus m) (a : List ℕ) → isDigits a ≡ true → (t : Fraction f) (e : Exponent x)

@@ -6,22 +6,23 @@ use Prim.Native.Nat.{ℕ, zero, suc, _+_, _-_, _*_, _≤_, _<_}
 use Prim.Native.Char.{code}
 use native.Mathlib.Nat.{suc-add, add-suc, zero-add}
 use native.Mathlib.Omega.{arith}
-use lib.Dec.{leb, eqb}
+use lib.Dec.{leb}
 use lib.ListN.{length, getD, length-map}
-use borrow.Author.Tests.{lt-ltb, le-ltb, eq-eqb, ne-eqb, leb-true, eqb-false, not-true}
+use borrow.Author.Tests.{lt-ltb, le-ltb, eq-eqb, ne-eqb, leb-true, not-true}
 use Rattle.lists.specs.Bytes.{all, keep}
 use Rattle.lists.specs.Classes.{digit}
 use Rattle.shapes.specs.Shapes.{isDigits, isLeadingZeroDigits}
+use Rattle.shapes.proofs.Laws.{digits-all, digits-some}
 use Rattle.numerals.specs.Cardinal.{clean, digitValue}
 use Rattle.numerals.specs.Value.{decimalFrom, decimal}
 use Rattle.numerals.proofs.Forms.{Digits}
 use Rattle.clear.specs.Clear.{plain}
-use Rattle.rows.proofs.Taken.{digits-all}
 use Rattle.clear.proofs.Figures.{plain-digits}
 use Rattle.hearing.specs.Hear.{inked, shown}
 
 -- ---- bytes and values
 
+-- the values of a text that is all digits
 pub clean-all : (s : List ℕ) → all digit s ≡ true → clean s ≡ map digitValue s
 unfolding clean keep all
 clean-all [] h = refl
@@ -40,13 +41,11 @@ inked-values (b ∷ s) h =
     let e = digit-least b (k .0) in
     ap₂ (λ (x : ℕ) (r : List ℕ). x ∷ r) (omega arith) (inked-values s (k .1))
 
-pub digits-some : (s : List ℕ) → isDigits s ≡ true → 0 < length s
-unfolding isDigits
-digits-some s h = let n = eqb-false (length s) 0 (not-true (eqb (length s) 0) (and-eq-true-iff (not (eqb (length s) 0)) (all digit s) .0 h .0)) in omega arith
-
+-- digits are written back as they were
 pub inked-clean : (s : List ℕ) → isDigits s ≡ true → inked (clean s) ≡ s
 inked-clean s h = ap inked (clean-all s (digits-all s h)) ∙ inked-values s (digits-all s h)
 
+-- and are as many
 pub clean-length : (s : List ℕ) → isDigits s ≡ true → length (clean s) ≡ length s
 clean-length s h = ap length (clean-all s (digits-all s h)) ∙ length-map s digitValue
 
@@ -56,13 +55,15 @@ plain-first : (b : ℕ) (r : List ℕ) → plain (b ∷ r) ≡ true → 0 < leng
 plain-first b r h l e =
     let i = plain-digits (b ∷ r) h in
     let n = not-true (isLeadingZeroDigits (b ∷ r)) (and-eq-true-iff (isDigits (b ∷ r)) (not (isLeadingZeroDigits (b ∷ r))) .0 h .1) in
-    let z : isLeadingZeroDigits (b ∷ r) ≡ true = rw (lt-ltb 1 (suc (length r)) (omega arith), ne-eqb (suc (length r)) 0 (omega arith), eq-eqb b (code "0") e, i) in
+    let z : isLeadingZeroDigits (b ∷ r) ≡ true =
+    rw (lt-ltb 1 (suc (length r)) (omega arith), ne-eqb (suc (length r)) 0 (omega arith), eq-eqb b (code "0") e, i) in
     true≢false (sym z ∙ n)
 
 -- values of digits of which the first is not 0, but for one digit
 abbrev pub PlainValues : List ℕ → Type 0
 PlainValues d = (0 < length d) × (1 < length d → 0 < getD d 0 0)
 
+-- the values of plain digits are such
 pub plain-values : (s : List ℕ) → plain s ≡ true → PlainValues (clean s)
 unfolding all
 plain-values s h = rw (clean-all s (digits-all s (plain-digits s h))) (go s h)
@@ -91,6 +92,7 @@ unfolding shown
 shown-last zero a acc h = refl
 shown-last (suc f) a acc h = rw (lt-ltb a 10 h, shown)
 
+-- a number is shown by the digits that it was read from
 pub shown-plain : (s : List ℕ) (f : ℕ) → Digits s → PlainValues s → length s ≤ suc f → shown f (decimal s) [] ≡ s
 unfolding decimal decimalFrom
 shown-plain [] f t p h = absurd (omega arith)

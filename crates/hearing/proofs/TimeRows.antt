@@ -1,6 +1,6 @@
 -- The rows that take a clear time, with am or pm or without, and what is heard of it. Assumes nothing.
 use mathlib.Core.Path.{_≡_, refl, sym, ap, _∙_}
-use mathlib.Core.Bool.{Bool, true, false, _||_, or-true}
+use mathlib.Core.Bool.{true, false, _||_, or-true}
 use mathlib.Core.List.{List, [], _∷_, _++_, append-assoc}
 use Prim.Native.Nat.{ℕ, suc, _+_, _-_}
 use Prim.Native.Char.{code}
@@ -9,47 +9,29 @@ use lib.Dec.{eqb}
 use lib.ListN.{length, take, drop, length-append}
 use lib.Seq.{take-at, drop-at, take-append-seam, drop-append-seam, drop-append-add}
 use borrow.Author.Tests.{ne-eqb, lt-ltb, le-leb}
-use Rattle.lists.specs.Bytes.{bytes, all, span, has, sameBy, lower}
+use Rattle.lists.specs.Bytes.{bytes, all, span, has, sameBy, lower, Every}
 use Rattle.lists.specs.Classes.{digit, digitOrComma, except, colonNorPoint}
-use Rattle.lists.proofs.Scan.{all-within, all-span, span-before}
-use Rattle.shapes.specs.Shapes.{isHourMinute, splitOnce, isDottedAbbrev, isCommaInt, isTime}
+use Rattle.lists.proofs.Scan.{apart}
+use Rattle.shapes.specs.Shapes.{splitOnce, isDottedAbbrev, isCommaInt, isTime}
+use Rattle.lists.proofs.Every.{every-append}
 use Rattle.shapes.specs.Times.{timeOf, separatorAt, isMeridiemTime, timeParts}
 use Rattle.numerals.specs.Words.{spell, spelled}
 use Rattle.numerals.proofs.Digits.{spelled-append}
-use Rattle.numerals.proofs.Every.{Every, every-append}
 use Rattle.readings.specs.Letters.{chars, letterWord, letters}
-use Rattle.rows.specs.Rows.{by, clock, clockLetters, readStep, read}
+use Rattle.rows.specs.Rows.{by, clock, clockLetters, readStep, readWith}
 use Rattle.rows.specs.declared.Row.the-variants.{Time, Meridiem}
-use Rattle.rows.proofs.Laws.{read-eq}
-use Rattle.rows.proofs.Taken.{outside, dottedByte, timeByte, dotted-bytes, comma-bytes, time-bytes, digits-all}
+use Rattle.rows.proofs.Laws.{step-eq}
+use Rattle.rows.proofs.Taken.{outside, dottedByte, timeByte, dotted-bytes, comma-bytes, time-bytes}
 use Rattle.clear.specs.Clear.{isHour, isMinute, HalfDay, am, pm}
-use Rattle.hearing.proofs.Told.{solid, Heeded}
-use Rattle.clear.proofs.Figures.{plain-digits}
-use Rattle.hearing.proofs.Shown.{digits-some}
-use Rattle.hearing.proofs.Suffixed.{apart}
+use Rattle.hearing.proofs.Told.{solid, HeededWith}
+use Rattle.clear.proofs.Times.{digit-colon, hour-minute, colon-at}
 use Rattle.hearing.proofs.Dispatch.{heeded}
-use Rattle.hearing.proofs.Times.{hour-parts}
 use Rattle.hearing.proofs.TimeWords.{time-told, meridiem-told, clock-solid}
 
 has-right : (c : ℕ) (a b : List ℕ) → has c b ≡ true → has c (a ++ b) ≡ true
 unfolding has
 has-right c [] b h = h
 has-right c (x ∷ a) b h = rw (has-right c a b h) (or-true (eqb x c))
-
-hour-minute : (h m : List ℕ) → isHour h ≡ true → isMinute m ≡ true → isHourMinute h m ≡ true
-unfolding isHourMinute
-hour-minute h m p q =
-    let (pl, l) = hour-parts h p in
-    let d = plain-digits h pl in
-    rw (le-leb 1 (length h) (digits-some h d), le-leb (length h) 2 l, d) q
-
--- a colon ends the hour
-colon-at : (p : ℕ → Bool) → p (code ":") ≡ false → ((b : ℕ) → digit b ≡ true → p b ≡ true) → (h t : List ℕ) → isHour h ≡ true → span p (h ++ (bytes ":" ++ t)) ≡ length h
-colon-at p c f h t k =
-    span-before p h (code ":") t c ∙ all-span p h (all-within digit p f h (digits-all h (plain-digits h (hour-parts h k .0))))
-
-no-colon : (b : ℕ) → digit b ≡ true → except (code ":") b ≡ true
-no-colon b h = rw (apart digit (code ":") b refl h)
 
 no-separator : (b : ℕ) → digit b ≡ true → colonNorPoint b ≡ true
 no-separator b h = rw (apart digit (code ":") b refl h, apart digit (code ".") b refl h)
@@ -77,14 +59,14 @@ module _ (h t : List ℕ) (p : isHour h ≡ true) where
     outside (isCommaInt name) digitOrComma (code ":") name (comma-bytes name) refl has-colon,
   )
 
-time-row : (h m : List ℕ) → isHour h ≡ true → isMinute m ≡ true → read (h ++ (bytes ":" ++ m)) ≡ by Time (clock h m)
+time-row : (word : List ℕ → List ℕ) (h m : List ℕ) → isHour h ≡ true → isMinute m ≡ true → readWith word (h ++ (bytes ":" ++ m)) ≡ by Time (clock h m)
 unfolding readStep splitOnce
-time-row h m p q =
+time-row word h m p q =
     let s = h ++ (bytes ":" ++ m) in
-    let at : span (except (code ":")) s ≡ length h = colon-at (except (code ":")) refl no-colon h m p in
+    let at : span (except (code ":")) s ≡ length h = colon-at (except (code ":")) refl digit-colon h m p in
     let n = name-length h m p in
     let (a, b, c) = first-rows h m p in
-    read-eq s
+    step-eq word s
     ∙ rw (
       a,
       b,
@@ -141,21 +123,26 @@ module _ (h m x : List ℕ) (p : isHour h ≡ true) (q : isMinute m ≡ true) (d
         lt-ltb (length h) (length time) (omega (arith, name-length h m p)),
       )
 
-  meridiem-row : read whole ≡ by Meridiem (clock h m ++ letters x)
+  meridiem-row : (word : List ℕ → List ℕ) → readWith word whole ≡ by Meridiem (clock h m ++ letters x)
   unfolding readStep timeParts clockLetters
-  meridiem-row =
+  meridiem-row word =
       let (a, b, c) = first-rows h (m ++ x) p in
       let e =
       outside (isTime whole) timeByte (code "m") whole (time-bytes whole) refl
       (has-right (code "m") h (bytes ":" ++ (m ++ x)) (has-right (code "m") (bytes ":" ++ m) x (half-day x d .2))) in
-      read-eq whole ∙ rw (a, b, c, e, is-meridiem, front, back, at, take-append-seam h (bytes ":" ++ m), past-byte h 58 m)
+      step-eq word whole ∙ rw (a, b, c, e, is-meridiem, front, back, at, take-append-seam h (bytes ":" ++ m), past-byte h 58 m)
 
 -- ---- what is heard
 
-pub time-heeded : (h m : List ℕ) → isHour h ≡ true → isMinute m ≡ true → (m ≡ bytes "00" → ⊥) → Heeded (h ++ (bytes ":" ++ m))
-time-heeded h m p q n = heeded (h ++ (bytes ":" ++ m)) (clock h m) (ap (λ r. r .words) (time-row h m p q)) (time-told h m q p n) (clock-solid h m q)
+-- a time that is not on the hour is heeded
+pub time-heeded : {word : List ℕ → List ℕ} (h m : List ℕ) → isHour h ≡ true → isMinute m ≡ true → (m ≡ bytes "00" → ⊥) → HeededWith word (h ++ (bytes ":" ++ m))
+time-heeded {word} h m p q n =
+    heeded (h ++ (bytes ":" ++ m)) (clock h m) (ap (λ r. r .words) (time-row word h m p q)) (time-told h m q p n) (clock-solid h m q)
 
-pub meridiem-heeded : (h m x : List ℕ) → isHour h ≡ true → isMinute m ≡ true → HalfDay x → Heeded (h ++ (bytes ":" ++ (m ++ x)))
-meridiem-heeded h m x p q d =
-    heeded (h ++ (bytes ":" ++ (m ++ x))) (clock h m ++ letters x) (ap (λ r. r .words) (meridiem-row h m x p q d)) (meridiem-told h m q p x d)
-    (rw (spelled-append (clock h m) (letters x)) (every-append (λ w. solid w ≡ true) (spelled (clock h m)) (spelled (letters x)) (clock-solid h m q) (half-day x d .3)))
+-- so is every time with am or pm
+pub meridiem-heeded : {word : List ℕ → List ℕ} (h m x : List ℕ) → isHour h ≡ true → isMinute m ≡ true → HalfDay x
+    → HeededWith word (h ++ (bytes ":" ++ (m ++ x)))
+meridiem-heeded {word} h m x p q d =
+    heeded (h ++ (bytes ":" ++ (m ++ x))) (clock h m ++ letters x) (ap (λ r. r .words) (meridiem-row h m x p q d word)) (meridiem-told h m q p x d)
+    (rw (spelled-append (clock h m) (letters x))
+    (every-append (λ w. solid w ≡ true) (spelled (clock h m)) (spelled (letters x)) (clock-solid h m q) (half-day x d .3)))

@@ -10,8 +10,9 @@ use lib.Dec.{eqb}
 use lib.ListN.{length, getD, length-map, length-append, List·getD-append}
 use lib.Seq.{getD-append-seam, getD-append-add}
 use borrow.Author.Tests.{eqb-true, not-true}
-use Rattle.lists.specs.Bytes.{bytes, same, sameBy, all}
+use Rattle.lists.specs.Bytes.{bytes, same, sameBy, all, any, Every}
 use Rattle.lists.proofs.Recursion.{cond-elim}
+use Rattle.lists.proofs.Every.{every-append, every-map, every-imply}
 use Rattle.lexicon.specs.Lexicon.{ordinals}
 use Rattle.lexicon.proofs.Laws.{lexicon}
 use Rattle.units.specs.Units.{unitAbbreviations, unitWords, before}
@@ -19,18 +20,18 @@ use Rattle.numerals.specs.Words.{Word, one, other, spell, spelled}
 use Rattle.numerals.specs.Cardinal.{clean, pair, cardinalOf, cardinal, digits}
 use Rattle.numerals.proofs.Digits.{spelled-append}
 use Rattle.numerals.proofs.Cardinal.{cardinal-2}
-use Rattle.numerals.proofs.Every.{Every, every-append, every-map, every-imply}
 use Rattle.years.specs.Year.{yearOf, year}
 use Rattle.readings.specs.Letters.{chars, letterWord, letters}
 use Rattle.years.proofs.YearLaws.{year-two}
 use Rattle.rows.specs.Rows.{clock}
 use Rattle.clear.specs.Clear.{isHour, isMinute, HalfDay, am, pm, listed}
-use Rattle.hearing.specs.Hear.{counted, vocabulary, know, knowIn, known, firstWord, lastWord, isLetterWord, allSmall, anyLate, timeLike, hearTime, hear}
+use Rattle.clear.proofs.Times.{hour-parts}
+use Rattle.hearing.specs.Hear.{counted, vocabulary, know, knowIn, known, firstWord, lastWord, isLetterWord, isLate, timeLike, hearTime, hear, isSmall}
 use Rattle.hearing.proofs.Told.{solid}
 use Rattle.hearing.proofs.Shown.{clean-length}
-use Rattle.hearing.proofs.Numerals.{Numeral, allWords, numeral-test, cardinal-numerals, digits-numerals, numeral-known, every-known, plain-some}
+use Rattle.hearing.proofs.Numerals.{Numeral, numeral-test, cardinal-numerals, digits-numerals, numeral-known, every-known, plain-some}
 use Rattle.hearing.proofs.Dispatch.{every-at, not-lone, but-last}
-use Rattle.hearing.proofs.Times.{hour-parts, minute-parts, time-like, time-heard}
+use Rattle.hearing.proofs.Times.{minute-parts, time-like, time-heard}
 
 abbrev oh : Word
 oh = other (bytes "oh")
@@ -39,7 +40,7 @@ oh = other (bytes "oh")
 abbrev TimeWord : Word → Type 0
 TimeWord w = Numeral w ⊎ (w ≡ oh)
 
-time-test : (p : Word → Bool) → allWords p vocabulary ≡ true → p oh ≡ true → (w : Word) → TimeWord w → p w ≡ true
+time-test : (p : Word → Bool) → all p vocabulary ≡ true → p oh ≡ true → (w : Word) → TimeWord w → p w ≡ true
 time-test p h k w = ⊎-elim (λ (n : Numeral w). numeral-test p h w n) (λ (e : w ≡ oh). ap p e ∙ k)
 
 -- the words of a year of two digits
@@ -60,9 +61,9 @@ unfolding spelled
 spelled-length ws = length-map ws spell
 
 two-words : (ws : List Word) → timeLike ws ≡ true → 2 ≤ length ws
-unfolding anyLate
-two-words [] t = absurd (false≢true (and-eq-true-iff (allSmall []) false .0 t .1))
-two-words (w ∷ []) t = absurd (false≢true (and-eq-true-iff (allSmall (w ∷ [])) false .0 t .1))
+unfolding any
+two-words [] t = absurd (false≢true (and-eq-true-iff (all isSmall []) false .0 t .1))
+two-words (w ∷ []) t = absurd (false≢true (and-eq-true-iff (all isSmall (w ∷ [])) false .0 t .1))
 two-words (w ∷ v ∷ ws) t = omega arith
 
 minute-words : (m : List ℕ) → isMinute m ≡ true → Every TimeWord (year m)
@@ -85,16 +86,19 @@ module _ (ws : List (List ℕ)) (y : List ℕ) where
   more-length : length more ≡ length ws + 2
   more-length = length-append ws (y ∷ bytes "m" ∷ [])
 
-  hear-half : 1 ≤ length ws → isLetterWord (firstWord ws) ≡ false → hear more ≡ hearTime (known ws) ++ ((cond (same y (bytes "p")) (code "p") (code "a") ∷ []) ++ bytes "m")
+  hear-half : 1 ≤ length ws → isLetterWord (firstWord ws) ≡ false
+      → hear more ≡ hearTime (known ws) ++ ((cond (same y (bytes "p")) (code "p") (code "a") ∷ []) ++ bytes "m")
   unfolding hear sameBy
   hear-half l f =
       let first : firstWord more ≡ firstWord ws = List·getD-append ws (y ∷ bytes "m" ∷ []) [] 0 l in
       let last : lastWord more ≡ bytes "m" = ap (λ k. getD more k []) (let e = more-length in omega arith) ∙ getD-append-add ws (y ∷ bytes "m" ∷ []) 1 [] in
-      let next : getD more (length more - 2) [] ≡ y = ap (λ k. getD more k []) (let e = more-length in omega arith) ∙ getD-append-seam ws y (bytes "m" ∷ []) [] in
+      let next : getD more (length more - 2) [] ≡ y =
+      ap (λ k. getD more k []) (let e = more-length in omega arith) ∙ getD-append-seam ws y (bytes "m" ∷ []) [] in
       rw (not-lone more (let e = more-length in omega arith), first, f, last, next, but-last ws (y ∷ bytes "m" ∷ []))
 
 -- what "am" and "pm" are read as
-half-letters : (x : List ℕ) → HalfDay x → (y : List ℕ) × (spelled (letters x) ≡ y ∷ bytes "m" ∷ []) × ((cond (same y (bytes "p")) (code "p") (code "a") ∷ []) ++ bytes "m" ≡ x)
+half-letters : (x : List ℕ) → HalfDay x
+    → (y : List ℕ) × (spelled (letters x) ≡ y ∷ bytes "m" ∷ []) × ((cond (same y (bytes "p")) (code "p") (code "a") ∷ []) ++ bytes "m" ≡ x)
 unfolding letters letterWord chars spelled spell sameBy
 half-letters x am = (bytes "_a", refl, refl)
 half-letters x pm = (bytes "p", refl, refl)
@@ -103,11 +107,12 @@ module _ (h m : List ℕ) (q : isMinute m ≡ true) where
   clock-words : Every TimeWord (clock h m)
   unfolding clock
   clock-words =
-      every-append TimeWord (cardinal h) (cond (same m (bytes "00")) [] (year m)) (every-imply Numeral TimeWord (λ w n. inl n) (cardinal h) (cardinal-numerals h))
+      every-append TimeWord (cardinal h) (cond (same m (bytes "00")) [] (year m))
+      (every-imply Numeral TimeWord (λ w n. inl n) (cardinal h) (cardinal-numerals h))
       (cond-elim (Every TimeWord) (same m (bytes "00")) (λ e. tt) (λ e. minute-words m q))
 
   -- a test of their spelling
-  clock-test : (p : List ℕ → Bool) → allWords (λ w. p (spell w)) vocabulary ≡ true → p (bytes "oh") ≡ true → Every (λ w. p w ≡ true) (spelled (clock h m))
+  clock-test : (p : List ℕ → Bool) → all (λ w. p (spell w)) vocabulary ≡ true → p (bytes "oh") ≡ true → Every (λ w. p w ≡ true) (spelled (clock h m))
   unfolding spelled spell
   clock-test p a b = every-map TimeWord (λ w. p w ≡ true) spell (time-test (λ w. p (spell w)) a b) (clock h m) clock-words
 
@@ -123,7 +128,7 @@ module _ (h m : List ℕ) (q : isMinute m ≡ true) where
   clock-solid = clock-test solid refl refl
 
   -- each of them fails a test that the vocabulary fails
-  clock-fails : (p : List ℕ → Bool) → allWords (λ w. not (p (spell w))) vocabulary ≡ true → not (p (bytes "oh")) ≡ true → (i : ℕ)
+  clock-fails : (p : List ℕ → Bool) → all (λ w. not (p (spell w))) vocabulary ≡ true → not (p (bytes "oh")) ≡ true → (i : ℕ)
       → i < length (clock h m) → p (getD (spelled (clock h m)) i []) ≡ false
   clock-fails p a b i l =
       not-true (p (getD (spelled (clock h m)) i []))
@@ -132,7 +137,7 @@ module _ (h m : List ℕ) (q : isMinute m ≡ true) where
   -- with a minute the words are told as a time
   module _ (p : isHour h ≡ true) (n : m ≡ bytes "00" → ⊥) where
     pub time-told : hear (spelled (clock h m)) ≡ h ++ (bytes ":" ++ m)
-    unfolding hear vocabulary counted spell lexicon unitAbbreviations unitWords before
+    unfolding hear vocabulary counted spell lexicon unitAbbreviations unitWords before all
     time-told =
         let ws = spelled (clock h m) in
         let t : timeLike (clock h m) ≡ true = time-like h m p q n in
@@ -153,7 +158,7 @@ module _ (h m : List ℕ) (q : isMinute m ≡ true) where
 
   -- and before "_a" or "p" and "m" with or without one
   pub meridiem-told : isHour h ≡ true → (x : List ℕ) → HalfDay x → hear (spelled (clock h m ++ letters x)) ≡ h ++ (bytes ":" ++ (m ++ x))
-  unfolding vocabulary counted spell lexicon
+  unfolding vocabulary counted spell lexicon all
   meridiem-told p x d =
       let ws = spelled (clock h m) in
       let l : 1 ≤ length (clock h m) = some-clock h m p in

@@ -4,38 +4,30 @@ use mathlib.Core.Bool.{Bool, true, false, cond, not, _&&_, and-false, and-eq-tru
 use mathlib.Core.List.{List, [], _∷_, _++_, map}
 use Prim.Native.Nat.{ℕ, _+_, _-_, _*_, _/_, _%_, _≤_, _<_}
 use native.Mathlib.Omega.{arith}
-use lib.Dec.{T, ltb, leb, eqb}
+use lib.Dec.{ltb, leb, eqb}
 use lib.ListN.{length, getD}
 use borrow.Author.Tests.{leb-true, eqb-true, not-true}
-use Rattle.lists.specs.Bytes.{bytes, same, sameBy, keep}
+use Rattle.lists.specs.Bytes.{bytes, same, sameBy, keep, all, any}
 use Rattle.lists.specs.Recur.{recur, recurAt}
 use Rattle.lists.proofs.Table.{upto, below}
+use Rattle.lists.proofs.Scan.{all-append}
 use Rattle.shapes.specs.Shapes.{isDigits, isNDigits}
+use Rattle.shapes.proofs.Laws.{digits-all}
 use Rattle.numerals.specs.Words.{Word}
 use Rattle.numerals.specs.Cardinal.{digitValue, clean, pair, join, byScale, cardinalStep, cardinalFew, cardinalOf, cardinal}
 use Rattle.numerals.specs.Value.{decimalFrom, decimal}
 use Rattle.years.specs.Year.{yearStep, yearOf, year}
 use Rattle.rows.specs.Rows.{clock}
-use Rattle.clear.specs.Clear.{plain, isHour, isMinute}
+use Rattle.clear.specs.Clear.{isHour, isMinute}
 use Rattle.numerals.proofs.Forms.{Digits, clean-digits}
-use Rattle.hearing.specs.Hear.{inked, shown, digitOf, isOne, smallValue, allSmall, anyLate, timeLike, hearMinute, hearTime, timeText}
-use Rattle.rows.proofs.Taken.{digits-all}
+use Rattle.hearing.specs.Hear.{inked, shown, digitOf, isOne, smallValue, isLate, timeLike, hearMinute, hearTime, timeText, isSmall}
 use Rattle.clear.proofs.Figures.{plain-digits}
+use Rattle.clear.proofs.Times.{hour-parts}
 use Rattle.hearing.proofs.Shown.{clean-all, inked-clean, clean-length, plain-values, shown-plain}
-
--- a test that passes at each number below n passes at one of them
-pub tested : (f : ℕ → Bool) (n : ℕ) → upto f n ≡ true → (k : ℕ) → k < n → f k ≡ true
-tested f n e k h = passed (f k) (below f n (rw e tt) k h)
-  where
-    passed : (b : Bool) → T b → b ≡ true
-    passed true t = refl
-    passed false t = absurd t
 
 -- ---- hours and minutes as numbers
 
-pub hour-parts : (h : List ℕ) → isHour h ≡ true → (plain h ≡ true) × (length h ≤ 2)
-hour-parts h e = ((and-eq-true-iff (plain h) (leb (length h) 2) .0 e .0), leb-true (length h) 2 (and-eq-true-iff (plain h) (leb (length h) 2) .0 e .1))
-
+-- a minute has two digits, the first at most 5
 pub minute-parts : (m : List ℕ) → isMinute m ≡ true → (isDigits m ≡ true) × (length m ≡ 2) × (getD m 0 0 ≤ 53)
 minute-parts m e =
     let p : isNDigits 2 m ≡ true = and-eq-true-iff (isNDigits 2 m) (leb (getD m 0 0) 53) .0 e .0 in (
@@ -92,7 +84,7 @@ isHourOf k (w ∷ v ∷ []) = (ltb 19 (smallValue w) && (ltb 0 (digitOf v) && is
 isHourOf k (w ∷ v ∷ u ∷ ws) = false
 
 abbrev hourly : ℕ → List Word → Bool
-hourly k ws = allSmall ws && isHourOf k ws
+hourly k ws = all isSmall ws && isHourOf k ws
 
 -- small words: none, or the first is none of ONES, that are the minute k
 unfoldable isMinuteOf : ℕ → List Word → Bool
@@ -100,28 +92,28 @@ isMinuteOf k [] = eqb 0 k
 isMinuteOf k (v ∷ ws) = not (isOne v) && eqb (hearMinute (v ∷ ws)) k
 
 abbrev minutely : ℕ → List Word → Bool
-minutely k ws = allSmall ws && isMinuteOf k ws
+minutely k ws = all isSmall ws && isMinuteOf k ws
 
 abbrev minuteWords : List ℕ → List Word
 minuteWords m = cond (same m (bytes "00")) [] (year m)
 
 hours : upto (λ k. hourly k (cardinal (hourBytes k))) 100 ≡ true
-unfolding isHourOf inked shown clean keep pair join byScale cardinalStep cardinalFew cardinalOf cardinal recur recurAt smallValue digitOf allSmall
+unfolding isHourOf inked shown clean keep pair join byScale cardinalStep cardinalFew cardinalOf cardinal recur recurAt smallValue digitOf all
 hours = refl
 
 minutes : upto (λ k. minutely k (minuteWords (minuteBytes k))) 60 ≡ true
-unfolding isMinuteOf sameBy inked clean keep pair cardinalStep cardinalFew cardinalOf recur recurAt yearStep yearOf year hearMinute smallValue digitOf allSmall
+unfolding isMinuteOf sameBy inked clean keep pair cardinalStep cardinalFew cardinalOf recur recurAt yearStep yearOf year hearMinute smallValue digitOf all
 minutes = refl
 
 hour-words : (h : List ℕ) → isHour h ≡ true → (k : ℕ) × (h ≡ hourBytes k) × (hourly k (cardinal h) ≡ true)
 hour-words h p =
     let (k, l, e) = hour-number h p in
-    (k, e, ap (λ s. hourly k (cardinal s)) e ∙ tested (λ k. hourly k (cardinal (hourBytes k))) 100 hours k l)
+    (k, e, ap (λ s. hourly k (cardinal s)) e ∙ below (λ k. hourly k (cardinal (hourBytes k))) 100 hours k l)
 
 minute-words : (m : List ℕ) → isMinute m ≡ true → (k : ℕ) × (m ≡ minuteBytes k) × (minutely k (minuteWords m) ≡ true)
 minute-words m p =
     let (k, l, e) = minute-number m p in
-    (k, e, ap (λ s. minutely k (minuteWords s)) e ∙ tested (λ k. minutely k (minuteWords (minuteBytes k))) 60 minutes k l)
+    (k, e, ap (λ s. minutely k (minuteWords s)) e ∙ below (λ k. minutely k (minuteWords (minuteBytes k))) 60 minutes k l)
 
 -- ---- a time is heard
 
@@ -148,32 +140,27 @@ heard h m (w ∷ v ∷ []) vs p q =
     rw o (ap₂ timeText e (minute-heard m vs q))
 heard h m (w ∷ v ∷ u ∷ ws) vs p q = absurd (false≢true p)
 
-small-append : (ws vs : List Word) → allSmall ws ≡ true → allSmall vs ≡ true → allSmall (ws ++ vs) ≡ true
-unfolding allSmall
-small-append [] vs p q = q
-small-append (w ∷ ws) vs p q =
-    rw (and-eq-true-iff (ltb (smallValue w) 100) (allSmall ws) .0 p .0)
-    (small-append ws vs (and-eq-true-iff (ltb (smallValue w) 100) (allSmall ws) .0 p .1) q)
-
-late-append : (ws vs : List Word) → anyLate vs ≡ true → anyLate (ws ++ vs) ≡ true
-unfolding anyLate
+late-append : (ws vs : List Word) → any isLate vs ≡ true → any isLate (ws ++ vs) ≡ true
+unfolding any
 late-append [] vs q = q
 late-append (w ∷ ws) vs q = rw (late-append ws vs q) (or-true (ltb (smallValue w) 100 && not (isOne w)))
 
 -- with a minute there are two words, and they are a time's
-late : (m : ℕ) (vs : List Word) → minutely m vs ≡ true → (m ≡ 0 → ⊥) → anyLate vs ≡ true
-unfolding isMinuteOf allSmall anyLate
+late : (m : ℕ) (vs : List Word) → minutely m vs ≡ true → (m ≡ 0 → ⊥) → any isLate vs ≡ true
+unfolding isMinuteOf all any
 late m [] q n = absurd (n (sym (eqb-true 0 m q)))
 late m (v ∷ vs) q n =
-    let s = and-eq-true-iff (ltb (smallValue v) 100) (allSmall vs) .0 (and-eq-true-iff (allSmall (v ∷ vs)) _ .0 q .0) .0 in
-    let o = and-eq-true-iff (not (isOne v)) _ .0 (and-eq-true-iff (allSmall (v ∷ vs)) _ .0 q .1) .0 in
+    let s = and-eq-true-iff (ltb (smallValue v) 100) (all isSmall vs) .0 (and-eq-true-iff (all isSmall (v ∷ vs)) _ .0 q .0) .0 in
+    let o = and-eq-true-iff (not (isOne v)) _ .0 (and-eq-true-iff (all isSmall (v ∷ vs)) _ .0 q .1) .0 in
     rw (s, o)
 
 like : (h m : ℕ) (ws vs : List Word) → hourly h ws ≡ true → minutely m vs ≡ true → (m ≡ 0 → ⊥) → timeLike (ws ++ vs) ≡ true
-unfolding isHourOf allSmall
+unfolding isHourOf all
 like h m [] vs p q n = absurd (false≢true p)
 like h m (w ∷ ws) vs p q n =
-    let s = small-append (w ∷ ws) vs (and-eq-true-iff (allSmall (w ∷ ws)) _ .0 p .0) (and-eq-true-iff (allSmall vs) _ .0 q .0) in
+    let x = and-eq-true-iff (all isSmall (w ∷ ws)) _ .0 p .0 in
+    let y = and-eq-true-iff (all isSmall vs) _ .0 q .0 in
+    let s : all isSmall (w ∷ ws ++ vs) ≡ true = all-append isSmall (w ∷ ws) vs ∙ rw (x, y) in
     rw (s, late-append ws vs (late m vs q n))
 
 module _ (h m : List ℕ) (p : isHour h ≡ true) (q : isMinute m ≡ true) where
@@ -182,7 +169,7 @@ module _ (h m : List ℕ) (p : isHour h ≡ true) (q : isMinute m ≡ true) wher
   time-heard =
       let (k, e, hs) = hour-words h p in
       let (i, f, ms) = minute-words m q in
-      heard k i (cardinal h) (minuteWords m) (and-eq-true-iff (allSmall (cardinal h)) _ .0 hs .1) (and-eq-true-iff (allSmall (minuteWords m)) _ .0 ms .1)
+      heard k i (cardinal h) (minuteWords m) (and-eq-true-iff (all isSmall (cardinal h)) _ .0 hs .1) (and-eq-true-iff (all isSmall (minuteWords m)) _ .0 ms .1)
       ∙ ap₂ (λ x y. x ++ (bytes ":" ++ y)) (sym e) (sym f)
 
   pub time-like : (m ≡ bytes "00" → ⊥) → timeLike (clock h m) ≡ true

@@ -5,7 +5,7 @@ use Prim.Native.Nat.{ℕ, zero, suc, _+_, _-_, _*_, _/_, _%_}
 use Prim.Native.Char.{code}
 use lib.Dec.{ltb, eqb}
 use lib.ListN.{length, take, drop, getD}
-use Rattle.lists.specs.Bytes.{bytes, same, small}
+use Rattle.lists.specs.Bytes.{bytes, all, any, same, small}
 use Rattle.lexicon.specs.Lexicon.{cardinals, ordinals}
 use Rattle.units.specs.Units.{abbreviations, unitWords, before}
 use Rattle.numerals.specs.Words.{Word, one, teen, ten, hundred, scale, other, spell}
@@ -124,17 +124,16 @@ smallValue hundred = 100
 smallValue (scale k) = 100
 smallValue (other w) = cond (same w (bytes "oh")) 0 100
 
-unfoldable pub allSmall : List Word → Bool
-allSmall [] = true
-allSmall (w ∷ ws) = ltb (smallValue w) 100 && allSmall ws
+-- a word of a value below 100, or "oh"
+abbrev pub isSmall : Word → Bool
+isSmall w = ltb (smallValue w) 100
 
 -- a word that only a minute has after other small words: a teen, a ten, "oh"
-unfoldable pub anyLate : List Word → Bool
-anyLate [] = false
-anyLate (w ∷ ws) = (ltb (smallValue w) 100 && not (isOne w)) || anyLate ws
+abbrev pub isLate : Word → Bool
+isLate w = isSmall w && not (isOne w)
 
 abbrev pub timeLike : List Word → Bool
-timeLike ws = allSmall ws && anyLate (drop 1 ws)
+timeLike ws = all isSmall ws && any isLate (drop 1 ws)
 
 unfoldable pub hearMinute : List Word → ℕ
 hearMinute [] = 0

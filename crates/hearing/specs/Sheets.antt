@@ -1,13 +1,13 @@
 -- Document 01, demand 3: what two sheets have in common, and the way from a call sheet back to its entries. Definitions only.
 use mathlib.Core.Path.{_≡_}
 use mathlib.Core.Bool.{true, false}
-use mathlib.Core.List.{List, [], _∷_, map}
+use mathlib.Core.List.{List, map}
 use mathlib.Core.Logic.{_↔_}
 use Prim.Native.Nat.{ℕ, _-_}
 use Prim.Native.Char.{code}
 use lib.Dec.{eqb}
 use lib.ListN.{length, take, drop, getD}
-use Rattle.lists.specs.Bytes.{split}
+use Rattle.lists.specs.Bytes.{Every, split}
 use Rattle.tokens.specs.Tokens.{Token, tokens}
 use Rattle.admit.specs.Refusals.{Call}
 use Rattle.sentences.specs.Sentences.{starts}
@@ -21,9 +21,8 @@ abbrev pub names : List ℕ → List (List ℕ)
 names s = map (λ (t : Token). t .name) (tokens s)
 
 -- "A sheet is made only of clear entries when all its names are clear; one without tokens is such a sheet too."
-unfoldable pub AllClear : List (List ℕ) → Type 0
-AllClear [] = Unit
-AllClear (n ∷ ns) = Clear n × AllClear ns
+abbrev pub AllClear : List (List ℕ) → Type 0
+AllClear = Every Clear
 
 -- "A sentence starts at the entries for which the whole-text form's definition says so.": it says so for entry k, from 0
 abbrev pub SentenceAt : List ℕ → ℕ → Type 0

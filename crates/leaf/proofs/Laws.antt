@@ -1,18 +1,17 @@
 -- What the readers of a leaf's rows answer. Assumes nothing.
 use mathlib.Core.Path.{_≡_, refl, sym, ap, _∙_}
 use mathlib.Core.Bool.{Bool, true, false, cond, not, _&&_, and-eq-true-iff, or-false}
-use mathlib.Core.List.{List, [], _∷_, _++_, map}
+use mathlib.Core.List.{List, [], _∷_, map-append}
 use Prim.Native.Nat.{ℕ, _+_, _-_, _<_}
 use Prim.Native.Char.{code}
 use lib.Dec.{eqb}
 use lib.ListN.{length, take, drop, getD}
-use lib.Seq.{drop-cons}
-use native.Mathlib.Numerals.{add-one}
 use borrow.Author.Tests.{ltb-true, eq-eqb, ne-eqb, not-true}
 use Rattle.lists.specs.Bytes.{keep, all}
 use Rattle.lists.specs.Classes.{except, letter, digitOrComma}
 use Rattle.units.specs.Units.{unitIndex, isUnit, unitWord, wordNumbers, unitAbbreviations}
 use Rattle.lists.proofs.Recursion.{cond-elim}
+use Rattle.lists.proofs.Scan.{ByParts, keep-append}
 use Rattle.units.proofs.Laws.{word-row, rows}
 use Rattle.shapes.specs.Shapes.{hasUnit, unitAt, unitPart, isDottedAbbrev}
 use Rattle.shapes.specs.Times.{parts, timeOf, separatorAt, isMeridiemTime, timeParts, timeSplit, partsOf}
@@ -32,10 +31,16 @@ use Rattle.rows.specs.declared.Row.{Row}
 
 -- a reading is said where an equal one is
 pub says-same : (g h : Reading) → g ≡ h → (σ : Sink) {τ : Sink} {q : Row} → Says h σ τ q → Says g σ τ q
-says-same g h e σ k = record { row = k .row ∙ sym (ap (λ (r : Reading). r .row) e); said = k .said ∙ sym (ap (λ (r : Reading). emitAll (spelled (r .words)) σ) e) }
+says-same g h e σ k =
+    record {
+      row = k .row ∙ sym (ap (λ (r : Reading). r .row) e);
+      said =
+          k .said ∙ sym (ap (λ (r : Reading). emitAll (spelled (r .words)) σ) e);
+    }
 
 -- a row's words are said, and the row answered
-pub says-row : (g : Reading) (row : Row) (ws : List Word) → g ≡ by row ws → (σ : Sink) {τ : Sink} {q : Row} → q ≡ row → τ ≡ emitAll (spelled ws) σ → Says g σ τ q
+pub says-row : (g : Reading) (row : Row) (ws : List Word) → g ≡ by row ws → (σ : Sink) {τ : Sink} {q : Row} → q ≡ row
+    → τ ≡ emitAll (spelled ws) σ → Says g σ τ q
 says-row g row ws e σ p d = says-same g (by row ws) e σ (record { row = p; said = d })
 
 -- ---- a unit
@@ -54,7 +59,8 @@ is-unit : (s : List ℕ) → hasUnit s ≡ true → isUnit (unitPart s) ≡ true
 is-unit s e = rw e (unfold hasUnit in and-eq-true-iff (not (eqb (unitAt s) 0) && all digitOrComma (take (unitAt s) s)) (isUnit (drop (unitAt s) s)) .0 e .1)
 
 -- the lexicon's word of a unit is the unit's
-pub unit-word : (s : List ℕ) {u : List ℕ} {i k : ℕ} → u ≡ unitPart s → (length u ≡ 0 → ⊥) → i ≡ unitIndex u → k ≡ getD wordNumbers i 0 → wordOf k ≡ unitWord (unitPart s)
+pub unit-word : (s : List ℕ) {u : List ℕ} {i k : ℕ} → u ≡ unitPart s → (length u ≡ 0 → ⊥) → i ≡ unitIndex u → k ≡ getD wordNumbers i 0
+    → wordOf k ≡ unitWord (unitPart s)
 unit-word s e n p q =
     let h : unitIndex (unitPart s) < 22 = rw rows at (ltb-true (unitIndex (unitPart s)) (length unitAbbreviations) (is-unit s (unit-there s e n))) in
     rw (q, p, e) (word-row (unitIndex (unitPart s)) h)
@@ -82,25 +88,16 @@ pub split-some : (s : List ℕ) {r : TimeSplit} → r ≡ timeSplit s → {h m x
 unfolding isAt
 split-some s e n = sym (split-test s) ∙ ap isAt (sym e ∙ n)
 
-pub split-parts : (s : List ℕ) {r : TimeSplit} → partsOf r s ≡ timeParts s → {h m x : ℕ} → r ≡ At h m x → timeParts s ≡ parts (take h s) (take (x - m) (drop m s)) (drop x s)
+pub split-parts : (s : List ℕ) {r : TimeSplit} → partsOf r s ≡ timeParts s → {h m x : ℕ} → r ≡ At h m x
+    → timeParts s ≡ parts (take h s) (take (x - m) (drop m s)) (drop x s)
 split-parts s e n = sym e ∙ ap (λ (r : TimeSplit). partsOf r s) n
 
 -- ---- initials
 
-one-initial : (b : ℕ) (s : List ℕ) → initials (b ∷ s) ≡ initials (b ∷ []) ++ initials s
-unfolding initials keep
-one-initial b s = go (except (code ".") b)
-  where
-    go : (t : Bool)
-        → map (λ b. other (letterWord (b ∷ []))) (cond t (b ∷ keep (except (code ".")) s) (keep (except (code ".")) s)) ≡ map
-        (λ b. other (letterWord (b ∷ []))) (cond t (b ∷ []) []) ++ map (λ b. other (letterWord (b ∷ []))) (keep (except (code ".")) s)
-    go true = refl
-    go false = refl
-
-pub initials-at : (s : List ℕ) (i : ℕ) → i < length s → spelled (initials (drop i s)) ≡ spelled (initials (getD s i 0 ∷ [])) ++ spelled (initials (drop (i + 1) s))
-initials-at s i h =
-    ap (λ (t : List ℕ). spelled (initials t)) (drop-cons s i 0 h ∙ ap (λ (k : ℕ). getD s i 0 ∷ drop k s) (sym (add-one i)))
-    ∙ ap spelled (one-initial (getD s i 0) (drop (i + 1) s)) ∙ spelled-append (initials (getD s i 0 ∷ [])) (initials (drop (i + 1) s))
+-- the words of two texts' letters
+pub initials-append : ByParts (λ t. spelled (initials t))
+unfolding initials
+initials-append s t = rw (keep-append (except (code ".")) s t, map-append) (spelled-append _ _)
 
 pub no-initials : spelled (initials []) ≡ []
 unfolding initials keep spelled

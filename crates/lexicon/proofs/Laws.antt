@@ -1,18 +1,19 @@
 -- The rows are the words', and where the tables stand: each one test at every number, which antt computes. Assumes nothing.
-use mathlib.Core.Path.{_≡_}
+use mathlib.Core.Path.{_≡_, refl}
 use mathlib.Core.Bool.{Bool}
 use mathlib.Core.List.{List, [], _++_}
 use mathlib.Core.Logic.{⊎-elim}
 use Prim.Native.Nat.{ℕ, _+_, _<_, _≤_, _/_}
 use native.Mathlib.Omega.{arith}
-use lib.Dec.{eqb, leb, eqb→eq, leb→le}
+use lib.Dec.{eqb, leb}
 use lib.ListN.{length, getD, List·getD-eq-default}
+use borrow.Author.Tests.{eqb-true, leb-true}
 use Rattle.lists.specs.Bytes.{bytes, same, sameBy}
 use Rattle.lists.specs.LittleEndian.{leValue, leBytes}
 use Rattle.lists.specs.Packed.{pack, unpack}
 use Rattle.lists.proofs.Sets.{le-or-lt}
 use Rattle.lists.proofs.Rows.{unpack-pack}
-use Rattle.lists.proofs.Table.{below, same→≡}
+use Rattle.lists.proofs.Table.{below, same-true}
 use Rattle.lexicon.specs.Lexicon.{units, ones, teens, tens, scales, ordinalOnes, ordinalTeens, ordinalTens, ordinalScales, others, cardinals, ordinals, words, wordOf, lowOf, highOf, onesAt, ordinalStep}
 
 -- to compute all words
@@ -34,7 +35,7 @@ holds k = same (halves k) (pack (wordOf k))
 -- the two halves of a row
 pub row-halves : (k : ℕ) → halves k ≡ pack (wordOf k)
 unfolding holds lexicon
-row-halves k = ⊎-elim (λ (h : 91 ≤ k). rw (no-word k h)) (λ (h : k < 91). same→≡ _ _ (below holds 91 tt k h)) (le-or-lt 91 k)
+row-halves k = ⊎-elim (λ (h : 91 ≤ k). rw (no-word k h)) (λ (h : k < 91). same-true _ _ (below holds 91 refl k h)) (le-or-lt 91 k)
 
 cardinal : ℕ → Bool
 cardinal k = same (wordOf (onesAt + k)) (bytes (getD cardinals k ""))
@@ -42,7 +43,7 @@ cardinal k = same (wordOf (onesAt + k)) (bytes (getD cardinals k ""))
 -- the words with ordinal forms stand from `onesAt` on
 pub cardinal-word : (k : ℕ) → k < 34 → wordOf (onesAt + k) ≡ bytes (getD cardinals k "")
 unfolding cardinal lexicon
-cardinal-word k h = same→≡ _ _ (below cardinal 34 tt k h)
+cardinal-word k h = same-true _ _ (below cardinal 34 refl k h)
 
 ordinal : ℕ → Bool
 ordinal k = same (wordOf (onesAt + ordinalStep + k)) (bytes (getD ordinals k ""))
@@ -50,7 +51,7 @@ ordinal k = same (wordOf (onesAt + ordinalStep + k)) (bytes (getD ordinals k "")
 -- and their ordinal forms after them, in the same order
 pub ordinal-word : (k : ℕ) → k < 34 → wordOf (onesAt + ordinalStep + k) ≡ bytes (getD ordinals k "")
 unfolding ordinal lexicon
-ordinal-word k h = same→≡ _ _ (below ordinal 34 tt k h)
+ordinal-word k h = same-true _ _ (below ordinal 34 refl k h)
 
 abbrev lastByte : ℕ → ℕ
 lastByte k = highOf k / 0x0100_0000_0000_0000
@@ -61,7 +62,7 @@ sized k = eqb (lastByte k) (length (wordOf k))
 -- a row's last byte is the word's length
 pub high-size : (k : ℕ) → lastByte k ≡ length (wordOf k)
 unfolding sized lexicon
-high-size k = ⊎-elim (λ (h : 91 ≤ k). rw (no-word k h)) (λ (h : k < 91). eqb→eq (lastByte k) (length (wordOf k)) (below sized 91 tt k h)) (le-or-lt 91 k)
+high-size k = ⊎-elim (λ (h : 91 ≤ k). rw (no-word k h)) (λ (h : k < 91). eqb-true (lastByte k) (length (wordOf k)) (below sized 91 refl k h)) (le-or-lt 91 k)
 
 small : ℕ → Bool
 small k = leb (length (wordOf k)) 11
@@ -69,7 +70,9 @@ small k = leb (length (wordOf k)) 11
 -- no word has more than 11 bytes
 pub word-short : (k : ℕ) → length (wordOf k) ≤ 11
 unfolding small lexicon
-word-short k = ⊎-elim (λ (h : 91 ≤ k). rw (no-word k h) (omega arith)) (λ (h : k < 91). leb→le (length (wordOf k)) 11 (below small 91 tt k h)) (le-or-lt 91 k)
+word-short k =
+    ⊎-elim (λ (h : 91 ≤ k). rw (no-word k h) (omega arith)) (λ (h : k < 91). leb-true (length (wordOf k)) 11 (below small 91 refl k h))
+    (le-or-lt 91 k)
 
 -- a word's row gives it back
 pub word-row : (k : ℕ) → unpack (pack (wordOf k)) ≡ wordOf k

@@ -1,6 +1,8 @@
+pub mod Bools
 pub mod Scan
 pub mod Parts
 pub mod Sets
 pub mod Table
 pub mod Recursion
 pub mod Rows
+pub mod Every

@@ -10,7 +10,7 @@ use lib.Dec.{eqb, leb, ltb, leb·suc-suc}
 use lib.ListN.{length, take, drop}
 use lib.Seq.{take-all, take-length}
 use borrow.Author.Tests.{ltb-true, ltb-false, lt-ltb, le-leb}
-use Rattle.lists.specs.Bytes.{span, has, split, onto, allParts, filled}
+use Rattle.lists.specs.Bytes.{span, has, split, onto, all, filled}
 use Rattle.lists.specs.Classes.{except}
 use Rattle.lists.proofs.Scan.{span-le}
 
@@ -61,23 +61,23 @@ split-two c s = go (ltb (span (except c) s) (length s)) refl
     go false e = rw (split-last c s (ltb-false _ _ e))
 
 -- the first part fails
-pub parts-fail : (p : List ℕ → Bool) (c : ℕ) (s : List ℕ) → p (take (span (except c) s) s) ≡ false → allParts p (split c s) ≡ false
-unfolding allParts
+pub parts-fail : (p : List ℕ → Bool) (c : ℕ) (s : List ℕ) → p (take (span (except c) s) s) ≡ false → all p (split c s) ≡ false
+unfolding all
 parts-fail p c s f = go (ltb (span (except c) s) (length s)) refl
   where
-    go : (t : Bool) → ltb (span (except c) s) (length s) ≡ t → allParts p (split c s) ≡ false
+    go : (t : Bool) → ltb (span (except c) s) (length s) ≡ t → all p (split c s) ≡ false
     go true e = rw (split-more c s (ltb-true _ _ e), f)
     go false e = rw (split-last c s (ltb-false _ _ e), ← take-all (span (except c) s) s (ltb-false _ _ e), f)
 
 -- the first part is the last
-pub parts-end : (p : List ℕ → Bool) (c : ℕ) (s : List ℕ) → p (take (span (except c) s) s) ≡ true → length s ≤ span (except c) s → allParts p (split c s) ≡ true
-unfolding allParts
+pub parts-end : (p : List ℕ → Bool) (c : ℕ) (s : List ℕ) → p (take (span (except c) s) s) ≡ true → length s ≤ span (except c) s → all p (split c s) ≡ true
+unfolding all
 parts-end p c s f h = let q : p s ≡ true = rw (take-all (span (except c) s) s h) at f in rw (split-last c s h, q)
 
 -- the first part passes, and the others decide
 pub parts-more : (p : List ℕ → Bool) (c : ℕ) (s : List ℕ) → p (take (span (except c) s) s) ≡ true → span (except c) s < length s
-    → allParts p (split c s) ≡ allParts p (split c (drop (span (except c) s + 1) s))
-unfolding allParts
+    → all p (split c s) ≡ all p (split c (drop (span (except c) s + 1) s))
+unfolding all
 parts-more p c s f h = rw (split-more c s h, f)
 
 -- whether a separator stands in the text
@@ -98,8 +98,10 @@ filled-front (suc n) [] ps h = absurd (omega arith)
 filled-front (suc n) (b ∷ s) ps h = omega arith
 
 -- the count of parts that are not empty: the first part, and the others
-pub filled-more : (c : ℕ) (s : List ℕ) (n : ℕ) → n ≡ span (except c) s → n < length s → length (filled (split c s)) ≡ min n 1 + length (filled (split c (drop (n + 1) s)))
-filled-more c s n e h = let l : span (except c) s < length s = omega arith in rw (split-more c s l, ← e) (filled-front n s (split c (drop (n + 1) s)) (omega arith))
+pub filled-more : (c : ℕ) (s : List ℕ) (n : ℕ) → n ≡ span (except c) s → n < length s
+    → length (filled (split c s)) ≡ min n 1 + length (filled (split c (drop (n + 1) s)))
+filled-more c s n e h = let l : span (except c) s < length s = omega arith in
+    rw (split-more c s l, ← e) (filled-front n s (split c (drop (n + 1) s)) (omega arith))
 
 pub filled-end : (c : ℕ) (s : List ℕ) (n : ℕ) → n ≡ span (except c) s → length s ≤ n → length (filled (split c s)) ≡ min n 1
 unfolding filled

@@ -11,7 +11,8 @@ use Rattle.lists.specs.Recur.{recurAt, recur}
 abbrev pub Local : {A : Type 0} → ((List ℕ → A) → List ℕ → A) → Type 0
 Local {A} step = (f g : List ℕ → A) (s : List ℕ) → ((t : List ℕ) → length t < length s → f t ≡ g t) → step f s ≡ step g s
 
-enough : {A : Type 0} (b : A) (step : (List ℕ → A) → List ℕ → A) → Local step → (m n : ℕ) (s : List ℕ) → length s < m → length s < n → recurAt b step m s ≡ recurAt b step n s
+enough : {A : Type 0} (b : A) (step : (List ℕ → A) → List ℕ → A) → Local step → (m n : ℕ) (s : List ℕ) → length s < m → length s < n
+    → recurAt b step m s ≡ recurAt b step n s
 unfolding recurAt
 enough b step l zero n s h k = absurd (omega arith)
 enough b step l (suc m) zero s h k = absurd (omega arith)

@@ -1,17 +1,17 @@
 -- Laws of `all`, `span`, `count`, `keep`, `afterLast` and `sameBy` along a list, over the test, for loops that count. Assumes nothing.
 use mathlib.Core.Path.{_≡_, refl, sym, ap, _∙_}
-use mathlib.Core.Bool.{Bool, true, false, cond, _&&_, and-false, and-assoc, and-eq-true-iff, true≢false}
+use mathlib.Core.Bool.{Bool, true, false, cond, _&&_, and-false, and-assoc, and-eq-true-iff, true≢false, _||_, or-assoc}
 use mathlib.Core.List.{List, [], _∷_, _++_}
 use Prim.Native.Nat.{ℕ, zero, suc, _+_, _-_, _≤_, _<_}
 use native.Mathlib.Nat.{add-zero}
 use native.Mathlib.Numerals.{add-one}
 use native.Mathlib.Omega.{arith}
 use lib.Dec.{eqb}
-use lib.ListN.{length, take, drop, getD, length-drop, drop-of-length-le, List·getD-eq-default}
+use lib.ListN.{length, take, drop, getD, length-drop, take-append-drop, drop-of-length-le, List·getD-eq-default}
 use lib.Seq.{drop-cons, take-all, take-suc, length-take-le}
 use borrow.Author.Tests.{eqb-true, ne-eqb}
 use Rattle.lists.specs.Classes.{foundIn}
-use Rattle.lists.specs.Bytes.{all, span, count, keep, afterLast, sameBy}
+use Rattle.lists.specs.Bytes.{all, any, span, count, keep, afterLast, sameBy, starts}
 
 module _ (p : ℕ → Bool) (s : List ℕ) (i : ℕ) where
   -- what a loop keeps: the bytes before i passed
@@ -55,7 +55,8 @@ span-le p (b ∷ s) = go (p b) (span-le p s)
     go false h = omega arith
 
 -- what a count keeps: what is counted, and the count of what is left
-pub count-more : (p : ℕ → Bool) (s : List ℕ) (i n : ℕ) → i < length s → count p s ≡ n + count p (drop i s) → count p s ≡ (n + cond (p (getD s i 0)) 1 0) + count p (drop (i + 1) s)
+pub count-more : (p : ℕ → Bool) (s : List ℕ) (i n : ℕ) → i < length s → count p s ≡ n + count p (drop i s)
+    → count p s ≡ (n + cond (p (getD s i 0)) 1 0) + count p (drop (i + 1) s)
 unfolding count
 count-more p s i n h e = e ∙ rw (add-one, drop-cons s i 0) (go (p (getD s i 0)))
   where
@@ -80,7 +81,8 @@ last-snoc p (y ∷ s) x = rw (last-snoc p s x) (go (p x))
     go false = refl
 
 -- what a scan from the end keeps: the first i bytes and the byte before i
-pub last-more : (p : ℕ → Bool) (s : List ℕ) (i : ℕ) → 0 < i → i ≤ length s → afterLast p (take i s) ≡ cond (p (getD s (i - 1) 0)) i (afterLast p (take (i - 1) s))
+pub last-more : (p : ℕ → Bool) (s : List ℕ) (i : ℕ) → 0 < i → i ≤ length s
+    → afterLast p (take i s) ≡ cond (p (getD s (i - 1) 0)) i (afterLast p (take (i - 1) s))
 last-more p s zero z h = absurd (omega arith)
 last-more p s (suc i) z h =
     let e : length (take i s) ≡ i = length-take-le i s (omega arith) in
@@ -118,14 +120,48 @@ same-long f (x ∷ xs) (y ∷ ys) n = rw (same-long f xs ys (λ e. n (ap suc e))
 pub past : (s : List ℕ) (i : ℕ) → length s ≤ i → 0 ≡ getD s i 0
 past s i h = sym (List·getD-eq-default s 0 h)
 
+-- what f gives of a text is what it gives of its parts, one after the other
+abbrev pub ByParts : {A : Type 0} → (List ℕ → List A) → Type 0
+ByParts f = (s t : List ℕ) → f (s ++ t) ≡ f s ++ f t
+
+-- so from place i on it is what the byte there gives, and what follows that
+pub next-byte : {A : Type 0} (f : List ℕ → List A) → ByParts f → (s : List ℕ) (i : ℕ) → i < length s → f (drop i s) ≡ f (getD s i 0 ∷ []) ++ f (drop (i + 1) s)
+next-byte f e s i h = rw (add-one i) (ap f (drop-cons s i 0 h) ∙ e (getD s i 0 ∷ []) (drop (suc i) s))
+
 -- a part that runs to the end, as the borrow checker states `&s[n..]`
 pub rest : (s : List ℕ) (n : ℕ) → take (length s - n) (drop n s) ≡ drop n s
 rest s n = take-all (length s - n) (drop n s) (simp length-drop (omega arith))
 
-pub all-append : (p : ℕ → Bool) (s t : List ℕ) → all p (s ++ t) ≡ all p s && all p t
+-- two lists, one after the other
+pub all-append : {A : Type 0} (p : A → Bool) (s t : List A) → all p (s ++ t) ≡ all p s && all p t
 unfolding all
 all-append p [] t = refl
 all-append p (b ∷ s) t = rw (all-append p s t, and-assoc (p b) (all p s) (all p t))
+
+module _ (p : ℕ → Bool) (s : List ℕ) (n : ℕ) (h : all p s ≡ true) where
+  -- both parts of a text whose bytes pass
+  pub all-split : (all p (take n s) ≡ true) × (all p (drop n s) ≡ true)
+  all-split = and-eq-true-iff (all p (take n s)) (all p (drop n s)) .0 (sym (all-append p (take n s) (drop n s)) ∙ ap (all p) (take-append-drop n s) ∙ h)
+
+pub any-append : {A : Type 0} (p : A → Bool) (s t : List A) → any p (s ++ t) ≡ (any p s || any p t)
+unfolding any
+any-append p [] t = refl
+any-append p (a ∷ s) t = rw (any-append p s t, or-assoc)
+
+-- the element at a place of the list
+pub all-at : {A : Type 0} (p : A → Bool) (d : A) (s : List A) (k : ℕ) → all p s ≡ true → k < length s → p (getD s k d) ≡ true
+unfolding all
+all-at p d [] k h l = absurd (omega arith)
+all-at p d (a ∷ s) zero h l = and-eq-true-iff (p a) (all p s) .0 h .0
+all-at p d (a ∷ s) (suc k) h l = all-at p d s k (and-eq-true-iff (p a) (all p s) .0 h .1) (omega arith)
+
+-- a byte c outside a class is none of the class
+pub apart : (p : ℕ → Bool) (c b : ℕ) → p c ≡ false → p b ≡ true → eqb b c ≡ false
+apart p c b h k = ne-eqb b c (λ e. true≢false (sym k ∙ ap p e ∙ h))
+
+-- a text starts with its first byte
+pub starts-first : (c b : ℕ) (s : List ℕ) → starts c (b ∷ s) ≡ eqb b c
+starts-first c b s = rw (ne-eqb (suc (length s)) 0 (omega arith))
 
 -- the bytes that a scan passed
 pub span-all : (p : ℕ → Bool) (s : List ℕ) → all p (take (span p s) s) ≡ true
@@ -152,11 +188,11 @@ unfolding all
 all-front p z [] h = z
 all-front p z (b ∷ s) h = and-eq-true-iff (p b) (all p s) .0 h .0
 
--- a class within another
-pub all-within : (p q : ℕ → Bool) → ((b : ℕ) → p b ≡ true → q b ≡ true) → (s : List ℕ) → all p s ≡ true → all q s ≡ true
+-- a test that another follows from, such as a class within another
+pub all-within : {A : Type 0} (p q : A → Bool) → ((a : A) → p a ≡ true → q a ≡ true) → (s : List A) → all p s ≡ true → all q s ≡ true
 unfolding all
 all-within p q f [] h = refl
-all-within p q f (b ∷ s) h = let k = and-eq-true-iff (p b) (all p s) .0 h in rw (f b (k .0), all-within p q f s (k .1))
+all-within p q f (a ∷ s) h = let k = and-eq-true-iff (p a) (all p s) .0 h in rw (f a (k .0), all-within p q f s (k .1))
 
 -- a scan of those bytes passes them all again
 pub span-again : (p : ℕ → Bool) (s : List ℕ) → length (take (span p s) s) ≤ span p (take (span p s) s)
@@ -168,6 +204,16 @@ span-again p (b ∷ s) = go (p b) refl (span-again p s)
         → length (take (cond t (suc (span p s)) 0) (b ∷ s)) ≤ span p (take (cond t (suc (span p s)) 0) (b ∷ s))
     go true e h = rw e (omega arith)
     go false e h = omega arith
+
+-- the bytes of two texts that pass
+pub keep-append : (p : ℕ → Bool) (s t : List ℕ) → keep p (s ++ t) ≡ keep p s ++ keep p t
+unfolding keep
+keep-append p [] t = refl
+keep-append p (b ∷ s) t = rw (keep-append p s t) (go (p b))
+  where
+    go : (u : Bool) → cond u (b ∷ keep p s ++ keep p t) (keep p s ++ keep p t) ≡ cond u (b ∷ keep p s) (keep p s) ++ keep p t
+    go true = refl
+    go false = refl
 
 -- the bytes that pass are no more than there are
 pub keep-le : (p : ℕ → Bool) (s : List ℕ) → length (keep p s) ≤ length s
@@ -298,7 +344,8 @@ module _ (p q : ℕ → Bool) (f : (b : ℕ) → p b ≡ true → q b ≡ true) 
   span-lead [] = refl
   span-lead (b ∷ s) = go (q b) (p b) refl (f b) (span-lead s)
     where
-      go : (u t : Bool) → p b ≡ t → (t ≡ true → u ≡ true) → span p (take (span q s) s) ≡ span p s → span p (take (cond u (suc (span q s)) 0) (b ∷ s)) ≡ cond t (suc (span p s)) 0
+      go : (u t : Bool) → p b ≡ t → (t ≡ true → u ≡ true) → span p (take (span q s) s) ≡ span p s
+          → span p (take (cond u (suc (span q s)) 0) (b ∷ s)) ≡ cond t (suc (span p s)) 0
       go true true e g i = rw e (ap suc i)
       go true false e g i = rw e
       go false true e g i = absurd (true≢false (sym (g refl)))

@@ -1,12 +1,12 @@
 -- A rule of a table, proved at all of its entries by one test that antt computes. Assumes nothing.
-use mathlib.Core.Path.{_≡_, refl, sym}
-use mathlib.Core.Bool.{Bool, true, _&&_}
+use mathlib.Core.Path.{_≡_, refl, sym, ap₂}
+use mathlib.Core.Bool.{Bool, true, _&&_, and-eq-true-iff, false≢true}
 use mathlib.Core.List.{List, [], _∷_}
 use Prim.Native.Nat.{ℕ, zero, suc, _≤_, _<_}
 use native.Mathlib.Omega.{arith}
 use native.Mathlib.Decide.{decLt}
-use lib.Dec.{T, eqb, eqb→eq}
-use mir.Facts.{and-yes}
+use lib.Dec.{eqb}
+use borrow.Author.Tests.{eqb-true}
 use Rattle.lists.specs.Bytes.{same, sameBy}
 
 -- the test f passes at each number below n
@@ -14,25 +14,24 @@ abbrev pub upto : (ℕ → Bool) → ℕ → Bool
 upto f zero = true
 upto f (suc n) = f n && upto f n
 
-pub below : (f : ℕ → Bool) (n : ℕ) → T (upto f n) → (k : ℕ) → k < n → T (f k)
+-- a test that passes at each number below n passes at one of them
+pub below : (f : ℕ → Bool) (n : ℕ) → upto f n ≡ true → (k : ℕ) → k < n → f k ≡ true
 below f zero t k h = absurd (omega arith)
-below f (suc n) t k h = pick (below f n (and-yes (f n) (upto f n) t .1) k) (decLt k n)
+below f (suc n) t k h = let y = and-eq-true-iff (f n) (upto f n) .0 t in pick (below f n (y .1) k) (y .0) (decLt k n)
   where
-    pick : (k < n → T (f k)) → Dec (k < n) → T (f k)
-    pick r (yes l) = r l
-    pick r (no g) = let e : n ≡ k = omega arith in rw e at (and-yes (f n) (upto f n) t .0)
+    pick : (k < n → f k ≡ true) → f n ≡ true → Dec (k < n) → f k ≡ true
+    pick r l (yes g) = r g
+    pick r l (no g) = let e : n ≡ k = omega arith in rw e at l
 
 -- texts that pass the test of sameness are equal
-pub same→≡ : (x y : List ℕ) → T (same x y) → x ≡ y
+pub same-true : (x y : List ℕ) → same x y ≡ true → x ≡ y
 unfolding sameBy
-same→≡ [] [] t = refl
-same→≡ [] (y ∷ ys) t = absurd t
-same→≡ (x ∷ xs) [] t = absurd t
-same→≡ (x ∷ xs) (y ∷ ys) t =
-    let a = and-yes (eqb x y) (same xs ys) t in
-    let e : x ≡ y = eqb→eq x y (a .0) in
-    let r : xs ≡ ys = same→≡ xs ys (a .1) in
-    cc
+same-true [] [] t = refl
+same-true [] (y ∷ ys) t = absurd (false≢true t)
+same-true (x ∷ xs) [] t = absurd (false≢true t)
+same-true (x ∷ xs) (y ∷ ys) t =
+    let a = and-eq-true-iff (eqb x y) (same xs ys) .0 t in
+    ap₂ _∷_ (eqb-true x y (a .0)) (same-true xs ys (a .1))
 
 -- what the last arm of a `match` on k knows: k is none of the numbers below n
 abbrev pub NoneOf : ℕ → ℕ → Type 0

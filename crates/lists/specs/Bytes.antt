@@ -12,10 +12,20 @@ abbrev pub bytes : String → List ℕ
 bytes end = []
 bytes (c ▹ s) = code c ∷ bytes s
 
--- every byte passes p
-unfoldable pub all : (ℕ → Bool) → List ℕ → Bool
+-- every element passes p: each byte of a text, each part, each word
+unfoldable pub all : {A : Type 0} → (A → Bool) → List A → Bool
 all p [] = true
-all p (b ∷ s) = p b && all p s
+all p (a ∷ s) = p a && all p s
+
+-- some element passes p
+unfoldable pub any : {A : Type 0} → (A → Bool) → List A → Bool
+any p [] = false
+any p (a ∷ s) = p a || any p s
+
+-- every element has the property P
+abbrev pub Every : {A : Type 0} → (A → Type 0) → List A → Type 0
+Every P [] = Unit
+Every P (a ∷ s) = P a × Every P s
 
 -- how many bytes at the front pass p
 unfoldable pub span : (ℕ → Bool) → List ℕ → ℕ
@@ -100,11 +110,6 @@ onto b (p ∷ ps) = (b ∷ p) ∷ ps
 unfoldable pub split : ℕ → List ℕ → List (List ℕ)
 split c [] = [] ∷ []
 split c (b ∷ s) = cond (eqb b c) ([] ∷ split c s) (onto b (split c s))
-
--- every part passes p
-unfoldable pub allParts : (List ℕ → Bool) → List (List ℕ) → Bool
-allParts p [] = true
-allParts p (s ∷ ss) = p s && allParts p ss
 
 -- the parts that are not empty
 unfoldable pub filled : List (List ℕ) → List (List ℕ)

@@ -1,13 +1,13 @@
 -- How much room a reading takes at most, by the text's length. Assumes nothing.
-use mathlib.Core.Path.{_≡_, refl}
-use mathlib.Core.Bool.{Bool, true, false, _&&_}
-use mathlib.Core.List.{List}
+use mathlib.Core.Path.{_≡_}
+use mathlib.Core.Bool.{true, false, _&&_, and-eq-true-iff}
+use mathlib.Core.List.{List, flatten}
 use Prim.Native.Nat.{ℕ, _/_, _<_}
 use native.Mathlib.Omega.{arith}
 use lib.Dec.{ltb}
 use lib.ListN.{length}
 use borrow.Author.Tests.{ltb-true}
-use Rattle.sink.specs.Words.{storeOf, shortFor}
+use Rattle.sink.specs.Words.{shortFor}
 use Rattle.sink.proofs.Finish.{long-enough}
 use Rattle.numerals.specs.Words.{spelled}
 use Rattle.numerals.proofs.Room.{RoomFor, room-counts, cardinal-room, digits-room, ordinal-room}
@@ -27,16 +27,11 @@ room Digits s = omega (arith, digits-room s)
 room Real s = real-room s
 room Letters s = omega (arith, letters-room s)
 
-and-true : (a b : Bool) → (a && b) ≡ true → (a ≡ true) × (b ≡ true)
-and-true true true e = (refl, refl)
-and-true true false e = (refl, e)
-and-true false b e = (e, cc)
-
 -- what the code tests before it measures
 pub roomy-fits : (r : Reader) (s : List ℕ) (a b : ℕ) → (ltb (length s) (a / 11) && ltb (length s) (b / 16)) ≡ true
-    → shortFor (length (storeOf (spelled (wordsBy r s)))) (length (spelled (wordsBy r s))) a b ≡ false
+    → shortFor (length (flatten (spelled (wordsBy r s)))) (length (spelled (wordsBy r s))) a b ≡ false
 roomy-fits r s a b e =
-    let t = and-true (ltb (length s) (a / 11)) (ltb (length s) (b / 16)) e in
+    let t = and-eq-true-iff (ltb (length s) (a / 11)) (ltb (length s) (b / 16)) .0 e in
     let h : length s < a / 11 = ltb-true (length s) (a / 11) (t .0) in
     let k : length s < b / 16 = ltb-true (length s) (b / 16) (t .1) in
     let w = room-counts (room r s) in

@@ -1,6 +1,5 @@
 // The public functions of numbers.rs, in its order and under its names: each takes all bytes and all buffer lengths, and answers
 // its words or the one refusal that is due.
-use admit::Answer;
 use admit::Refusal;
 use admit::refusal_of;
 use numerals::number::say_cardinal;
@@ -18,7 +17,8 @@ ghost use Prim.Native.Nat.{_/_, _<_};
 ghost use lib.Dec.{ltb};
 ghost use lib.ListN.{length};
 ghost use Rattle.sink.specs.Sink.{top, sink, emitAll};
-ghost use Rattle.sink.specs.Words.{storeOf, shortFor, wordsCall, asWords};
+ghost use mathlib.Core.List.{flatten};
+ghost use Rattle.sink.specs.Words.{shortFor, wordsCall, asWords};
 ghost use Rattle.numerals.specs.Words.{spelled};
 ghost use Rattle.numerals.specs.Cardinal.{cardinal, digits};
 ghost use Rattle.numerals.specs.Ordinal.{ordinal};
@@ -73,7 +73,7 @@ fn roomy(n: usize, store: usize, table: usize) -> bool
 // Whether a buffer is too short for the words of s: they are measured by the walk that writes them, on empty buffers.
 fn too_short(reader: Reader, s: &[u8], store: usize, table: usize) -> bool
     requires { ⌜ (store < top) × (table < top) ⌝ }
-    ensures { λ r. ⌜ r ≡ shortFor (length (storeOf (spelled (wordsBy reader (now (s .entry)))))) (length (spelled (wordsBy reader (now (s .entry))))) store table ⌝ }
+    ensures { λ r. ⌜ r ≡ shortFor (length (flatten (spelled (wordsBy reader (now (s .entry)))))) (length (spelled (wordsBy reader (now (s .entry))))) store table ⌝ }
 {
     if roomy(s.len(), store, table) {
         return false;
@@ -93,8 +93,7 @@ fn speak(reader: Reader, s: &[u8], store: &mut [u8], table: &mut [u8]) -> Spoken
         return Spoken::refused(refusal);
     }
     if too_short(reader, s, store.len(), table.len()) {
-        let answer = Answer::Refused(Refusal::BufferTooShort);
-        return Spoken::refused(answer.number());
+        return Spoken::refused(Refusal::BufferTooShort.number());
     }
     say_by(reader, s, store, table, Pen::start()).spoken()
 }

@@ -7,10 +7,11 @@ use native.Mathlib.Numerals.{add-one}
 use native.Mathlib.Omega.{arith}
 use lib.Dec.{eqb}
 use lib.ListN.{length, getD, take, drop, set, length-append, drop-of-length-le}
-use lib.Seq.{drop-cons, take-suc-set, length-take-le}
+use lib.Seq.{take-suc-set, length-take-le}
 use borrow.Author.Tests.{le-leb, lt-leb, eqb-true, eqb-false}
 use Rattle.lists.specs.Bytes.{keep, afterLast}
 use Rattle.lists.specs.Classes.{digit, except}
+use Rattle.lists.proofs.Scan.{keep-append, ByParts, next-byte}
 use Rattle.numerals.specs.Words.{Word, one, spell, spelled}
 use Rattle.numerals.specs.Cardinal.{clean, digitValue, digits}
 
@@ -19,48 +20,51 @@ clean-cons : (b : ℕ) (s : List ℕ) → clean (b ∷ s) ≡ cond (digit b) (di
 unfolding clean keep
 clean-cons b s = go (digit b)
   where
-    go : (t : Bool) → map digitValue (cond t (b ∷ keep digit s) (keep digit s)) ≡ cond t (digitValue b ∷ map digitValue (keep digit s)) (map digitValue (keep digit s))
+    go : (t : Bool)
+        → map digitValue (cond t (b ∷ keep digit s) (keep digit s)) ≡ cond t (digitValue b ∷ map digitValue (keep digit s))
+        (map digitValue (keep digit s))
     go true = refl
     go false = refl
 
-pub clean-append : (s t : List ℕ) → clean (s ++ t) ≡ clean s ++ clean t
-unfolding clean keep
-clean-append [] t = refl
-clean-append (b ∷ s) t = clean-cons b (s ++ t) ∙ rw (clean-append s t, clean-cons b s) (go (digit b))
-  where
-    go : (c : Bool) → cond c (digitValue b ∷ clean s ++ clean t) (clean s ++ clean t) ≡ cond c (digitValue b ∷ clean s) (clean s) ++ clean t
-    go true = refl
-    go false = refl
+-- the digits of two texts, one after the other
+pub clean-append : ByParts clean
+unfolding clean
+clean-append s t = ap (map digitValue) (keep-append digit s t) ∙ map-append digitValue (keep digit s) (keep digit t)
 
+-- the digits from byte i on are those of this byte and those from the next on
 pub clean-at : (s : List ℕ) (i : ℕ) → i < length s → clean (drop i s) ≡ clean (getD s i 0 ∷ []) ++ clean (drop (i + 1) s)
-clean-at s i h = rw (add-one i) (ap clean (drop-cons s i 0 h) ∙ clean-append (getD s i 0 ∷ []) (drop (suc i) s))
+clean-at = next-byte clean clean-append
 
 -- the byte is a digit, or none
 pub clean-digit : (b : ℕ) → 48 ≤ b → b ≤ 57 → clean (b ∷ []) ≡ digitValue b ∷ []
 unfolding clean keep
 clean-digit b h k = rw (le-leb 48 b h, le-leb b 57 k)
 
+-- a byte below the digits
 pub clean-low : (b : ℕ) → b < 48 → clean (b ∷ []) ≡ []
 unfolding clean keep
 clean-low b h = rw (lt-leb 48 b h)
 
+-- a byte above the digits
 pub clean-high : (b : ℕ) → 48 ≤ b → 57 < b → clean (b ∷ []) ≡ []
 unfolding clean keep
 clean-high b h k = rw (le-leb 48 b h, lt-leb b 57 k)
 
+-- words one after the other are spelled so
 pub spelled-append : (ws vs : List Word) → spelled (ws ++ vs) ≡ spelled ws ++ spelled vs
 unfolding spelled
 spelled-append ws vs = map-append spell ws vs
 
--- the words of what is left are those of the byte at i and those from the next on
-pub digits-at : (s : List ℕ) (i : ℕ) → i < length s → spelled (digits (drop i s)) ≡ spelled (digits (getD s i 0 ∷ [])) ++ spelled (digits (drop (i + 1) s))
+-- the words of two texts' digits
+pub digits-append : ByParts (λ t. spelled (digits t))
 unfolding digits
-digits-at s i h = rw (clean-at s i h, map-append one (clean (getD s i 0 ∷ [])) (clean (drop (i + 1) s))) (spelled-append _ _)
+digits-append s t = rw (clean-append s t, map-append one (clean s) (clean t)) (spelled-append _ _)
 
 no-clean : clean [] ≡ []
 unfolding clean keep
 no-clean = refl
 
+-- an empty text has no digits to say
 pub no-digits : spelled (digits []) ≡ []
 unfolding digits clean keep spelled
 no-digits = refl
@@ -78,6 +82,7 @@ clean-commas (b ∷ s) = go (eqb b 44) refl (clean-commas s) ∙ sym (clean-cons
 
 -- a loop that picks digits has those before i in d
 module _ (s d : List ℕ) (n i : ℕ) (h : i < length s) (e : clean s ≡ take n d ++ clean (drop i s)) where
+  -- a byte that is no digit is passed over
   pub pick-none : clean (getD s i 0 ∷ []) ≡ [] → clean s ≡ take n d ++ clean (drop (i + 1) s)
   pick-none z = e ∙ rw (clean-at s i h, z)
 
@@ -91,6 +96,7 @@ module _ (s d : List ℕ) (n i : ℕ) (h : i < length s) (e : clean s ≡ take n
     pub pick-over : n ≤ length d → n < length (clean s)
     pick-over l = omega (arith, ap length at-digit, length-append (take n d) (digitValue (getD s i 0) ∷ clean (drop (i + 1) s)), length-take-le n d l)
 
+-- at the end all digits are picked
 pub pick-end : (s d : List ℕ) (n i : ℕ) → length s ≤ i → clean s ≡ take n d ++ clean (drop i s) → take n d ≡ clean s
 unfolding clean keep
 pick-end s d n i h e = sym (e ∙ rw (drop-of-length-le s h) (append-nil (take n d)))
@@ -108,7 +114,9 @@ last-none (b ∷ s) e = go (digit b) (eqb (afterLast digit s) 0) refl refl e (la
     go false true d z e r = clean-cons b s ∙ rw d (r (eqb-true (afterLast digit s) 0 z))
     go t false d z e r = absurd (omega arith)
 
-pub clean-last : (s : List ℕ) → (afterLast digit s ≡ 0 → ⊥) → clean s ≡ clean (take (afterLast digit s - 1) s) ++ digitValue (getD s (afterLast digit s - 1) 0) ∷ []
+-- the digits of a text end in its last one
+pub clean-last : (s : List ℕ) → (afterLast digit s ≡ 0 → ⊥)
+    → clean s ≡ clean (take (afterLast digit s - 1) s) ++ digitValue (getD s (afterLast digit s - 1) 0) ∷ []
 unfolding afterLast
 clean-last [] n = absurd (n refl)
 clean-last (b ∷ s) n = go (digit b) (eqb (afterLast digit s) 0) refl refl n (clean-last s)
@@ -120,7 +128,9 @@ clean-last (b ∷ s) n = go (digit b) (eqb (afterLast digit s) 0) refl refl n (c
         → clean (b ∷ s) ≡ clean (take (suc k - 1) (b ∷ s)) ++ digitValue (getD (b ∷ s) (suc k - 1) 0) ∷ []
     more m e r =
         let q : suc k - 1 ≡ suc m = omega arith in
-        clean-append (b ∷ []) s ∙ rw (q, r, clean-append (b ∷ []) (take m s)) (sym (append-assoc (clean (b ∷ [])) (clean (take m s)) (digitValue (getD s m 0) ∷ [])))
+        clean-append (b ∷ []) s
+        ∙ rw (q, r, clean-append (b ∷ []) (take m s))
+        (sym (append-assoc (clean (b ∷ [])) (clean (take m s)) (digitValue (getD s m 0) ∷ [])))
 
     go : (t u : Bool) → digit b ≡ t → eqb k 0 ≡ u → (cond u (cond t 1 0) (suc k) ≡ 0 → ⊥)
         → ((k ≡ 0 → ⊥) → clean s ≡ clean (take (k - 1) s) ++ digitValue (getD s (k - 1) 0) ∷ [])
@@ -129,5 +139,6 @@ clean-last (b ∷ s) n = go (digit b) (eqb (afterLast digit s) 0) refl refl n (c
     go false true d z n r = absurd (n refl)
     go t false d z n r = more (k - 1) (let q = eqb-false k 0 z in omega arith) (r (eqb-false k 0 z))
 
+-- a text with digits has a last one
 pub last-some : (s : List ℕ) → 0 < length (clean s) → afterLast digit s ≡ 0 → ⊥
 last-some s h e = let q = ap length (last-none s e) in omega arith

@@ -5,6 +5,8 @@ use Prim.Native.Nat.{ℕ, _+_, _≤_, _<_}
 use native.Mathlib.Omega.{arith}
 use lib.ListN.{length}
 use borrow.Author.Tests.{ne-eqb, le-leb, lt-leb}
+use Rattle.lists.specs.Bytes.{Every}
+use Rattle.lists.proofs.Every.{every-last}
 use Rattle.lexicon.specs.Lexicon.{wordOf, onesAt, ordinalStep}
 use Rattle.sink.specs.Sink.{Sink, emit, emitAll}
 use Rattle.numerals.specs.Words.{Word, one, other, spell, spelled}
@@ -12,9 +14,8 @@ use Rattle.numerals.specs.Cardinal.{clean, cardinalFew, cardinalOf, card
 use Rattle.numerals.specs.Ordinal.{ordinalForm, orZero, onLast, ordinal}
 use Rattle.numerals.specs.Walk.{numberOf, HeldSink, flushed, holds, holdAll, ordinalNumber}
 use Rattle.sink.proofs.Finish.{emitAll-append}
-use Rattle.numerals.proofs.Every.{Every, every-last}
 use Rattle.numerals.proofs.Digits.{clean-commas, spelled-append}
-use Rattle.numerals.proofs.Forms.{Numeral, spell-number, number-some, cardinal-numerals, Formed, formed-form, formed-numeral, zero-formed, form-number, few-formed, clean-digits}
+use Rattle.numerals.proofs.Forms.{Numbered, spell-number, number-some, few-numbered, Formed, formed-form, formed-numbered, zero-formed, form-number, few-formed, clean-digits}
 
 -- a writer that holds no word
 abbrev pub free : Sink → HeldSink
@@ -25,30 +26,33 @@ unfolding flushed
 flushed-some h z = rw (ne-eqb (h .last) 0 (omega arith))
 
 -- the next word is held, and then written
-flush-next : (w : Word) (h : HeldSink) → Numeral w → flushed (holds (numberOf w) h) ≡ emit (spell w) (flushed h)
+flush-next : (w : Word) (h : HeldSink) → Numbered w → flushed (holds (numberOf w) h) ≡ emit (spell w) (flushed h)
 unfolding holds
 flush-next w h n = flushed-some (holds (numberOf w) h) (number-some w n) ∙ rw (spell-number w n)
 
 -- all words are written in the end
-flush-all : (ws : List Word) (h : HeldSink) → Every Numeral ws → flushed (holdAll (map numberOf ws) h) ≡ emitAll (spelled ws) (flushed h)
+flush-all : (ws : List Word) (h : HeldSink) → Every Numbered ws → flushed (holdAll (map numberOf ws) h) ≡ emitAll (spelled ws) (flushed h)
 unfolding holdAll emitAll spelled
 flush-all [] h n = refl
 flush-all (w ∷ ws) h n = flush-all ws (holds (numberOf w) h) (n .1) ∙ ap (emitAll (spelled ws)) (flush-next w h (n .0))
 
-pub few-said : (s : List ℕ) (σ : Sink) {h : HeldSink} {τ : Sink} → h ≡ holdAll (map numberOf (cardinalFew s)) (free σ) → τ ≡ flushed h → τ ≡ emitAll (spelled (cardinalFew s)) σ
+-- the words of up to twelve digits are all written in the end
+pub few-said : (s : List ℕ) (σ : Sink) {h : HeldSink} {τ : Sink} → h ≡ holdAll (map numberOf (cardinalFew s)) (free σ) → τ ≡ flushed h
+    → τ ≡ emitAll (spelled (cardinalFew s)) σ
 unfolding flushed
-few-said s σ e f = f ∙ ap flushed e ∙ flush-all (cardinalFew s) (free σ) (cardinal-numerals s)
+few-said s σ e f = f ∙ ap flushed e ∙ flush-all (cardinalFew s) (free σ) (few-numbered s)
 
 -- the last word is written in its ordinal form
 abbrev ordinally : HeldSink → Sink
 ordinally h = emit (wordOf (ordinalNumber (h .last))) (h .sink)
 
-last-formed : (w : Word) (ws : List Word) (h : HeldSink) → Every Formed (w ∷ ws) → ordinally (holdAll (map numberOf (w ∷ ws)) h) ≡ emitAll (spelled (onLast (w ∷ ws))) (flushed h)
+last-formed : (w : Word) (ws : List Word) (h : HeldSink) → Every Formed (w ∷ ws)
+    → ordinally (holdAll (map numberOf (w ∷ ws)) h) ≡ emitAll (spelled (onLast (w ∷ ws))) (flushed h)
 unfolding holdAll holds emitAll spelled spell onLast
 last-formed w [] h f = rw (formed-form w (f .0))
 last-formed w (v ∷ ws) h f =
     last-formed v ws (holds (numberOf w) h) (f .1)
-    ∙ ap (emitAll (spelled (onLast (v ∷ ws)))) (flush-next w h (formed-numeral w (f .0)))
+    ∙ ap (emitAll (spelled (onLast (v ∷ ws)))) (flush-next w h (formed-numbered w (f .0)))
 
 or-zero-formed : (ws : List Word) (σ : Sink) → Every Formed ws → ordinally (holdAll (map numberOf ws) (free σ)) ≡ emitAll (spelled (onLast (orZero ws))) σ
 unfolding holdAll orZero flushed emitAll spelled spell onLast ordinalNumber numberOf
@@ -60,19 +64,23 @@ ordinal-few : (s : List ℕ) → length (clean s) ≤ 12 → ordinal s ≡ onLas
 unfolding ordinal cardinal cardinalOf
 ordinal-few s h = rw (clean-commas s, le-leb (length (clean s)) 12 h)
 
+-- so are those of an ordinal number, the last one in its ordinal form
 pub ordinal-said : (s ds : List ℕ) (σ : Sink) {h : HeldSink} {τ : Sink} → ds ≡ clean s → length (clean s) ≤ 12
-    → h ≡ holdAll (map numberOf (cardinalFew ds)) (free σ) → (k : ℕ) → k ≡ ordinalNumber (h .last) → τ ≡ emit (wordOf k) (h .sink) → τ ≡ emitAll (spelled (ordinal s)) σ
+    → h ≡ holdAll (map numberOf (cardinalFew ds)) (free σ) → (k : ℕ) → k ≡ ordinalNumber (h .last) → τ ≡ emit (wordOf k) (h .sink)
+    → τ ≡ emitAll (spelled (ordinal s)) σ
 ordinal-said s ds σ d m e k q f =
     f ∙ rw (q, e, d, ordinal-few s m) (or-zero-formed (cardinalFew (clean s)) σ (few-formed (clean s) (clean-digits s)))
 
 -- ---- more digits than are few
 
+-- the last word takes its ordinal form
 pub onLast-snoc : (ws : List Word) (w : Word) → onLast (orZero (ws ++ w ∷ [])) ≡ ws ++ other (ordinalForm (spell w)) ∷ []
 unfolding orZero onLast
 onLast-snoc [] w = refl
 onLast-snoc (v ∷ []) w = refl
 onLast-snoc (v ∷ u ∷ ws) w = ap (λ (vs : List Word). v ∷ vs) (onLast-snoc (u ∷ ws) w)
 
+-- one word per digit, the last one in its ordinal form
 pub long-said : (s t : List ℕ) (d : ℕ) (σ : Sink) {ρ τ : Sink} → 12 < length (clean s) → clean s ≡ clean t ++ d ∷ []
     → ρ ≡ emitAll (spelled (digits t)) σ → τ ≡ emit (wordOf (onesAt + ordinalStep + d)) ρ → τ ≡ emitAll (spelled (ordinal s)) σ
 unfolding ordinal cardinal cardinalOf digits emitAll spelled spell

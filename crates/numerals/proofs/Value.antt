@@ -34,7 +34,9 @@ group-value t (a ∷ []) ws h = rw (cardinal-eq (a ∷ [])) (ap (λ (x : ℕ). v
 group-value t (a ∷ b ∷ []) ws h = two-value t a b ws ∙ ap (λ (x : ℕ). valueFrom t x ws) (omega arith)
 group-value t (a ∷ b ∷ c ∷ []) ws h = rw (cardinal-eq (a ∷ b ∷ c ∷ [])) (go (eqb a 0) refl)
   where
-    go : (z : Bool) → eqb a 0 ≡ z → valueFrom t 0 (cond z (cardinalFew (b ∷ c ∷ [])) (one a ∷ hundred ∷ pair b c) ++ ws) ≡ valueFrom t (((0 * 10 + a) * 10 + b) * 10 + c) ws
+    go : (z : Bool) → eqb a 0 ≡ z
+        → valueFrom t 0 (cond z (cardinalFew (b ∷ c ∷ [])) (one a ∷ hundred ∷ pair b c) ++ ws) ≡ valueFrom t
+        (((0 * 10 + a) * 10 + b) * 10 + c) ws
     go true e = two-value t b c ws ∙ ap (λ (x : ℕ). valueFrom t x ws) (omega (arith, eqb-true a 0 e))
     go false e = pair-value t ((0 + a) * 100) b c ws ∙ ap (λ (x : ℕ). valueFrom t x ws) (omega arith)
 group-value t (a ∷ b ∷ c ∷ d ∷ s) ws h = absurd (omega arith)
@@ -100,6 +102,7 @@ shorter-value (suc m) t (a ∷ b ∷ c ∷ d ∷ r) l h =
     ∙ shorter-value m u (drop i s) (omega (arith, length-drop i s, p .whole, p .right)) (omega (arith, length-drop i s))
     ∙ omega (arith, cut-value s i k (p .whole)))
 
+-- the words of up to twelve digits name their decimal value
 pub cardinal-value : (s : List ℕ) → length s ≤ 12 → value (cardinalFew s) ≡ decimal s
 unfolding value
 cardinal-value s h = shorter-value (suc (length s)) 0 s (omega arith) h ∙ zero-add (decimal s)

@@ -1,6 +1,5 @@
 // The public functions of patterns.rs, in its order and under its names: each takes all bytes, and answers its verdict or
 // the one refusal that is due. Their structs are numbers and flags, as C takes them, save SplitTime.
-use admit::Answer;
 use admit::Refusal;
 use admit::refusal_of;
 use lists::put;
@@ -275,9 +274,8 @@ fn store_word(word: &[u8], store: &mut [u8]) -> UnitWord
     ensures { λ r. ⌜ asWord r (now (store .exit)) ≡ storeCall (now (word .entry)) (now (store .entry)) ⌝ }
 {
     if store.len() < word.len() {
-        let answer = Answer::Refused(Refusal::BufferTooShort);
         return UnitWord {
-            refusal: answer.number(),
+            refusal: Refusal::BufferTooShort.number(),
             yes: false,
             len: 0,
         };

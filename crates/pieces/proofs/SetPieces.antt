@@ -11,8 +11,8 @@ use Rattle.years.specs.Year.{yearStep, yearOf, year}
 use Rattle.reals.specs.Real.{pointed, realStep, real}
 use Rattle.readings.specs.Roman.{numeral, larger, added, taken, romanValue}
 use Rattle.tokens.specs.Tokens.{cut, tokensStep, tokens}
-use Rattle.pieces.specs.Pieces.{pieces, sameTexts, holds, allHold}
+use Rattle.pieces.specs.Pieces.{pieces, sameTexts, holds}
 
-pub set-pieces : T (allHold pieces)
-unfolding sameBy split onto filled span keep has recur recurAt lexicon spell spelled clean pair join byScale cardinalStep cardinalFew cardinalOf cardinal digits formIn ordinalForm orZero onLast ordinal yearStep yearOf year pointed realStep real numeral larger added taken romanValue flatMap all afterLast cut tokensStep tokens pieces sameTexts holds allHold
+pub set-pieces : T (all holds pieces)
+unfolding sameBy split onto filled span keep has recur recurAt lexicon spell spelled clean pair join byScale cardinalStep cardinalFew cardinalOf cardinal digits formIn ordinalForm orZero onLast ordinal yearStep yearOf year pointed realStep real numeral larger added taken romanValue flatMap all afterLast cut tokensStep tokens pieces sameTexts holds
 set-pieces = tt

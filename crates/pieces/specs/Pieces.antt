@@ -50,7 +50,3 @@ unfoldable pub holds : Piece → Bool
 holds (reads f s t) = sameTexts (spelled (f (bytes s))) (filled (split (code " ") (bytes t)))
 holds (values f s n) = eqb (f (bytes s)) n
 holds (parted s w p n q) = sameTexts (flatMap parts (tokens (bytes s))) (bytes w ∷ bytes p ∷ bytes n ∷ bytes q ∷ [])
-
-unfoldable pub allHold : List Piece → Bool
-allHold [] = true
-allHold (p ∷ ps) = holds p && allHold ps

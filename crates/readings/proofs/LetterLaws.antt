@@ -1,7 +1,7 @@
 -- The characters of a text, one after the other. Assumes nothing.
 use mathlib.Core.Path.{_≡_, refl, sym, ap, ap₂, _∙_}
 use mathlib.Core.Bool.{Bool, true, false, cond}
-use mathlib.Core.List.{List, [], _∷_, _++_, map}
+use mathlib.Core.List.{List, [], _∷_, _++_, map, flatten}
 use Prim.Native.Nat.{ℕ, suc, _+_, _-_, _≤_, _<_}
 use Prim.Native.Char.{code}
 use native.Mathlib.Numerals.{add-one}
@@ -12,7 +12,6 @@ use borrow.Author.Tests.{eq-eqb, ne-eqb}
 use Rattle.lists.specs.Bytes.{bytes, lower, span, onto}
 use Rattle.lists.specs.Classes.{continuation}
 use Rattle.lists.proofs.Scan.{span-le}
-use Rattle.sink.specs.Words.{storeOf}
 use Rattle.numerals.specs.Words.{other, spell, spelled}
 use Rattle.readings.specs.Letters.{chars, letterWord, letters}
 use Rattle.readings.specs.Walk.{charBytes}
@@ -32,12 +31,12 @@ chars-cons b (c ∷ s) = go (continuation c) (chars-cons c s)
     go false e = refl
 
 -- joined, they are the text
-pub chars-join : (s : List ℕ) → storeOf (chars s) ≡ s
-unfolding chars storeOf onto
+pub chars-join : (s : List ℕ) → flatten (chars s) ≡ s
+unfolding chars flatten onto
 chars-join [] = refl
 chars-join (b ∷ s) = go (continuation (getD s 0 0)) (chars s) (chars-join s)
   where
-    go : (t : Bool) (cs : List (List ℕ)) → storeOf cs ≡ s → storeOf (cond t (onto b cs) ((b ∷ []) ∷ cs)) ≡ b ∷ s
+    go : (t : Bool) (cs : List (List ℕ)) → flatten cs ≡ s → flatten (cond t (onto b cs) ((b ∷ []) ∷ cs)) ≡ b ∷ s
     go true [] e = ap (λ (l : List ℕ). b ∷ l) e
     go true (c ∷ cs) e = ap (λ (l : List ℕ). b ∷ l) e
     go false cs e = ap (λ (l : List ℕ). b ∷ l) e

@@ -1,6 +1,6 @@
 -- How many words a text read letter by letter has at most, and how many bytes of a line they take. Assumes nothing.
 use mathlib.Core.Path.{ap}
-use mathlib.Core.List.{List, [], _∷_, map}
+use mathlib.Core.List.{List, [], _∷_, map, flatten}
 use Prim.Native.Nat.{ℕ, suc, _+_, _*_, _≤_}
 use Prim.Native.Char.{code}
 use native.Mathlib.Omega.{arith}
@@ -9,7 +9,6 @@ use lib.ListN.{length, getD, length-append, length-map}
 use Rattle.lists.specs.Bytes.{lower, onto}
 use Rattle.lists.specs.Classes.{continuation}
 use Rattle.lists.proofs.Recursion.{cond-elim}
-use Rattle.sink.specs.Words.{storeOf}
 use Rattle.numerals.specs.Words.{other, spell}
 use Rattle.numerals.proofs.Room.{Room, width}
 use Rattle.readings.specs.Letters.{chars, letterWord, letters}
@@ -21,10 +20,10 @@ letter-short [] = omega arith
 letter-short (b ∷ []) = cond-elim (λ (w : List ℕ). length w ≤ 2) (eqb (lower b) (code "a")) (λ e. omega arith) (λ e. omega arith)
 letter-short (b ∷ c ∷ s) = omega arith
 
-letters-wide : (cs : List (List ℕ)) → width (map (λ c. other (letterWord c)) cs) ≤ length cs + 2 * length (storeOf cs)
-unfolding storeOf spell
+letters-wide : (cs : List (List ℕ)) → width (map (λ c. other (letterWord c)) cs) ≤ length cs + 2 * length (flatten cs)
+unfolding flatten spell
 letters-wide [] = omega arith
-letters-wide (c ∷ cs) = omega (arith, letter-short c, letters-wide cs, length-append c (storeOf cs))
+letters-wide (c ∷ cs) = omega (arith, letter-short c, letters-wide cs, length-append c (flatten cs))
 
 onto-count : (b : ℕ) (cs : List (List ℕ)) → length (onto b cs) ≤ suc (length cs)
 unfolding onto

@@ -5,7 +5,7 @@ use mathlib.Core.List.{List, [], _∷_, _++_, append-nil}
 use Prim.Native.Nat.{ℕ, zero, suc, _+_, _-_, _≤_, _<_}
 use Prim.Native.Char.{code}
 use native.Mathlib.Omega.{arith}
-use lib.Dec.{ltb, eqb, eqb·suc-zero}
+use lib.Dec.{ltb}
 use lib.ListN.{length, take, drop, length-take, length-drop, drop-of-length-le}
 use lib.Seq.{take-all, drop-drop, append-snoc}
 use borrow.Author.Tests.{ltb-true, ltb-false, le-ltb}
@@ -13,7 +13,7 @@ use Rattle.lists.specs.Bytes.{bytes, span, starts, keep}
 use Rattle.lists.specs.Classes.{notE}
 use Rattle.lists.specs.Recur.{recurAt, recur}
 use Rattle.lists.proofs.Recursion.{Local, recur-eq, cond-cong}
-use Rattle.lists.proofs.Scan.{span-le, span-again}
+use Rattle.lists.proofs.Scan.{span-le, span-again, starts-first}
 use Rattle.numerals.specs.Words.{Word, other, spelled}
 use Rattle.numerals.specs.Cardinal.{clean, cardinalStep, cardinalFew, cardinalOf, cardinal}
 use Rattle.numerals.proofs.Digits.{spelled-append}
@@ -25,14 +25,11 @@ starts-some : (c : ℕ) (s : List ℕ) → starts c s ≡ true → 0 < length s
 starts-some c [] e = let z : _≡_ {A = ℕ} 0 1 = cc in omega arith
 starts-some c (b ∷ s) e = omega arith
 
-pub starts-cons : (c b : ℕ) (s : List ℕ) → starts c (b ∷ s) ≡ eqb b c
-starts-cons c b s = rw (eqb·suc-zero (length s))
-
 -- where a text does not start with a byte, no part of it does
 starts-take : (c n : ℕ) (s : List ℕ) → starts c s ≡ false → starts c (take n s) ≡ false
 starts-take c zero s e = refl
 starts-take c (suc n) [] e = refl
-starts-take c (suc n) (b ∷ s) e = starts-cons c b (take n s) ∙ sym (starts-cons c b s) ∙ e
+starts-take c (suc n) (b ∷ s) e = starts-first c b (take n s) ∙ sym (starts-first c b s) ∙ e
 
 real-local : Local realStep
 unfolding realStep

@@ -16,7 +16,9 @@ use Rattle.readings.specs.Letters.{letterWord, letters, chars}
 
 letter-alone : (b : ℕ) → letter b ≡ true → continuation b ≡ false
 letter-alone b e =
-    ⊎-elim (λ (h : 128 ≤ b). absurd (false≢true (sym (simp and-false refl ∙ refl) ∙ rw (lt-leb b (code "Z") (omega arith), lt-leb b (code "z") (omega arith)) at e)))
+    ⊎-elim
+    (λ (h : 128 ≤ b). absurd
+    (false≢true (sym (simp and-false refl ∙ refl) ∙ rw (lt-leb b (code "Z") (omega arith), lt-leb b (code "z") (omega arith)) at e)))
     (λ (h : b < 128). rw (lt-leb 128 b h))
     (le-or-lt 128 b)
 

@@ -34,5 +34,6 @@ pub step-eq : (word : List ℕ → List ℕ) (s : List ℕ) → readWith word s 
 unfolding readWith
 step-eq word s = recur-eq (by NoRow []) (readStep word) (read-local word) s
 
+-- also with row 12 as it is
 pub read-eq : (s : List ℕ) → read s ≡ readStep (map lower) read s
 read-eq s = step-eq (map lower) s

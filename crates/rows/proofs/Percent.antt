@@ -12,10 +12,11 @@ use Rattle.lists.specs.Bytes.{all, has, lower, starts, ends}
 use Rattle.lists.specs.Classes.{digit, digitOrComma}
 use Rattle.shapes.specs.Shapes.{isDottedAbbrev, isCommaInt, isTime, isLeadingZeroDigits, isDigits, isDouble, isOrdinal}
 use Rattle.shapes.specs.Times.{isMeridiemTime}
+use Rattle.shapes.proofs.Laws.{digits-all}
 use Rattle.rows.specs.Rows.{by, perCent, readStep, readWith, read}
 use Rattle.rows.specs.declared.Row.the-variants.{Percent}
 use Rattle.rows.proofs.Laws.{ends-some, step-eq}
-use Rattle.rows.proofs.Taken.{outside, dottedByte, timeByte, meridiemByte, doubleByte, ordinalByte, dotted-bytes, comma-bytes, time-bytes, meridiem-bytes, digits-all, double-bytes, ordinal-bytes}
+use Rattle.rows.proofs.Taken.{outside, dottedByte, timeByte, meridiemByte, doubleByte, ordinalByte, dotted-bytes, comma-bytes, time-bytes, meridiem-bytes, double-bytes, ordinal-bytes, PastTimes}
 
 has-at : (c : ℕ) (s : List ℕ) (i : ℕ) → i < length s → getD s i 0 ≡ c → has c s ≡ true
 unfolding has
@@ -31,23 +32,23 @@ ends-has c s e =
 
 -- the name meets none of the tests of rows 1 to 9
 pub record Untaken (s : List ℕ) : Type 0 where
-  pub empty : eqb (length s) 0 ≡ false
-  pub dotted : isDottedAbbrev s ≡ false
-  pub comma : isCommaInt s ≡ false
-  pub time : isTime s ≡ false
-  pub meridiem : isMeridiemTime s ≡ false
+  pub past : PastTimes s
   pub leading : isLeadingZeroDigits s ≡ false
   pub digits : isDigits s ≡ false
   pub double : isDouble s ≡ false
   pub ordinal : isOrdinal s ≡ false
 
+-- a name that ends in % is such
 pub percent-untaken : (s : List ℕ) → ends (code "%") s ≡ true → Untaken s
 percent-untaken s e = record {
-  empty = ne-eqb (length s) 0 (λ z. omega (arith, ends-some (code "%") s e));
-  dotted = other dottedByte refl (isDottedAbbrev s) (dotted-bytes s);
-  comma = other digitOrComma refl (isCommaInt s) (comma-bytes s);
-  time = other timeByte refl (isTime s) (time-bytes s);
-  meridiem = other meridiemByte refl (isMeridiemTime s) (meridiem-bytes s);
+  past =
+      record {
+        empty = ne-eqb (length s) 0 (λ z. omega (arith, ends-some (code "%") s e));
+        dotted = other dottedByte refl (isDottedAbbrev s) (dotted-bytes s);
+        comma = other digitOrComma refl (isCommaInt s) (comma-bytes s);
+        time = other timeByte refl (isTime s) (time-bytes s);
+        meridiem = other meridiemByte refl (isMeridiemTime s) (meridiem-bytes s);
+      };
   leading = other digit refl (isLeadingZeroDigits s) (λ h. digits-all s (and-eq-true-iff (ltb 1 (length s) && starts (code "0") s) (isDigits s) .0 h .1));
   digits = other digit refl (isDigits s) (digits-all s);
   double = other doubleByte refl (isDouble s) (double-bytes s);
@@ -58,9 +59,14 @@ percent-untaken s e = record {
     other p h shape f = outside shape p (code "%") s f h (ends-has (code "%") s e)
 
 -- so row 10 reads it
-pub percent-with : (word : List ℕ → List ℕ) (s : List ℕ) → ends (code "%") s ≡ true → readWith word s ≡ by Percent (readWith word (take (length s - 1) s) .words ++ perCent)
+pub percent-with : (word : List ℕ → List ℕ) (s : List ℕ) → ends (code "%") s ≡ true
+    → readWith word s ≡ by Percent (readWith word (take (length s - 1) s) .words ++ perCent)
 unfolding readStep
-percent-with word s e = let u = percent-untaken s e in step-eq word s ∙ rw (u .dotted, u .comma, u .time, u .meridiem, u .leading, u .digits, u .double, u .ordinal, e, u .empty)
+percent-with word s e =
+    let u = percent-untaken s e in
+    let p = u .past in
+    step-eq word s ∙ rw (p .dotted, p .comma, p .time, p .meridiem, u .leading, u .digits, u .double, u .ordinal, e, p .empty)
 
+-- also with row 12 as it is
 pub percent-read : (s : List ℕ) → ends (code "%") s ≡ true → read s ≡ by Percent (read (take (length s - 1) s) .words ++ perCent)
 percent-read s e = percent-with (map lower) s e

@@ -8,14 +8,15 @@ use native.Mathlib.Omega.{arith}
 use lib.Dec.{eqb, leb, ltb}
 use lib.ListN.{length, take, drop, getD, take-append-drop, drop-of-length-le}
 use lib.Seq.{getD-drop}
-use borrow.Author.Tests.{eqb-true, ltb-true, ltb-false, leb-true, not-false}
-use Rattle.lists.specs.Bytes.{bytes, all, span, has, split, onto, allParts, sameBy, capital, small, lower, starts, ends, stripSuffix, endsBy}
+use borrow.Author.Tests.{eqb-true, ltb-true, ltb-false, leb-true, not-false, le-ltb, ne-eqb}
+use Rattle.lists.specs.Bytes.{bytes, all, span, has, split, onto, sameBy, capital, small, lower, starts, ends, stripSuffix, endsBy}
 use Rattle.lists.specs.Classes.{digit, letter, digitOrComma, colonNorPoint, except}
-use Rattle.lists.proofs.Scan.{all-append, all-more, all-within, span-all, span-fails}
+use Rattle.lists.proofs.Scan.{all-append, all-more, all-within, span-all, span-fails, all-span, all-split, all-at, apart}
 use Rattle.lists.proofs.Parts.{parts-fail, has-span}
+use Rattle.lists.proofs.Bools.{or-true-left, or-true-right, or-true-elim}
 use Rattle.shapes.specs.Shapes.{isDigits, isNDigits, isAlpha, isOneLetter, stripSign, isExponent, isUnsigned, isCommaGroups, isHourMinute, isOrdinalSuffix, splitOnce, startsChar, isDottedAbbrev, isCommaInt, isTime, isDouble, isOrdinal}
 use Rattle.shapes.specs.Times.{endsInMeridiem, separatorAt, timeOf, isMeridiemTime}
-use Rattle.shapes.proofs.Laws.{comma-none}
+use Rattle.shapes.proofs.Laws.{digits-all, comma-none}
 use Rattle.rows.proofs.Laws.{ends-some}
 
 -- a test that can't be met fails
@@ -59,16 +60,6 @@ ordinalByte b = letter b || digitOrComma b
 
 -- ---- a text by its parts
 
-or-left : (a b : Bool) → a ≡ true → (a || b) ≡ true
-or-left a b h = rw h
-
-or-right : (a b : Bool) → b ≡ true → (a || b) ≡ true
-or-right a b h = rw (h, or-true a)
-
-or-elim : {P : Type 0} (a b : Bool) → (a ≡ true → P) → (b ≡ true → P) → (a || b) ≡ true → P
-or-elim true b f g h = f refl
-or-elim false b f g h = g h
-
 module _ (p : ℕ → Bool) where
   all-joined : (n : ℕ) (s : List ℕ) → all p (take n s) ≡ true → all p (drop n s) ≡ true → all p s ≡ true
   all-joined n s h k = ap (all p) (sym (take-append-drop n s)) ∙ all-append p (take n s) (drop n s) ∙ rw (h, k)
@@ -94,35 +85,26 @@ module _ (p : ℕ → Bool) where
   all-prefixed c (b ∷ s) q e h = rw (eqb-true b c (and-eq-true-iff (not (eqb (suc (length s)) 0)) (eqb b c) .0 e .1), q, h)
 
   -- the text is of a class that its parts and their separator are of
-  all-onto : (b : ℕ) (ps : List (List ℕ)) → allParts (all p) (onto b ps) ≡ p b && allParts (all p) ps
-  unfolding onto allParts all
+  all-onto : (b : ℕ) (ps : List (List ℕ)) → all (all p) (onto b ps) ≡ p b && all (all p) ps
+  unfolding onto all
   all-onto b [] = and-assoc (p b) true true
-  all-onto b (s ∷ ps) = and-assoc (p b) (all p s) (allParts (all p) ps)
+  all-onto b (s ∷ ps) = and-assoc (p b) (all p s) (all (all p) ps)
 
-  all-parts : (c : ℕ) → p c ≡ true → (s : List ℕ) → allParts (all p) (split c s) ≡ all p s
-  unfolding split allParts all
+  all-parts : (c : ℕ) → p c ≡ true → (s : List ℕ) → all (all p) (split c s) ≡ all p s
+  unfolding split all
   all-parts c q [] = refl
   all-parts c q (b ∷ s) = go (eqb b c) refl (all-parts c q s)
     where
-      go : (t : Bool) → eqb b c ≡ t → allParts (all p) (split c s) ≡ all p s → allParts (all p) (cond t ([] ∷ split c s) (onto b (split c s))) ≡ p b && all p s
+      go : (t : Bool) → eqb b c ≡ t → all (all p) (split c s) ≡ all p s → all (all p) (cond t ([] ∷ split c s) (onto b (split c s))) ≡ p b && all p s
       go true e i = i ∙ rw (eqb-true b c e, q)
       go false e i = all-onto b (split c s) ∙ rw i
 
-parts-within : (p q : List ℕ → Bool) → ((s : List ℕ) → p s ≡ true → q s ≡ true) → (ps : List (List ℕ)) → allParts p ps ≡ true → allParts q ps ≡ true
-unfolding allParts
-parts-within p q f [] h = refl
-parts-within p q f (s ∷ ps) h = let k = and-eq-true-iff (p s) (allParts p ps) .0 h in rw (f s (k .0), parts-within p q f ps (k .1))
-
-parts-first : (p : List ℕ → Bool) (c : ℕ) (s : List ℕ) → allParts p (split c s) ≡ true → p (take (span (except c) s) s) ≡ true
+parts-first : (p : List ℕ → Bool) (c : ℕ) (s : List ℕ) → all p (split c s) ≡ true → p (take (span (except c) s) s) ≡ true
 parts-first p c s h = go (p (take (span (except c) s) s)) refl
   where
     go : (t : Bool) → p (take (span (except c) s) s) ≡ t → p (take (span (except c) s) s) ≡ true
     go true e = e
     go false e = absurd (false≢true (sym (parts-fail p c s e) ∙ h))
-
-pub digits-all : (s : List ℕ) → isDigits s ≡ true → all digit s ≡ true
-unfolding isDigits
-digits-all s h = and-eq-true-iff (not (eqb (length s) 0)) (all digit s) .0 h .1
 
 -- ---- dotted abbreviations
 
@@ -130,19 +112,20 @@ one-letter : (s : List ℕ) → isOneLetter s ≡ true → all letter s ≡ true
 unfolding isAlpha
 one-letter s h = and-eq-true-iff (not (eqb (length s) 0)) (all letter s) .0 (and-eq-true-iff (eqb (length s) 1) (isAlpha s) .0 h .1) .1
 
-dotted-parts : (s : List ℕ) → isDottedAbbrev s ≡ true → allParts isOneLetter (split (code ".") (stripSuffix (code ".") s)) ≡ true
+dotted-parts : (s : List ℕ) → isDottedAbbrev s ≡ true → all isOneLetter (split (code ".") (stripSuffix (code ".") s)) ≡ true
 unfolding isDottedAbbrev
 dotted-parts s h =
     let parts = split (code ".") (stripSuffix (code ".") s) in
-    and-eq-true-iff (leb 2 (length parts)) (allParts isOneLetter parts) .0 h .1
+    and-eq-true-iff (leb 2 (length parts)) (all isOneLetter parts) .0 h .1
 
+-- a dotted abbreviation is letters and points
 pub dotted-bytes : (s : List ℕ) → isDottedAbbrev s ≡ true → all dottedByte s ≡ true
 dotted-bytes s h =
     let core = stripSuffix (code ".") s in
     all-suffixed dottedByte (code ".") s refl
     (sym (all-parts dottedByte (code ".") refl core)
-    ∙ parts-within isOneLetter (all dottedByte)
-    (λ t k. all-within letter dottedByte (λ b e. or-left (letter b) (eqb b (code ".")) e) t (one-letter t k)) (split (code ".") core)
+    ∙ all-within isOneLetter (all dottedByte)
+    (λ t k. all-within letter dottedByte (λ b e. or-true-left (letter b) (eqb b (code ".")) e) t (one-letter t k)) (split (code ".") core)
     (dotted-parts s h))
 
 -- a letter leads a text where it leads the text's front
@@ -173,20 +156,26 @@ dotted-first s h =
 -- ---- comma integers
 
 digits-commas : (s : List ℕ) → isDigits s ≡ true → all digitOrComma s ≡ true
-digits-commas s h = all-within digit digitOrComma (λ b e. or-left (digit b) (eqb b (code ",")) e) s (digits-all s h)
+digits-commas s h = all-within digit digitOrComma (λ b e. or-true-left (digit b) (eqb b (code ",")) e) s (digits-all s h)
 
-comma-groups : (ps : List (List ℕ)) → isCommaGroups ps ≡ true → allParts (all digitOrComma) ps ≡ true
-unfolding isCommaGroups allParts
+comma-groups : (ps : List (List ℕ)) → isCommaGroups ps ≡ true → all (all digitOrComma) ps ≡ true
+unfolding isCommaGroups all
 comma-groups [] h = absurd (false≢true h)
 comma-groups (s ∷ ps) h =
-    let k = and-eq-true-iff (isDigits s && leb (length s) 3 && not (eqb (length ps) 0)) (allParts (isNDigits 3) ps) .0 h in
+    let k = and-eq-true-iff (isDigits s && leb (length s) 3 && not (eqb (length ps) 0)) (all (isNDigits 3) ps) .0 h in
     let l = and-eq-true-iff (isDigits s && leb (length s) 3) (not (eqb (length ps) 0)) .0 (k .0) in
     let m = and-eq-true-iff (isDigits s) (leb (length s) 3) .0 (l .0) in
-    rw (digits-commas s (m .0), parts-within (isNDigits 3) (all digitOrComma) (λ t e. digits-commas t (and-eq-true-iff (eqb (length t) 3) (isDigits t) .0 e .1)) ps (k .1))
+    rw (
+      digits-commas s (m .0),
+      all-within (isNDigits 3) (all digitOrComma) (λ t e. digits-commas t (and-eq-true-iff (eqb (length t) 3) (isDigits t) .0 e .1)) ps
+          (k .1),
+    )
 
+-- a comma integer is digits and commas
 pub comma-bytes : (s : List ℕ) → isCommaInt s ≡ true → all digitOrComma s ≡ true
 comma-bytes s h = sym (all-parts digitOrComma (code ",") refl s) ∙ comma-groups (split (code ",") s) h
 
+-- it has a comma
 pub comma-needed : (s : List ℕ) → isCommaInt s ≡ true → has (code ",") s ≡ true
 comma-needed s h = has-span (code ",") s ∙ go (ltb (span (except (code ",")) s) (length s)) refl
   where
@@ -197,9 +186,9 @@ comma-needed s h = has-span (code ",") s ∙ go (ltb (span (except (code ",")) s
 -- ---- times
 
 -- hour and minute are digits
-hour-minute : (h m : List ℕ) → isHourMinute h m ≡ true → (all digit h ≡ true) × (all digit m ≡ true)
+hour-minute-digits : (h m : List ℕ) → isHourMinute h m ≡ true → (all digit h ≡ true) × (all digit m ≡ true)
 unfolding isHourMinute
-hour-minute h m e =
+hour-minute-digits h m e =
     let few = leb 1 (length h) && leb (length h) 2 in
     let a = and-eq-true-iff (few && isDigits h && isNDigits 2 m) (leb (getD m 0 0) (code "5")) .0 e .0 in
     let b = and-eq-true-iff (few && isDigits h) (isNDigits 2 m) .0 a in
@@ -211,15 +200,18 @@ all-clock : (p q : ℕ → Bool) → ((b : ℕ) → digit b ≡ true → p b ≡
 all-clock p q f g s h =
     let k = and-eq-true-iff (ltb (span q s) (length s)) (isHourMinute (take (span q s) s) (drop (span q s + 1) s)) .0 h in
     let l = ltb-true (span q s) (length s) (k .0) in
-    let m = hour-minute (take (span q s) s) (drop (span q s + 1) s) (k .1) in
-    all-around p s (span q s) l (all-within digit p f (take (span q s) s) (m .0)) (g (getD s (span q s) 0) (span-fails q s l)) (all-within digit p f (drop (span q s + 1) s) (m .1))
+    let m = hour-minute-digits (take (span q s) s) (drop (span q s + 1) s) (k .1) in
+    all-around p s (span q s) l (all-within digit p f (take (span q s) s) (m .0)) (g (getD s (span q s) 0) (span-fails q s l))
+    (all-within digit p f (drop (span q s + 1) s) (m .1))
 
+-- a time is digits and colons
 pub time-bytes : (s : List ℕ) → isTime s ≡ true → all timeByte s ≡ true
 unfolding splitOnce
 time-bytes s h =
-    all-clock timeByte (except (code ":")) (λ b e. or-left (digit b) (eqb b (code ":")) e)
-    (λ b e. or-right (digit b) (eqb b (code ":")) (not-false (eqb b (code ":")) e)) s h
+    all-clock timeByte (except (code ":")) (λ b e. or-true-left (digit b) (eqb b (code ":")) e)
+    (λ b e. or-true-right (digit b) (eqb b (code ":")) (not-false (eqb b (code ":")) e)) s h
 
+-- it has a colon
 pub colon-needed : (s : List ℕ) → isTime s ≡ true → has (code ":") s ≡ true
 unfolding splitOnce
 colon-needed s h =
@@ -248,7 +240,9 @@ second : (f : ℕ → ℕ) (c d : ℕ) (s : List ℕ) → sameBy f s (c ∷ d �
 unfolding sameBy
 second f c d [] h = absurd (false≢true h)
 second f c d (a ∷ []) h = absurd (false≢true (and-eq-true-iff (eqb (f a) c) false .0 h .1))
-second f c d (a ∷ b ∷ s) h = eqb-true (f b) d (and-eq-true-iff (eqb (f b) d) (sameBy f s []) .0 (and-eq-true-iff (eqb (f a) c) (eqb (f b) d && sameBy f s []) .0 h .1) .0)
+second f c d (a ∷ b ∷ s) h =
+    eqb-true (f b) d
+    (and-eq-true-iff (eqb (f b) d) (sameBy f s []) .0 (and-eq-true-iff (eqb (f a) c) (eqb (f b) d && sameBy f s []) .0 h .1) .0)
 
 -- a text that ends in am or pm
 ends-lowered : (c d : ℕ) (s : List ℕ) → all small (c ∷ d ∷ []) ≡ true → endsBy lower (c ∷ d ∷ []) s ≡ true
@@ -262,10 +256,12 @@ ends-lowered c d s k h =
 
 meridiem-end : (s : List ℕ) → endsInMeridiem s ≡ true → (all letter (drop (length s - 2) s) ≡ true) × (lower (getD s (length s - 1) 0) ≡ code "m")
 unfolding all
-meridiem-end s = or-elim (endsBy lower (bytes "am") s) (endsBy lower (bytes "pm") s) (ends-lowered (code "a") (code "m") s refl) (ends-lowered (code "p") (code "m") s refl)
+meridiem-end s =
+    or-true-elim (endsBy lower (bytes "am") s) (endsBy lower (bytes "pm") s) (ends-lowered (code "a") (code "m") s refl)
+    (ends-lowered (code "p") (code "m") s refl)
 
 separator : (b : ℕ) → colonNorPoint b ≡ false → meridiemByte b ≡ true
-separator b h = or-elim (eqb b (code ":")) (eqb b (code "."))
+separator b h = or-true-elim (eqb b (code ":")) (eqb b (code "."))
     (λ e. rw (e, or-true (letter b || digit b))) (λ e. rw (e, or-true (letter b || digit b || eqb b (code ":"))))
     (not-false (eqb b (code ":") || eqb b (code ".")) h)
 
@@ -279,6 +275,7 @@ meridiem-parts s h =
     (ltb (separatorAt (timeOf s)) (length (timeOf s)) && isHourMinute (take (separatorAt (timeOf s)) (timeOf s))
     (drop (separatorAt (timeOf s) + 1) (timeOf s))) .0 h
 
+-- a time with am or pm is letters, digits, colons and points
 pub meridiem-bytes : (s : List ℕ) → isMeridiemTime s ≡ true → all meridiemByte s ≡ true
 meridiem-bytes s h =
     let k = meridiem-parts s h in
@@ -291,11 +288,13 @@ meridiem-last s h = meridiem-end s (meridiem-parts s h .0) .1
 
 -- ---- figures
 
-digit-double : (b : ℕ) → digit b ≡ true → doubleByte b ≡ true
+-- a digit is a byte of figures
+pub digit-double : (b : ℕ) → digit b ≡ true → doubleByte b ≡ true
 digit-double b h = rw h
 
-double-either : (c d : ℕ) (s : List ℕ) → doubleByte c ≡ true → doubleByte d ≡ true → all doubleByte (drop 1 s) ≡ true → (starts c s || starts d s) ≡ true → all doubleByte s ≡ true
-double-either c d s x y h = or-elim (starts c s) (starts d s) (λ e. all-prefixed doubleByte c s x e h) (λ e. all-prefixed doubleByte d s y e h)
+double-either : (c d : ℕ) (s : List ℕ) → doubleByte c ≡ true → doubleByte d ≡ true → all doubleByte (drop 1 s) ≡ true
+    → (starts c s || starts d s) ≡ true → all doubleByte s ≡ true
+double-either c d s x y h = or-true-elim (starts c s) (starts d s) (λ e. all-prefixed doubleByte c s x e h) (λ e. all-prefixed doubleByte d s y e h)
 
 double-signed : (s : List ℕ) → all doubleByte (stripSign s) ≡ true → all doubleByte s ≡ true
 double-signed s = go (starts (code "+") s || starts (code "-") s) refl
@@ -316,7 +315,8 @@ exponent-bytes : (s : List ℕ) → isExponent s ≡ true → all doubleByte s �
 unfolding isExponent
 exponent-bytes s = go (starts (code "e") s || starts (code "E") s) refl
   where
-    go : (t : Bool) → (starts (code "e") s || starts (code "E") s) ≡ t → cond t (isDigits (stripSign (drop 1 s))) (eqb (length s) 0) ≡ true → all doubleByte s ≡ true
+    go : (t : Bool) → (starts (code "e") s || starts (code "E") s) ≡ t
+        → cond t (isDigits (stripSign (drop 1 s))) (eqb (length s) 0) ≡ true → all doubleByte s ≡ true
     go true e h = double-either (code "e") (code "E") s refl refl (double-signed (drop 1 s) (double-digits (stripSign (drop 1 s)) h)) e
     go false e h = empty-all doubleByte s h
 
@@ -334,7 +334,8 @@ unsigned-bytes s h = all-joined doubleByte (span digit s) s (front s) (go (start
     frac = drop 1 rest
 
     go : (t : Bool) → starts (code ".") rest ≡ t
-        → cond t (not (eqb (span digit s) 0 && eqb (span digit frac) 0) && isExponent (drop (span digit frac) frac)) (not (eqb (span digit s) 0) && isExponent rest) ≡ true
+        → cond t (not (eqb (span digit s) 0 && eqb (span digit frac) 0) && isExponent (drop (span digit frac) frac))
+        (not (eqb (span digit s) 0) && isExponent rest) ≡ true
         → all doubleByte rest ≡ true
     go true e k =
         let x =
@@ -343,6 +344,7 @@ unsigned-bytes s h = all-joined doubleByte (span digit s) s (front s) (go (start
         all-prefixed doubleByte (code ".") rest refl e (all-joined doubleByte (span digit frac) frac (front frac) x)
     go false e k = exponent-bytes rest (and-eq-true-iff (not (eqb (span digit s) 0)) (isExponent rest) .0 k .1)
 
+-- a figure is of the bytes of figures
 pub double-bytes : (s : List ℕ) → isDouble s ≡ true → all doubleByte s ≡ true
 double-bytes s = go (starts (code "-") s) refl
   where
@@ -355,11 +357,12 @@ double-bytes s = go (starts (code "-") s) refl
 suffix-letters : (s : List ℕ) → isOrdinalSuffix s ≡ true → all letter s ≡ true
 unfolding all
 suffix-letters s =
-    or-elim (sameBy lower s (bytes "th") || sameBy lower s (bytes "st") || sameBy lower s (bytes "nd")) (sameBy lower s (bytes "rd"))
-    (or-elim (sameBy lower s (bytes "th") || sameBy lower s (bytes "st")) (sameBy lower s (bytes "nd"))
-    (or-elim (sameBy lower s (bytes "th")) (sameBy lower s (bytes "st")) (lowered-letters s (bytes "th") refl) (lowered-letters s (bytes "st") refl))
+    or-true-elim (sameBy lower s (bytes "th") || sameBy lower s (bytes "st") || sameBy lower s (bytes "nd")) (sameBy lower s (bytes "rd"))
+    (or-true-elim (sameBy lower s (bytes "th") || sameBy lower s (bytes "st")) (sameBy lower s (bytes "nd"))
+    (or-true-elim (sameBy lower s (bytes "th")) (sameBy lower s (bytes "st")) (lowered-letters s (bytes "th") refl) (lowered-letters s (bytes "st") refl))
     (lowered-letters s (bytes "nd") refl)) (lowered-letters s (bytes "rd") refl)
 
+-- an ordinal number is letters, digits and commas
 pub ordinal-bytes : (s : List ℕ) → isOrdinal s ≡ true → all ordinalByte s ≡ true
 unfolding isOrdinal
 ordinal-bytes s h =
@@ -369,5 +372,47 @@ ordinal-bytes s h =
     let x = and-eq-true-iff (a && isOrdinalSuffix suffix && digit (getD num 0 0)) (all digitOrComma num) .0 h in
     let y = and-eq-true-iff (a && isOrdinalSuffix suffix) (digit (getD num 0 0)) .0 (x .0) in
     let z = and-eq-true-iff a (isOrdinalSuffix suffix) .0 (y .0) in
-    all-joined ordinalByte (length s - 2) s (all-within digitOrComma ordinalByte (λ b e. or-right (letter b) (digitOrComma b) e) num (x .1))
-    (all-within letter ordinalByte (λ b e. or-left (letter b) (digitOrComma b) e) suffix (suffix-letters suffix (z .1)))
+    all-joined ordinalByte (length s - 2) s (all-within digitOrComma ordinalByte (λ b e. or-true-right (letter b) (digitOrComma b) e) num (x .1))
+    (all-within letter ordinalByte (λ b e. or-true-left (letter b) (digitOrComma b) e) suffix (suffix-letters suffix (z .1)))
+
+-- ---- names that a row does not take
+
+-- a name of a class without the comma, the colon or both marks of a time
+module _ (p : ℕ → Bool) (s : List ℕ) (h : all p s ≡ true) where
+  pub no-comma : p (code ",") ≡ false → isCommaInt s ≡ false
+  no-comma n = needs-other (isCommaInt s) p (code ",") s (comma-needed s) n h
+
+  pub no-time : p (code ":") ≡ false → isTime s ≡ false
+  no-time n = needs-other (isTime s) p (code ":") s (colon-needed s) n h
+
+  pub no-meridiem : p (code ":") ≡ false → p (code ".") ≡ false → isMeridiemTime s ≡ false
+  no-meridiem m n =
+      let t = timeOf s in
+      let unmarked = all-within p colonNorPoint (λ b k. rw (apart p (code ":") b m k, apart p (code ".") b n k)) in
+      let e : separatorAt t ≡ length t = all-span colonNorPoint t (unmarked t (all-split p s (length s - 2) h .0)) in
+      rw (e, le-ltb (length t) (length t) (omega arith)) (and-false (endsInMeridiem s))
+
+-- no row up to those of times takes the name
+pub record PastTimes (s : List ℕ) : Type 0 where
+  pub empty : eqb (length s) 0 ≡ false
+  pub dotted : isDottedAbbrev s ≡ false
+  pub comma : isCommaInt s ≡ false
+  pub time : isTime s ≡ false
+  pub meridiem : isMeridiemTime s ≡ false
+
+-- a name of a class without comma and colon that no letter leads
+pub past-times : (p : ℕ → Bool) (s : List ℕ) → all p s ≡ true → p (code ",") ≡ false → p (code ":") ≡ false → 0 < length s
+    → letter (getD s 0 0) ≡ false → isMeridiemTime s ≡ false → PastTimes s
+past-times p s h c d z l m = record {
+  empty = ne-eqb (length s) 0 (omega arith);
+  dotted = untaken (isDottedAbbrev s) (λ e. false≢true (sym l ∙ dotted-first s e));
+  comma = no-comma p s h c;
+  time = no-time p s h d;
+  meridiem = m;
+}
+
+-- a name of a class does not end in a byte outside it
+pub no-ending : (p : ℕ → Bool) (c : ℕ) (s : List ℕ) → p c ≡ false → all p s ≡ true → ends c s ≡ false
+no-ending p c s n h = untaken (ends c s) (λ e.
+    let k = all-at p 0 s (length s - 1) h (omega (arith, ends-some c s e)) in
+    false≢true (sym (apart p c (getD s (length s - 1) 0) n k) ∙ and-eq-true-iff (not (eqb (length s) 0)) (eqb (getD s (length s - 1) 0) c) .0 e .1))

@@ -5,7 +5,8 @@ use mathlib.Core.List.{List, [], _∷_, _++_}
 use Prim.Native.Nat.{ℕ, zero, suc, _<_}
 use native.Mathlib.Omega.{arith}
 use borrow.Author.Tests.{ne-eqb, le-leb, lt-leb}
-use Rattle.admit.specs.Refusals.{number, Test, _when_, firstDue, some, textLimit, textTests, textRefusal}
+use Rattle.lists.proofs.Scan.{any-append}
+use Rattle.admit.specs.Refusals.{number, Test, _when_, firstDue, textLimit, textTests, textRefusal}
 use Rattle.sentences.specs.Calls.{stepTests, smallerDue}
 
 -- the tests of two lists, each of which holds where it does in one of them
@@ -61,14 +62,9 @@ both-due n (r when h ∷ a) [] e = absurd e
 both-due n [] (q when k ∷ b) e = absurd e
 both-due n [] [] e = refl
 
--- some texts and others
-some-append : (p : List ℕ → Bool) (ss ts : List (List ℕ)) → some p (ss ++ ts) ≡ (some p ss || some p ts)
-some-append p [] ts = refl
-some-append p (s ∷ ss) ts = rw (some-append p ss ts, or-assoc)
-
 texts-due : (limit : ℕ) (ss ts : List (List ℕ)) → smallerDue (firstDue (textTests limit ss)) (firstDue (textTests limit ts)) ≡ firstDue (textTests limit (ss ++ ts))
 unfolding textTests
-texts-due limit ss ts = both-due 0 (textTests limit ss) (textTests limit ts) (omega arith, refl, (omega arith, refl, tt)) ∙ simp some-append
+texts-due limit ss ts = both-due 0 (textTests limit ss) (textTests limit ts) (omega arith, refl, (omega arith, refl, tt)) ∙ simp any-append
 
 pub three-due : (w n p : List ℕ) → smallerDue (smallerDue (textRefusal textLimit w) (textRefusal textLimit n)) (textRefusal textLimit p) ≡ firstDue (stepTests w n p)
 three-due w n p =

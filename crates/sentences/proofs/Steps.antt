@@ -3,9 +3,10 @@ use mathlib.Core.Path.{_≡_, refl, ap, ap₂}
 use mathlib.Core.Bool.{Bool, false}
 use mathlib.Core.List.{List, [], _∷_, map}
 use Prim.Native.Nat.{ℕ, zero, suc}
+use Rattle.lists.specs.Bytes.{Every}
 use Rattle.admit.specs.Refusals.{firstDue, textLimit, textRefusal, Call, call}
 use Rattle.tokens.specs.Tokens.{Token, tokens}
-use Rattle.tokens.proofs.Texts.{Accepted, Each, EachOf, tokens-accepted}
+use Rattle.tokens.proofs.Texts.{Accepted, Each, tokens-accepted}
 use Rattle.sentences.specs.Sentences.{startsAfter, starts, fresh, kept, breaks}
 use Rattle.sentences.specs.Calls.{stepTests, Stepped, stepCall}
 use Rattle.sentences.specs.Steps.{stepOf, fed, verdict, accepted, butFirst}
@@ -18,7 +19,9 @@ pub fresh-step : (w n p : List ℕ) → stepCall fresh w n p .value .breaks ≡ 
 unfolding stepCall
 fresh-step w n p = go (firstDue (stepTests w n p))
   where
-    go : (k : ℕ) → call {A = Stepped} (record { breaks = false; state = fresh }) k (record { breaks = breaks fresh w n; state = kept n p }) .value .breaks ≡ false
+    go : (k : ℕ)
+        → call {A = Stepped} (record { breaks = false; state = fresh }) k
+        (record { breaks = breaks fresh w n; state = kept n p }) .value .breaks ≡ false
     go zero = refl
     go (suc k) = refl
 
@@ -37,12 +40,13 @@ accepted-step : (s : State) (t : Token) → Each (Accepted textLimit) t
 unfolding stepCall
 accepted-step s t h = rw (← three-due (t .whitespace) (t .name) (t .punctuation), h .whitespace, h .name, h .punctuation)
 
-fed-after : (t : Token) (us : List Token) → EachOf (Accepted textLimit) us → map verdict (fed (kept (t .name) (t .punctuation)) us) ≡ map accepted (startsAfter t us)
+fed-after : (t : Token) (us : List Token) → Every (Each (Accepted textLimit)) us
+    → map verdict (fed (kept (t .name) (t .punctuation)) us) ≡ map accepted (startsAfter t us)
 unfolding fed startsAfter
 fed-after t [] h = refl
 fed-after t (u ∷ us) h = rw (accepted-step (kept (t .name) (t .punctuation)) u (h .0)) (ap₂ _∷_ (ap accepted (breaks-kept t u)) (fed-after u us (h .1)))
 
-fed-fresh : (ts : List Token) → EachOf (Accepted textLimit) ts → map verdict (fed fresh ts) ≡ map accepted (butFirst (starts ts))
+fed-fresh : (ts : List Token) → Every (Each (Accepted textLimit)) ts → map verdict (fed fresh ts) ≡ map accepted (butFirst (starts ts))
 unfolding fed starts butFirst
 fed-fresh [] h = refl
 fed-fresh (t ∷ ts) h = rw (accepted-step fresh t (h .0)) (ap (λ (r : List (Call Bool)). accepted false ∷ r) (fed-after t ts (h .1)))

@@ -1,5 +1,4 @@
 // Where sentences start: `sentences` of text.rs for a whole text, and `SentenceBuilder::push` token by token.
-use admit::Answer;
 use admit::Refusal;
 use admit::refusal_of;
 use lists::LOWERED;
@@ -232,7 +231,7 @@ fn write_starts(s: &[u8], starts: &mut [u8]) -> usize
     let mut at = 0;
     while at < s.len() {
         let t = token_at(s, at);
-        if t.prepunctuation == s.len() {
+        if t.none_left(s.len()) {
             return n;
         }
         let name = part(s, t.name, t.punctuation);
@@ -253,9 +252,8 @@ pub fn sentences(s: &[u8], starts: &mut [u8]) -> Tokens
         return Tokens { refusal, tokens: 0 };
     }
     if exceeds(s, starts.len()) {
-        let answer = Answer::Refused(Refusal::BufferTooShort);
         return Tokens {
-            refusal: answer.number(),
+            refusal: Refusal::BufferTooShort.number(),
             tokens: 0,
         };
     }

@@ -5,7 +5,7 @@ use Prim.Native.Nat.{ℕ, _+_, _-_}
 use Prim.Native.Char.{code}
 use lib.Dec.{leb, ltb, eqb}
 use lib.ListN.{length, take, drop, getD}
-use Rattle.lists.specs.Bytes.{bytes, all, span, afterLast, has, same, sameBy, lower, starts, ends, stripPrefix, stripSuffix, endsBy, split, allParts, filled}
+use Rattle.lists.specs.Bytes.{bytes, all, span, afterLast, has, same, sameBy, lower, starts, ends, stripPrefix, stripSuffix, endsBy, split, filled}
 use Rattle.lists.specs.Classes.{digit, letter, digitOrComma, romanTail, except}
 use Rattle.units.specs.Units.{isUnit}
 
@@ -42,7 +42,7 @@ isDouble s = isUnsigned (stripPrefix (code "-") s)
 
 unfoldable pub isCommaGroups : List (List ℕ) → Bool
 isCommaGroups [] = false
-isCommaGroups (first ∷ groups) = isDigits first && leb (length first) 3 && not (eqb (length groups) 0) && allParts (isNDigits 3) groups
+isCommaGroups (first ∷ groups) = isDigits first && leb (length first) 3 && not (eqb (length groups) 0) && all (isNDigits 3) groups
 
 -- "a comma, a first group of 1 to 3 digits and further groups of 3"
 abbrev pub isCommaInt : List ℕ → Bool
@@ -114,7 +114,7 @@ abbrev pub isOneLetter : List ℕ → Bool
 isOneLetter s = eqb (length s) 1 && isAlpha s
 
 unfoldable pub isDottedAbbrev : List ℕ → Bool
-isDottedAbbrev s = let parts = split (code ".") (stripSuffix (code ".") s) in leb 2 (length parts) && allParts isOneLetter parts
+isDottedAbbrev s = let parts = split (code ".") (stripSuffix (code ".") s) in leb 2 (length parts) && all isOneLetter parts
 
 abbrev pub areDigits : List ℕ → List ℕ → Bool
 areDigits a b = isDigits a && isDigits b
@@ -124,7 +124,7 @@ isDigitsSlashDigits = splitOnce (code "/") areDigits
 
 -- "drops empty parts"
 unfoldable pub isDigitsDashDigits : List ℕ → Bool
-isDigitsDashDigits s = let parts = filled (split (code "-") s) in leb 2 (length parts) && has (code "-") s && allParts isDigits parts
+isDigitsDashDigits s = let parts = filled (split (code "-") s) in leb 2 (length parts) && has (code "-") s && all isDigits parts
 
 -- split_unit: where the unit starts, "after the last digit"
 abbrev pub unitAt : List ℕ → ℕ

@@ -27,7 +27,7 @@ use lists::without_back;
 ghost use mathlib.Core.Path.{_≡_};
 ghost use Prim.Native.Nat.{min};
 ghost use lib.ListN.{length};
-ghost use Rattle.lists.specs.Bytes.{split, allParts, filled};
+ghost use Rattle.lists.specs.Bytes.{split, all, filled};
 ghost use Rattle.shapes.specs.Shapes.{isDigits, isAlpha, stripSign, isExponent, isUnsigned, isDouble, isCommaInt, isOrdinalSuffix, isOrdinal, isAmount, isUsMoney, isIllion, isSmallRoman, isRoman, isDrOrSt, isNumberS, isLeadingZeroDigits, isSevenDigitPhone, isNDigits, splitOnce, isHourMinute, isTime, isDottedAbbrev, isDigitsSlashDigits, isDigitsDashDigits, hasUnit, unitPart};
 ghost use Rattle.shapes.specs.Times.{endsInMeridiem, SplitsTime};
 ghost use Rattle.shapes.specs.Tests.{passes, bothPass};
@@ -116,7 +116,7 @@ fn part_passes(test: u8, s: &[u8]) -> bool
 
 // Whether every part between the bytes c passes.
 fn all_parts(test: u8, c: u8, s: &[u8]) -> bool
-    ensures { λ r. ⌜ r ≡ allParts (passes test) (split c (now (s .entry))) ⌝ }
+    ensures { λ r. ⌜ r ≡ all (passes test) (split c (now (s .entry))) ⌝ }
 {
     let mut i = 0;
     loop {

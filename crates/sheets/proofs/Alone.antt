@@ -1,17 +1,18 @@
 -- What the call of one entry gives is what stands in the whole sheet's call. Assumes nothing.
 use mathlib.Core.Path.{_≡_, refl, sym, ap, _∙_}
-use mathlib.Core.Bool.{Bool, true, false, _||_}
-use mathlib.Core.List.{List, [], _∷_, _++_}
+use mathlib.Core.Bool.{Bool, false}
+use mathlib.Core.List.{List, [], _∷_, _++_, flatten}
 use Prim.Native.Nat.{ℕ, zero, suc, _+_, _≤_, _<_}
 use native.Mathlib.Omega.{arith}
 use lib.Dec.{ltb}
 use lib.ListN.{length, take, drop, getD}
 use lib.Seq.{take-append-seam}
 use borrow.Author.Tests.{le-ltb, lt-leb}
+use Rattle.lists.proofs.Bools.{or-false-both}
+use Rattle.lists.specs.Bytes.{any}
 use Rattle.admit.specs.Refusals.{_when_, firstDue, textLimit, textTests, textRefusal, Call}
 use Rattle.admit.specs.declared.Refusal.the-variants.{NameTooLong, BufferTooShort}
 use Rattle.admit.proofs.Calls.{call-accepted, passed, both-passed, none-due}
-use Rattle.sink.specs.Words.{storeOf}
 use Rattle.tokens.specs.Tokens.{tokens}
 use Rattle.sheets.specs.Sheet.{SheetEntry, entries, wordsOf, lines, callSheet, countWords, noEntry}
 use Rattle.sheets.specs.Calls.{isLong, anyLong, Accepted, entryAt, lineAt, entryTests, EntryGiven, entryCall}
@@ -25,7 +26,8 @@ abbrev pub wordsGiven : List ℕ → ℕ → List ℕ → ℕ
 wordsGiven s k old = entryCall s k old .value .words
 
 -- "or would stand there if no other entry were held back by number 4": of the names its own alone decides
-pub entry-alone : (s old : List ℕ) (k : ℕ) → textRefusal textLimit s ≡ 0 → k < length (tokens s) → isLong (entryAt s k) ≡ false → length (lineAt s k) ≤ length old
+pub entry-alone : (s old : List ℕ) (k : ℕ) → textRefusal textLimit s ≡ 0 → k < length (tokens s) → isLong (entryAt s k) ≡ false
+    → length (lineAt s k) ≤ length old
     → (entryCall s k old .refusal ≡ 0) × (lineGiven s k old ≡ lineAt s k) × (wordsGiven s k old ≡ length (wordsOf (entryAt s k)))
 unfolding entryCall
 entry-alone s old k t h l r =
@@ -45,24 +47,16 @@ accepted-tests s a =
     let k = both-passed (textTests textLimit (s ∷ [])) _ a in
     (k .0, none-due (NameTooLong when anyLong (entries s) ∷ BufferTooShort when false ∷ []) (k .1) .0)
 
-or-left : (a b : Bool) → (a || b) ≡ false → a ≡ false
-or-left false b e = refl
-or-left true b e = e
-
-or-right : (a b : Bool) → (a || b) ≡ false → b ≡ false
-or-right false b e = e
-or-right true b e = let z : _≡_ {A = Bool} true false = e in cc
-
 short-at : (es : List SheetEntry) (k : ℕ) → k < length es → anyLong es ≡ false → isLong (getD es k noEntry) ≡ false
-unfolding anyLong
+unfolding any
 short-at [] k h e = absurd (omega arith)
-short-at (x ∷ es) zero h e = or-left (isLong x) (anyLong es) e
-short-at (x ∷ es) (suc k) h e = short-at es k (omega arith) (or-right (isLong x) (anyLong es) e)
+short-at (x ∷ es) zero h e = or-false-both (isLong x) (anyLong es) e .0
+short-at (x ∷ es) (suc k) h e = short-at es k (omega arith) (or-false-both (isLong x) (anyLong es) e .1)
 
 -- "its line as it stands in the whole sheet's call", and its words are its share of "the count of words"
 pub entry-line : (s old : List ℕ) (k : ℕ) → Accepted s → k < length (tokens s) → length (lineAt s k) ≤ length old
     → (entryCall s k old .refusal ≡ 0)
-    × (callSheet s ≡ storeOf (take k (lines s)) ++ (lineGiven s k old ++ storeOf (drop (suc k) (lines s))))
+    × (callSheet s ≡ flatten (take k (lines s)) ++ (lineGiven s k old ++ flatten (drop (suc k) (lines s))))
     × (countWords (entries s) ≡ countWords (take k (entries s)) + (wordsGiven s k old + countWords (drop (suc k) (entries s))))
 entry-line s old k a h r =
     let t = accepted-tests s a in

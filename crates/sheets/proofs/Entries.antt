@@ -1,29 +1,25 @@
 -- The entries of a sheet, one by one. Assumes nothing.
 use mathlib.Core.Path.{_≡_, refl, sym, ap, _∙_}
-use mathlib.Core.Bool.{Bool, true}
-use mathlib.Core.List.{List, [], _∷_, _++_, map, append-assoc}
+use mathlib.Core.Bool.{Bool}
+use mathlib.Core.List.{List, [], _∷_, _++_, map, append-assoc, flatten}
 use Prim.Native.Nat.{ℕ, zero, suc, _+_, _<_}
 use native.Mathlib.Omega.{arith}
 use lib.ListN.{length, take, drop, getD, length-map}
-use Rattle.sink.specs.Words.{storeOf}
 use Rattle.tokens.specs.Tokens.{Token, tokens}
-use Rattle.sentences.specs.Sentences.{isBreak, startsAfter, starts}
+use Rattle.sentences.specs.Sentences.{fresh, kept}
+use Rattle.sentences.specs.declared.State.{State}
+use Rattle.sentences.proofs.Kept.{marksFrom, marks-starts}
 use Rattle.sheets.specs.Sheet.{SheetEntry, entriesOf, entries, wordsOf, lineOf, lines, callSheet, countWords, noEntry}
 use Rattle.sheets.specs.Calls.{entryAt, lineAt}
 
 -- an entry for each token
-after-length : (b : Bool) (t : Token) (ts : List Token) → length (entriesOf (b ∷ startsAfter t ts) (t ∷ ts)) ≡ suc (length ts)
-unfolding entriesOf startsAfter
-after-length b t [] = refl
-after-length b t (u ∷ us) = ap suc (after-length (isBreak t u) u us)
+from-length : (st : State) (ts : List Token) → length (entriesOf (marksFrom st ts) ts) ≡ length ts
+unfolding entriesOf marksFrom
+from-length st [] = refl
+from-length st (t ∷ ts) = ap suc (from-length (kept (t .name) (t .punctuation)) ts)
 
 pub entries-length : (s : List ℕ) → length (entries s) ≡ length (tokens s)
-unfolding entriesOf starts
-entries-length s = go (tokens s)
-  where
-    go : (ts : List Token) → length (entriesOf (starts ts) ts) ≡ length ts
-    go [] = refl
-    go (t ∷ ts) = after-length true t ts
+entries-length s = ap (λ (bs : List Bool). length (entriesOf bs (tokens s))) (sym (marks-starts (tokens s))) ∙ from-length fresh (tokens s)
 
 map-at : (es : List SheetEntry) (k : ℕ) → k < length es → getD (map lineOf es) k [] ≡ lineOf (getD es k noEntry)
 map-at [] k h = absurd (omega arith)
@@ -35,14 +31,15 @@ pub line-at : (s : List ℕ) (k : ℕ) → k < length (tokens s) → lineAt s k 
 line-at s k h = map-at (entries s) k (omega (arith, entries-length s))
 
 -- what stands before one of several texts, it, and what stands after it
-store-at : (ls : List (List ℕ)) (k : ℕ) → k < length ls → storeOf ls ≡ storeOf (take k ls) ++ (getD ls k [] ++ storeOf (drop (suc k) ls))
-unfolding storeOf
-store-at [] k h = absurd (omega arith)
-store-at (l ∷ ls) zero h = refl
-store-at (l ∷ ls) (suc k) h = ap (λ (r : List ℕ). l ++ r) (store-at ls k (omega arith)) ∙ sym (append-assoc l _ _)
+flatten-at : (ls : List (List ℕ)) (k : ℕ) → k < length ls → flatten ls ≡ flatten (take k ls) ++ (getD ls k [] ++ flatten (drop (suc k) ls))
+unfolding flatten
+flatten-at [] k h = absurd (omega arith)
+flatten-at (l ∷ ls) zero h = refl
+flatten-at (l ∷ ls) (suc k) h = ap (λ (r : List ℕ). l ++ r) (flatten-at ls k (omega arith)) ∙ sym (append-assoc l _ _)
 
 -- the words before one of several entries, its own, and those after it
-words-at : (es : List SheetEntry) (k : ℕ) → k < length es → countWords es ≡ countWords (take k es) + (length (wordsOf (getD es k noEntry)) + countWords (drop (suc k) es))
+words-at : (es : List SheetEntry) (k : ℕ) → k < length es
+    → countWords es ≡ countWords (take k es) + (length (wordsOf (getD es k noEntry)) + countWords (drop (suc k) es))
 unfolding countWords
 words-at [] k h = absurd (omega arith)
 words-at (e ∷ es) zero h = omega arith
@@ -50,8 +47,8 @@ words-at (e ∷ es) (suc k) h = omega (arith, words-at es k (omega arith))
 
 -- the call sheet and the count of words, at entry k
 pub sheet-at : (s : List ℕ) (k : ℕ) → k < length (tokens s)
-    → (callSheet s ≡ storeOf (take k (lines s)) ++ (lineAt s k ++ storeOf (drop (suc k) (lines s))))
+    → (callSheet s ≡ flatten (take k (lines s)) ++ (lineAt s k ++ flatten (drop (suc k) (lines s))))
     × (countWords (entries s) ≡ countWords (take k (entries s)) + (length (wordsOf (entryAt s k)) + countWords (drop (suc k) (entries s))))
 sheet-at s k h =
     let n = entries-length s in
-    (store-at (lines s) k (omega (arith, length-map (entries s) lineOf)), words-at (entries s) k (omega arith))
+    (flatten-at (lines s) k (omega (arith, length-map (entries s) lineOf)), words-at (entries s) k (omega arith))

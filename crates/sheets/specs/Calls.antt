@@ -1,11 +1,11 @@
 -- What calling a whole sheet and calling one entry answer, and leave in the lent buffer. Definitions only.
 use mathlib.Core.Path.{_≡_}
-use mathlib.Core.Bool.{Bool, false, _||_}
+use mathlib.Core.Bool.{Bool, false}
 use mathlib.Core.List.{List, [], _∷_, _++_}
 use Prim.Native.Nat.{ℕ}
 use lib.Dec.{leb, ltb}
 use lib.ListN.{length, getD}
-use Rattle.lists.specs.Bytes.{over}
+use Rattle.lists.specs.Bytes.{any, over}
 use Rattle.admit.specs.Refusals.{Test, _when_, firstDue, textLimit, textTests, Call, call}
 use Rattle.admit.specs.declared.Refusal.the-variants.{NoSuchEntry, NameTooLong, BufferTooShort}
 use Rattle.tokens.specs.Tokens.{tokens}
@@ -19,9 +19,8 @@ nameLimit = 4096
 abbrev pub isLong : SheetEntry → Bool
 isLong e = ltb nameLimit (length (e .name))
 
-unfoldable pub anyLong : List SheetEntry → Bool
-anyLong [] = false
-anyLong (e ∷ es) = isLong e || anyLong es
+abbrev pub anyLong : List SheetEntry → Bool
+anyLong = any isLong
 
 -- ---- the whole sheet
 

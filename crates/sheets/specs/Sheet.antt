@@ -1,11 +1,10 @@
 -- Document 01, "Call sheet": the lines of a sheet's entries. Definitions only.
 use mathlib.Core.Bool.{Bool, false, cond}
-use mathlib.Core.List.{List, [], _∷_, _++_, map}
+use mathlib.Core.List.{List, [], _∷_, _++_, map, flatten}
 use Prim.Native.Nat.{ℕ, _+_}
 use Prim.Native.Char.{code}
 use lib.ListN.{length}
 use Rattle.lists.specs.Bytes.{bytes}
-use Rattle.sink.specs.Words.{storeOf}
 use Rattle.numerals.specs.Words.{spelled}
 use Rattle.tokens.specs.Tokens.{Token, tokens}
 use Rattle.sentences.specs.Sentences.{starts}
@@ -49,7 +48,7 @@ lines s = map lineOf (entries s)
 
 -- the call sheet of a sheet: its lines end to end. "No header."
 abbrev pub callSheet : List ℕ → List ℕ
-callSheet s = storeOf (lines s)
+callSheet s = flatten (lines s)
 
 -- "the count of words"
 unfoldable pub countWords : List SheetEntry → ℕ

@@ -1,8 +1,8 @@
 -- What a run of words leaves in the buffers, and what a call answers that measures first. Assumes nothing.
 use mathlib.Core.Path.{_≡_, refl, sym, ap, _∙_}
-use mathlib.Core.Bool.{Bool, true, false, _||_}
+use mathlib.Core.Bool.{Bool, true, false}
 use mathlib.Core.Logic.{⊎-elim}
-use mathlib.Core.List.{List, [], _∷_, _++_}
+use mathlib.Core.List.{List, [], _∷_, _++_, flatten}
 use Prim.Native.Nat.{ℕ, _+_, _*_, _≤_, _<_, min}
 use native.Mathlib.Nat.{add-zero, zero-add}
 use native.Mathlib.Omega.{arith}
@@ -13,11 +13,12 @@ use borrow.Author.Tests.{ltb-false, le-ltb, lt-ltb}
 use Rattle.lists.specs.Bytes.{over}
 use Rattle.lists.specs.LittleEndian.{leBytes}
 use Rattle.lists.proofs.Sets.{sets-append, sets-front, le-or-lt}
+use Rattle.lists.proofs.Bools.{or-false-both}
 use Rattle.admit.specs.Refusals.{Test, _when_, textLimit, textTests, textRefusal}
 use Rattle.admit.specs.declared.Refusal.the-variants.{BufferTooShort}
 use Rattle.admit.proofs.Calls.{held, passed}
 use Rattle.sink.specs.Sink.{top, pairOf, pairBytes, Sink, sink, gap, afterGap, emit, emitAll}
-use Rattle.sink.specs.Words.{storeOf, tableOf, shortFor, short, wordsCall, asWords, startPen, spokenBy, refusedBy}
+use Rattle.sink.specs.Words.{tableOf, shortFor, short, wordsCall, asWords, startPen, spokenBy, refusedBy}
 use Rattle.sink.specs.declared.Pen.{Pen}
 use Rattle.sink.specs.declared.Spoken.{Spoken}
 
@@ -37,8 +38,8 @@ tableBy g at [] = []
 tableBy g at (w ∷ ws) = pairOf (at + length (gap g)) (length w) ++ tableBy g (at + length (gap g) + length w) ws
 
 -- without gaps they are what a call gives
-store-plain : (ws : List (List ℕ)) → storeBy false ws ≡ storeOf ws
-unfolding storeBy storeOf
+store-plain : (ws : List (List ℕ)) → storeBy false ws ≡ flatten ws
+unfolding storeBy flatten
 store-plain [] = refl
 store-plain (w ∷ ws) = ap (λ (s : List ℕ). w ++ s) (store-plain ws)
 
@@ -112,32 +113,24 @@ ltb-same a b l f g =
     (λ (h : l < a). lt-ltb l a h ∙ sym (lt-ltb l b (f h)))
     (le-or-lt a l)
 
-or-left : (a b : Bool) → (a || b) ≡ false → a ≡ false
-or-left false b e = refl
-or-left true b e = e
-
-or-right : (a b : Bool) → (a || b) ≡ false → b ≡ false
-or-right false b e = e
-or-right true b e = let z : _≡_ {A = Bool} true false = e in cc
-
 -- the pen after the words ws, on any buffers, tells whether buffers of a and b bytes are too short for them
 pub measured : (ws : List (List ℕ)) (a b : ℕ) → a < top → b < top → (x y x₀ y₀ : List ℕ) {m p₀ : Pen} → p₀ ≡ startPen → sink x y m ≡ emitAll ws (sink x₀ y₀ p₀)
-    → shortFor (m .at) (m .words) a b ≡ shortFor (length (storeOf ws)) (length ws) a b
+    → shortFor (m .at) (m .words) a b ≡ shortFor (length (flatten ws)) (length ws) a b
 measured ws a b ha hb x y x₀ y₀ {m} {p₀} e₀ e =
     let s₀ = sink x₀ y₀ p₀ in
     let i : p₀ .at ≡ 0 = ap (λ (p : Pen). p .at) e₀ in
     let j : p₀ .words ≡ 0 = ap (λ (p : Pen). p .words) e₀ in
-    let f : storeBy (p₀ .spaced) ws ≡ storeOf ws = ap (λ (p : Pen). storeBy (p .spaced) ws) e₀ ∙ store-plain ws in
-    let n : m .at ≡ min (p₀ .at + length (storeOf ws)) top = rw f at (ap (λ (q : Sink). q .at) e ∙ emitAll-at ws s₀ (omega arith)) in
+    let f : storeBy (p₀ .spaced) ws ≡ flatten ws = ap (λ (p : Pen). storeBy (p .spaced) ws) e₀ ∙ store-plain ws in
+    let n : m .at ≡ min (p₀ .at + length (flatten ws)) top = rw f at (ap (λ (q : Sink). q .at) e ∙ emitAll-at ws s₀ (omega arith)) in
     let w : m .words ≡ min (p₀ .words + length ws) top = ap (λ (q : Sink). q .words) e ∙ emitAll-words ws s₀ (omega arith) in
     rw (
-      ltb-same (m .at) (length (storeOf ws)) a (λ h. omega arith) (λ h. omega arith),
+      ltb-same (m .at) (length (flatten ws)) a (λ h. omega arith) (λ h. omega arith),
       ltb-same (pairBytes * m .words) (pairBytes * length ws) b (λ h. omega arith) (λ h. omega arith),
     )
 
 -- buffers that are long enough are not too short
-pub long-enough : (ws : List (List ℕ)) (a b : ℕ) → length (storeOf ws) ≤ a → pairBytes * length ws ≤ b → shortFor (length (storeOf ws)) (length ws) a b ≡ false
-long-enough ws a b h k = rw (le-ltb a (length (storeOf ws)) h, le-ltb b (pairBytes * length ws) k)
+pub long-enough : (ws : List (List ℕ)) (a b : ℕ) → length (flatten ws) ≤ a → pairBytes * length ws ≤ b → shortFor (length (flatten ws)) (length ws) a b ≡ false
+long-enough ws a b h k = rw (le-ltb a (length (flatten ws)) h, le-ltb b (pairBytes * length ws) k)
 
 -- ws are the words of the text s, whose refusal n is tested first; st and tb are the lent buffers
 module _ (s : List ℕ) (ws : List (List ℕ)) (st tb : List ℕ) (n : ℕ) (due : n ≡ textRefusal textLimit s) where
@@ -166,16 +159,17 @@ module _ (s : List ℕ) (ws : List (List ℕ)) (st tb : List ℕ) (n : ℕ) (due
       → {r : Spoken} → r ≡ spokenBy p → asWords r st′ tb′ ≡ wordsCall s ws st tb
   unfolding wordsCall
   all-written z f hs ht {st′} {tb′} {p} {p₁} e₁ d q =
-      let fs : length (storeOf ws) ≤ length st = ltb-false _ _ (or-left (ltb (length st) (length (storeOf ws))) (ltb (length tb) (pairBytes * length ws)) f) in
-      let ft : pairBytes * length ws ≤ length tb = ltb-false _ _ (or-right (ltb (length st) (length (storeOf ws))) (ltb (length tb) (pairBytes * length ws)) f) in
+      let fits = or-false-both (ltb (length st) (length (flatten ws))) (ltb (length tb) (pairBytes * length ws)) f in
+      let fs : length (flatten ws) ≤ length st = ltb-false _ _ (fits .0) in
+      let ft : pairBytes * length ws ≤ length tb = ltb-false _ _ (fits .1) in
       let g = store-plain ws in
-      let eg : length (storeBy false ws) ≡ length (storeOf ws) = ap (λ (t : List ℕ). length t) g in
+      let eg : length (storeBy false ws) ≡ length (flatten ws) = ap (λ (t : List ℕ). length t) g in
       let all : sink st′ tb′ p ≡ after ws (sink st tb startPen) =
       d ∙ ap (λ (k : Pen). emitAll ws (sink st tb k)) e₁ ∙ emitAll-is ws (sink st tb startPen) (omega arith) (omega arith) in
-      let es : st′ ≡ over (storeOf ws) st = ap (λ (k : Sink). k .store) all ∙ ap (sets st 0) g ∙ sets-front st (storeOf ws) fs in
+      let es : st′ ≡ over (flatten ws) st = ap (λ (k : Sink). k .store) all ∙ ap (sets st 0) g ∙ sets-front st (flatten ws) fs in
       let et : tb′ ≡ over (tableOf 0 ws) tb =
       ap (λ (k : Sink). k .table) all ∙ ap (sets tb 0) (table-plain 0 ws)
       ∙ sets-front tb (tableOf 0 ws) (omega (arith, tableOf-length 0 ws)) in
-      let ea : p .at ≡ length (storeOf ws) = ap (λ (k : Sink). k .at) all ∙ zero-add (length (storeBy false ws)) ∙ eg in
+      let ea : p .at ≡ length (flatten ws) = ap (λ (k : Sink). k .at) all ∙ zero-add (length (storeBy false ws)) ∙ eg in
       let ew : p .words ≡ length ws = ap (λ (k : Sink). k .words) all ∙ zero-add (length ws) in
       rw (q, passed text room due z, f) (λ j. record { refusal = 0; value = record { words = ew j; bytes = ea j; store = es j; table = et j } })

@@ -1,6 +1,6 @@
 -- Document 01, "Number words": what a call that gives words answers, and leaves in the lent buffers. Definitions only.
 use mathlib.Core.Bool.{Bool, true, false, _||_}
-use mathlib.Core.List.{List, [], _∷_, _++_}
+use mathlib.Core.List.{List, [], _∷_, _++_, flatten}
 use Prim.Native.Nat.{ℕ, _+_, _*_}
 use lib.Dec.{ltb}
 use lib.ListN.{length}
@@ -10,11 +10,6 @@ use Rattle.admit.specs.declared.Refusal.the-variants.{BufferTooShort}
 use Rattle.sink.specs.Sink.{pairOf, pairBytes}
 use Rattle.sink.specs.declared.Pen.{Pen}
 use Rattle.sink.specs.declared.Spoken.{Spoken}
-
--- "Words come back end to end in a byte store"
-unfoldable pub storeOf : List (List ℕ) → List ℕ
-storeOf [] = []
-storeOf (w ∷ ws) = w ++ storeOf ws
 
 -- "with a table of pairs of offset and length sorted by offset, one pair a word"; the first word starts at `at`
 unfoldable pub tableOf : ℕ → List (List ℕ) → List ℕ
@@ -32,17 +27,17 @@ pub record Written : Type 0 where
 abbrev pub nothingWritten : List ℕ → List ℕ → Written
 nothingWritten store table = record { words = 0; bytes = 0; store = store; table = table }
 
--- "bytes past the result stay"
+-- "Words come back end to end in a byte store", and "bytes past the result stay"
 abbrev pub written : List (List ℕ) → List ℕ → List ℕ → Written
 written ws store table =
-    record { words = length ws; bytes = length (storeOf ws); store = over (storeOf ws) store; table = over (tableOf 0 ws) table }
+    record { words = length ws; bytes = length (flatten ws); store = over (flatten ws) store; table = over (tableOf 0 ws) table }
 
 -- "a lent output buffer is smaller than the whole result"
 abbrev pub shortFor : ℕ → ℕ → ℕ → ℕ → Bool
 shortFor bytes words store table = ltb store bytes || ltb table (pairBytes * words)
 
 abbrev pub short : List (List ℕ) → List ℕ → List ℕ → Bool
-short ws store table = shortFor (length (storeOf ws)) (length ws) (length store) (length table)
+short ws store table = shortFor (length (flatten ws)) (length ws) (length store) (length table)
 
 abbrev pub wordsTests : List ℕ → List (List ℕ) → List ℕ → List ℕ → List Test
 wordsTests s ws store table = textTests textLimit (s ∷ []) ++ BufferTooShort when short ws store table ∷ []

@@ -2,7 +2,7 @@
 use mathlib.Core.Path.{_≡_, refl, sym, ap, ap₂, _∙_}
 use mathlib.Core.Bool.{Bool, true, false, and-false}
 use mathlib.Core.Logic.{⊎-elim}
-use mathlib.Core.List.{List, []}
+use mathlib.Core.List.{List, [], flatten}
 use Prim.Native.Nat.{ℕ, suc, _+_, _-_, _≤_, _<_}
 use native.Mathlib.Omega.{arith}
 use lib.Dec.{eqb, leb}
@@ -13,7 +13,6 @@ use Rattle.lists.specs.Bytes.{all, span, lead, after, afterLast}
 use Rattle.lists.specs.Classes.{leadingMarks, whitespace, nonWhitespace, leadingMark, unmarked}
 use Rattle.lists.proofs.Scan.{span-le, all-span, span-full, span-within, span-lead, last-le, one-in}
 use Rattle.lists.proofs.Sets.{le-or-lt}
-use Rattle.sink.specs.Words.{storeOf}
 use Rattle.tokens.specs.Tokens.{Token, cut, afterWhite, afterRun, firstToken, parts}
 use Rattle.tokens.specs.Table.{placesOf, CutAt}
 use Rattle.tokens.proofs.Forward.{cut-joined, size-parts, cut-white}
@@ -67,8 +66,8 @@ cut-places at w run ends n p c =
     let ew : length (t .whitespace) ≡ length w = ap (λ (u : Token). length (u .whitespace)) q in
     let en : length (t .prepunctuation) ≡ n = ap (λ (u : Token). length (u .prepunctuation)) q ∙ sym (c .name) in
     let ep : n + length (t .name) ≡ p = ap (λ (u : Token). n + length (u .name)) q ∙ sym (c .punctuation) in
-    let sum : length (storeOf (parts t)) ≡ length w + length run = ap length (cut-joined w run ends) ∙ length-append w run in
-    let all : length (storeOf (parts t)) ≡ length (t .whitespace) + (length (t .prepunctuation) + (length (t .name) + length (t .punctuation))) = size-parts t in
+    let sum : length (flatten (parts t)) ≡ length w + length run = ap length (cut-joined w run ends) ∙ length-append w run in
+    let all : length (flatten (parts t)) ≡ length (t .whitespace) + (length (t .prepunctuation) + (length (t .name) + length (t .punctuation))) = size-parts t in
     let e1 : at + length w ≡ at + length (t .whitespace) = omega arith in
     let e2 : at + length w + n ≡ at + length (t .whitespace) + length (t .prepunctuation) = omega arith in
     let e3 : at + length w + p ≡ at + length (t .whitespace) + length (t .prepunctuation) + length (t .name) = omega arith in

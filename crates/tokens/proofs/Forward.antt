@@ -1,7 +1,7 @@
 -- The tokens of a text from its front, and how a token's parts make up what it took. Assumes nothing.
 use mathlib.Core.Path.{_≡_, refl, sym, ap, ap₂, _∙_}
 use mathlib.Core.Bool.{Bool, true, false, cond, _&&_}
-use mathlib.Core.List.{List, [], _∷_, _++_, append-nil}
+use mathlib.Core.List.{List, [], _∷_, _++_, append-nil, flatten}
 use Prim.Native.Nat.{ℕ, zero, suc, _+_, _-_, _≤_, _<_}
 use native.Mathlib.Nat.{add-zero}
 use native.Mathlib.Omega.{arith}
@@ -12,7 +12,6 @@ use Rattle.lists.specs.Bytes.{all, span, lead, after}
 use Rattle.lists.specs.Classes.{whitespace, nonWhitespace, leadingMark}
 use Rattle.lists.proofs.Recursion.{Local, recur-eq, cond-cong}
 use Rattle.lists.proofs.Scan.{span-le, span-short, span-fails, span-some}
-use Rattle.sink.specs.Words.{storeOf}
 use Rattle.tokens.specs.Tokens.{Token, marked, nameSize, cut, afterWhite, afterRun, firstToken, tokensStep, tokens, parts}
 use Rattle.tokens.specs.Table.{size}
 
@@ -50,14 +49,14 @@ unfolding tokensStep
 tokens-more s h = tokens-eq s ∙ rw h
 
 -- a run's parts are joined behind its whitespace
-pub cut-joined : (white run : List ℕ) (ends : Bool) → storeOf (parts (cut white run ends)) ≡ white ++ run
-unfolding cut storeOf
+pub cut-joined : (white run : List ℕ) (ends : Bool) → flatten (parts (cut white run ends)) ≡ white ++ run
+unfolding cut flatten
 cut-joined white run ends = go (ends && all leadingMark run)
   where
     rest : List ℕ
     rest = after leadingMark run
 
-    go : (t : Bool) → storeOf (parts (cond t (record { whitespace = white; prepunctuation = []; name = run; punctuation = [] }) (marked white run))) ≡ white ++ run
+    go : (t : Bool) → flatten (parts (cond t (record { whitespace = white; prepunctuation = []; name = run; punctuation = [] }) (marked white run))) ≡ white ++ run
     go true = ap (λ (r : List ℕ). white ++ r) (append-nil run)
     go false =
         ap (λ (r : List ℕ). white ++ (lead leadingMark run ++ (take (nameSize rest) rest ++ r))) (append-nil (drop (nameSize rest) rest))
@@ -65,8 +64,8 @@ cut-joined white run ends = go (ends && all leadingMark run)
         ∙ ap (λ (r : List ℕ). white ++ r) (take-append-drop (span leadingMark run) run)
 
 -- the bytes of a token's parts
-pub size-parts : (t : Token) → length (storeOf (parts t)) ≡ length (t .whitespace) + (length (t .prepunctuation) + (length (t .name) + length (t .punctuation)))
-unfolding storeOf
+pub size-parts : (t : Token) → length (flatten (parts t)) ≡ length (t .whitespace) + (length (t .prepunctuation) + (length (t .name) + length (t .punctuation)))
+unfolding flatten
 size-parts t = simp (length-append, append-nil) refl
 
 -- the bytes that the first token takes
@@ -76,7 +75,7 @@ firstSize s = span whitespace s + span nonWhitespace (afterWhite s)
 pub afterRun-drop : (s : List ℕ) → afterRun s ≡ drop (firstSize s) s
 afterRun-drop s = drop-drop (span nonWhitespace (afterWhite s)) (span whitespace s) s
 
-pub first-take : (s : List ℕ) → storeOf (parts (firstToken s)) ≡ take (firstSize s) s
+pub first-take : (s : List ℕ) → flatten (parts (firstToken s)) ≡ take (firstSize s) s
 first-take s =
     cut-joined (lead whitespace s) (lead nonWhitespace (afterWhite s)) (eqb (length (afterRun s)) 0)
     ∙ sym (take-add (span whitespace s) (span nonWhitespace (afterWhite s)) s)
@@ -88,7 +87,7 @@ first-size s =
     ap length (first-take s) ∙ length-take-le (firstSize s) s (omega arith)
 
 -- the text is its first token's parts and what follows them
-pub first-joined : (s : List ℕ) → storeOf (parts (firstToken s)) ++ afterRun s ≡ s
+pub first-joined : (s : List ℕ) → flatten (parts (firstToken s)) ++ afterRun s ≡ s
 first-joined s = ap₂ (λ (x y : List ℕ). x ++ y) (first-take s) (afterRun-drop s) ∙ take-append-drop (firstSize s) s
 
 -- the whitespace before a run has no say in its cut

@@ -1,7 +1,7 @@
 -- Joined, the pairs give the text less its trailing whitespace, and each part is where its pair says. Assumes nothing.
 use mathlib.Core.Path.{_≡_, refl, sym, ap, ap₂, _∙_}
 use mathlib.Core.Bool.{true, false}
-use mathlib.Core.List.{List, [], _∷_, _++_, flatMap, append-assoc, append-nil}
+use mathlib.Core.List.{List, [], _∷_, _++_, flatMap, append-assoc, append-nil, flatten}
 use Prim.Native.Nat.{ℕ, zero, suc, _+_, _*_, _^_, _<_}
 use native.Mathlib.Nat.{add-zero, add-assoc}
 use native.Mathlib.Omega.{arith}
@@ -12,7 +12,7 @@ use Rattle.lists.specs.Classes.{whitespace, nonWhitespace}
 use Rattle.lists.specs.LittleEndian.{leValue}
 use Rattle.lists.proofs.Scan.{last-none, last-span, last-drop}
 use Rattle.sink.specs.Sink.{pairOf}
-use Rattle.sink.specs.Words.{storeOf, tableOf}
+use Rattle.sink.specs.Words.{tableOf}
 use Rattle.sink.proofs.Finish.{tableOf-length}
 use Rattle.sink.proofs.ReadBack.{wordAt, word-read}
 use Rattle.tokens.specs.Tokens.{Token, afterWhite, afterRun, tokens, parts}
@@ -44,22 +44,22 @@ tokens-joined =
 abbrev pub partsOf : List Token → List (List ℕ)
 partsOf ts = flatMap parts ts
 
-store-append : (xs ys : List (List ℕ)) → storeOf (xs ++ ys) ≡ storeOf xs ++ storeOf ys
-unfolding storeOf
-store-append [] ys = refl
-store-append (x ∷ xs) ys = rw (store-append xs ys) (sym (append-assoc x (storeOf xs) (storeOf ys)))
+flatten-append : (xs ys : List (List ℕ)) → flatten (xs ++ ys) ≡ flatten xs ++ flatten ys
+unfolding flatten
+flatten-append [] ys = refl
+flatten-append (x ∷ xs) ys = rw (flatten-append xs ys) (sym (append-assoc x (flatten xs) (flatten ys)))
 
-table-append : (at : ℕ) (xs ys : List (List ℕ)) → tableOf at (xs ++ ys) ≡ tableOf at xs ++ tableOf (at + length (storeOf xs)) ys
-unfolding storeOf tableOf
+table-append : (at : ℕ) (xs ys : List (List ℕ)) → tableOf at (xs ++ ys) ≡ tableOf at xs ++ tableOf (at + length (flatten xs)) ys
+unfolding flatten tableOf
 table-append at [] ys = rw (add-zero at)
 table-append at (x ∷ xs) ys =
-    rw (table-append (at + length x) xs ys, length-append x (storeOf xs), ← add-assoc at (length x) (length (storeOf xs)))
-    (sym (append-assoc (pairOf at (length x)) (tableOf (at + length x) xs) (tableOf (at + length x + length (storeOf xs)) ys)))
+    rw (table-append (at + length x) xs ys, length-append x (flatten xs), ← add-assoc at (length x) (length (flatten xs)))
+    (sym (append-assoc (pairOf at (length x)) (tableOf (at + length x) xs) (tableOf (at + length x + length (flatten xs)) ys)))
 
-joined-store : (ts : List Token) → joined ts ≡ storeOf (partsOf ts)
-unfolding joined flatMap storeOf
+joined-store : (ts : List Token) → joined ts ≡ flatten (partsOf ts)
+unfolding joined flatMap flatten
 joined-store [] = refl
-joined-store (t ∷ ts) = rw (joined-store ts) (sym (store-append (parts t) (partsOf ts)))
+joined-store (t ∷ ts) = rw (joined-store ts) (sym (flatten-append (parts t) (partsOf ts)))
 
 -- the records are one table of all parts
 pub records-table : (at : ℕ) (ts : List Token) → records at ts ≡ tableOf at (partsOf ts)
@@ -95,18 +95,18 @@ table-front at ws u s i h = ap₂ (λ (a n : ℕ). take n (drop a s)) (number (2
 -- part j of token i is where its pair says in the text
 pub part-read : (s : List ℕ) (none : Token) (i j : ℕ) → i < length (tokens s) → j < 4 → length s < 256 ^ 4
     → wordAt (4 * i + j) (records 0 (tokens s)) s ≡ getD (parts (getD (tokens s) i none)) j []
-unfolding storeOf
+unfolding flatten
 part-read s none i j h k l =
     let ws : List (List ℕ) = partsOf (tokens s) in
     let z : List ℕ = drop (afterLast nonWhitespace s) s in
     let q = parts-at (tokens s) none i j h k in
-    let e : storeOf (ws ++ z ∷ []) ≡ s =
-    store-append ws (z ∷ []) ∙ ap₂ _++_ (sym (joined-store (tokens s)) ∙ tokens-joined s) (append-nil z)
+    let e : flatten (ws ++ z ∷ []) ≡ s =
+    flatten-append ws (z ∷ []) ∙ ap₂ _++_ (sym (joined-store (tokens s)) ∙ tokens-joined s) (append-nil z)
     ∙ take-append-drop (afterLast nonWhitespace s) s in
-    let r : wordAt (4 * i + j) (tableOf 0 (ws ++ z ∷ [])) (storeOf (ws ++ z ∷ [])) ≡ getD (ws ++ z ∷ []) (4 * i + j) [] =
+    let r : wordAt (4 * i + j) (tableOf 0 (ws ++ z ∷ [])) (flatten (ws ++ z ∷ [])) ≡ getD (ws ++ z ∷ []) (4 * i + j) [] =
     word-read (ws ++ z ∷ []) (4 * i + j) (simp length-append (omega arith)) (rw e l) in
     rw records-table
-    (sym (table-front 0 ws (tableOf (0 + length (storeOf ws)) (z ∷ [])) s (4 * i + j) (q .0))
+    (sym (table-front 0 ws (tableOf (0 + length (flatten ws)) (z ∷ [])) s (4 * i + j) (q .0))
     ∙ (rw (e, table-append 0 ws (z ∷ [])) at r)
     ∙ List·getD-append ws (z ∷ []) [] (4 * i + j) (q .0)
     ∙ q .1)

@@ -1,13 +1,13 @@
 -- Each part of a token of an accepted text is an accepted text. Assumes nothing.
 use mathlib.Core.Path.{_≡_, refl, sym, ap, _∙_}
 use mathlib.Core.Bool.{Bool, true, false, cond, _&&_, and-eq-true-iff}
-use mathlib.Core.List.{List, [], _∷_, _++_}
+use mathlib.Core.List.{List, [], _∷_, _++_, flatten}
 use Prim.Native.Nat.{ℕ, _+_}
 use native.Mathlib.Omega.{arith}
 use lib.Dec.{eqb}
 use lib.ListN.{length, take, drop, getD, length-append, take-append-drop}
 use borrow.Author.Tests.{not-false}
-use Rattle.lists.specs.Bytes.{all, span, lead, after}
+use Rattle.lists.specs.Bytes.{all, span, lead, after, Every}
 use Rattle.lists.specs.Classes.{ascii, whites, leadingMarks, trailingMarks, whitespace, nonWhitespace, leadingMark, trailingMark, unmarked}
 use Rattle.lists.proofs.Scan.{span-all, span-front, all-front, all-within, last-rest, one-in}
 use Rattle.admit.specs.Utf8.{utf8}
@@ -15,7 +15,6 @@ use Rattle.admit.specs.Refusals.{textRefusal}
 use Rattle.admit.proofs.Utf8.{utf8-run, utf8-all}
 use Rattle.admit.proofs.Utf8Parts.{utf8-append}
 use Rattle.admit.proofs.Calls.{text-fit, text-accepted}
-use Rattle.sink.specs.Words.{storeOf}
 use Rattle.tokens.specs.Tokens.{Token, marked, nameSize, cut, afterWhite, afterRun, firstToken, tokens}
 use Rattle.tokens.proofs.Forward.{tokens-none, tokens-more, first-joined, tokens-induct}
 
@@ -25,10 +24,6 @@ pub record Each (P : List ℕ → Type 0) (t : Token) : Type 0 where
   pub prepunctuation : P (t .prepunctuation)
   pub name : P (t .name)
   pub punctuation : P (t .punctuation)
-
-abbrev pub EachOf : (List ℕ → Type 0) → List Token → Type 0
-EachOf P [] = Unit {0}
-EachOf P (t ∷ ts) = Each P t × EachOf P ts
 
 -- whitespace is ASCII
 white-ascii : (b : ℕ) → whitespace b ≡ true → ascii b ≡ true
@@ -82,7 +77,7 @@ Accepted limit s = textRefusal limit s ≡ 0
 
 -- the first token and what follows it
 first-accepted : (limit : ℕ) (s : List ℕ) → Accepted limit s → Each (Accepted limit) (firstToken s) × Accepted limit (afterRun s)
-unfolding storeOf
+unfolding flatten
 first-accepted limit s h =
     let k = text-fit limit s h in
     let t = firstToken s in
@@ -98,8 +93,8 @@ first-accepted limit s h =
       text-accepted limit (afterRun s) (record { short = omega (arith, k .short); good = u .1 }),
     )
 
-pub tokens-accepted : (limit : ℕ) (s : List ℕ) → Accepted limit s → EachOf (Accepted limit) (tokens s)
+pub tokens-accepted : (limit : ℕ) (s : List ℕ) → Accepted limit s → Every (Each (Accepted limit)) (tokens s)
 tokens-accepted limit =
-    tokens-induct (λ (s : List ℕ). Accepted limit s → EachOf (Accepted limit) (tokens s))
+    tokens-induct (λ (s : List ℕ). Accepted limit s → Every (Each (Accepted limit)) (tokens s))
     (λ s e h. rw (tokens-none s e) tt)
     (λ s e i h. let k = first-accepted limit s h in rw (tokens-more s e) (k .0, i (k .1)))

@@ -2,22 +2,22 @@
 -- Definitions only.
 use mathlib.Core.Path.{_≡_}
 use mathlib.Core.Bool.{Bool}
-use mathlib.Core.List.{List, [], _∷_, _++_}
+use mathlib.Core.List.{List, [], _∷_, _++_, flatten}
 use Prim.Native.Nat.{ℕ, _+_, _-_, _≤_}
-use lib.Dec.{ltb}
+use lib.Dec.{eqb, ltb}
 use lib.ListN.{length}
 use Rattle.lists.specs.Bytes.{over}
 use Rattle.admit.specs.Refusals.{Test, _when_, firstDue, textLimit, textTests, Call, call}
 use Rattle.admit.specs.declared.Refusal.the-variants.{BufferTooShort}
 use Rattle.sink.specs.Sink.{pairOf}
-use Rattle.sink.specs.Words.{storeOf, tableOf}
+use Rattle.sink.specs.Words.{tableOf}
 use Rattle.tokens.specs.Tokens.{Token, cut, tokens, parts}
 use Rattle.tokens.specs.declared.Tokens.{Tokens}
 use Rattle.tokens.specs.declared.Places.{Places}
 
 -- the bytes that a token takes of its text, from its whitespace to its punctuation
 abbrev pub size : Token → ℕ
-size t = length (storeOf (parts t))
+size t = length (flatten (parts t))
 
 -- "A token is four pairs of offset and length, sorted by offset": the record of a token that starts at the offset `at`.
 -- "Each starts where the one before it ends, empty ones too."
@@ -36,7 +36,7 @@ records at (t ∷ ts) = recordOf at t ++ records (at + size t) ts
 -- the parts of the tokens, joined
 unfoldable pub joined : List Token → List ℕ
 joined [] = []
-joined (t ∷ ts) = storeOf (parts t) ++ joined ts
+joined (t ∷ ts) = flatten (parts t) ++ joined ts
 
 -- the count of tokens, and the buffer's final bytes
 pub record Filled : Type 0 where
@@ -70,6 +70,10 @@ placesOf at t =
       punctuation = at + length (t .whitespace) + length (t .prepunctuation) + length (t .name);
       end = at + length (t .whitespace) + length (t .prepunctuation) + length (t .name) + length (t .punctuation);
     }
+
+-- whether these are the places of no token: the whitespace goes up to the end of the text, which has so many bytes
+abbrev pub noneLeft : Places → ℕ → Bool
+noneLeft p n = eqb (p .prepunctuation) n
 
 -- the record of a token whose parts are at these places
 abbrev pub recordAt : Places → List ℕ

@@ -1,5 +1,4 @@
 // Tokens of a text, as `tokenize` of text.rs gives them: where each one's parts are, how many there are, and their table.
-use admit::Answer;
 use admit::Refusal;
 use admit::refusal_of;
 use lists::LEADING_MARK;
@@ -23,7 +22,7 @@ ghost use lib.Seq.{sets};
 ghost use Rattle.lists.specs.Bytes.{span};
 ghost use Rattle.lists.specs.Classes.{leadingMark};
 ghost use Rattle.tokens.specs.Tokens.{tokens, firstToken};
-ghost use Rattle.tokens.specs.Table.{recordBytes, records, filledCall, asFilled, placesOf, recordAt, CutAt};
+ghost use Rattle.tokens.specs.Table.{recordBytes, records, filledCall, asFilled, placesOf, noneLeft, recordAt, CutAt};
 
 // The bytes of a token's record in the table.
 const RECORD_BYTES: usize = 32;
@@ -35,6 +34,15 @@ pub struct Places {
     pub name: usize,
     pub punctuation: usize,
     pub end: usize,
+}
+
+impl Places {
+    // Whether no token is left, in a text of so many bytes: the whitespace goes up to its end.
+    pub fn none_left(self, len: usize) -> bool
+        ensures { λ r. ⌜ r ≡ noneLeft self len ⌝ }
+    {
+        self.prepunctuation == len
+    }
 }
 
 // Where the name and the punctuation of a run start in it.
@@ -158,7 +166,7 @@ fn write_records(s: &[u8], table: &mut [u8]) -> usize
     let mut at = 0;
     while at < s.len() {
         let t = token_at(s, at);
-        if t.prepunctuation == s.len() {
+        if t.none_left(s.len()) {
             return n;
         }
         put_record(table, RECORD_BYTES * n, t);
@@ -177,9 +185,8 @@ pub fn tokenize(s: &[u8], table: &mut [u8]) -> Tokens
         return Tokens { refusal, tokens: 0 };
     }
     if exceeds(s, table.len() / RECORD_BYTES) {
-        let answer = Answer::Refused(Refusal::BufferTooShort);
         return Tokens {
-            refusal: answer.number(),
+            refusal: Refusal::BufferTooShort.number(),
             tokens: 0,
         };
     }

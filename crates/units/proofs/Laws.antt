@@ -1,20 +1,19 @@
 -- The keys tell the abbreviations from every text, the lexicon holds the words, and how a look-up goes on. Assumes nothing.
 use mathlib.Core.Path.{_≡_, refl, sym, ap, _∙_}
-use mathlib.Core.Bool.{Bool, true, false, cond, _&&_}
+use mathlib.Core.Bool.{Bool, true, false, cond, _&&_, and-eq-true-iff}
 use mathlib.Core.List.{List, [], _∷_}
 use Prim.Native.Nat.{ℕ, suc, _+_, _*_, _≤_, _<_, _%_}
 use native.Mathlib.Nat.{mod-eq-of-lt, add-mul-mod-self-left, eq-of-mul-eq-mul-left}
 use native.Mathlib.Numerals.{add-one}
 use native.Mathlib.Omega.{arith}
-use lib.Dec.{T, leb, ltb, eqb, leb→le, ltb→lt}
+use lib.Dec.{leb, ltb, eqb}
 use lib.ListN.{length, drop, getD, drop-of-length-le, List·getD-eq-default, List·getD-map}
 use lib.Seq.{drop-cons}
-use mir.Facts.{and-yes}
-use borrow.Author.Tests.{lt-ltb, le-ltb, le-leb, lt-leb, leb-true, leb-false, eq-eqb, ne-eqb, eqb-true, eqb-false}
+use borrow.Author.Tests.{lt-ltb, le-ltb, le-leb, lt-leb, leb-true, leb-false, eq-eqb, ne-eqb, eqb-true, eqb-false, ltb-true}
 use Rattle.lists.specs.Bytes.{all, same, sameBy}
 use Rattle.lists.specs.LittleEndian.{leValue}
 use Rattle.lists.proofs.Scan.{same-long}
-use Rattle.lists.proofs.Table.{below, same→≡}
+use Rattle.lists.proofs.Table.{below, same-true}
 use Rattle.lexicon.specs.Lexicon.{wordOf}
 use Rattle.lexicon.proofs.Laws.{lexicon}
 use Rattle.units.specs.Units.{unitAbbreviations, abbreviations, unitWords, before, unitIndex, isUnit, unitWord, unitKey, unitKeys, wordNumbers}
@@ -40,17 +39,17 @@ abbrev bytesb : List ℕ → Bool
 bytesb s = all (λ b. ltb b 256) s
 
 -- texts of one length are the same where their values are
-value-same : (a u : List ℕ) → T (bytesb a) → Bytes u → length a ≡ length u → eqb (leValue a) (leValue u) ≡ same a u
+value-same : (a u : List ℕ) → bytesb a ≡ true → Bytes u → length a ≡ length u → eqb (leValue a) (leValue u) ≡ same a u
 unfolding leValue all sameBy
 value-same [] [] t q e = refl
 value-same [] (c ∷ u) t q e = absurd (omega arith)
 value-same (b ∷ a) [] t q e = absurd (omega arith)
 value-same (b ∷ a) (c ∷ u) t q e =
-    let y = and-yes (ltb b 256) (bytesb a) t in
-    rw (digit-same 256 b c (leValue a) (leValue u) (ltb→lt b 256 (y .0)) (q 0), value-same a u (y .1) (λ i. q (suc i)) (omega arith))
+    let y = and-eq-true-iff (ltb b 256) (bytesb a) .0 t in
+    rw (digit-same 256 b c (leValue a) (leValue u) (ltb-true b 256 (y .0)) (q 0), value-same a u (y .1) (λ i. q (suc i)) (omega arith))
 
 -- texts are the same where their lengths and their values are
-text-same : (a u : List ℕ) → T (bytesb a) → Bytes u → (eqb (length a) (length u) && eqb (leValue a) (leValue u)) ≡ same a u
+text-same : (a u : List ℕ) → bytesb a ≡ true → Bytes u → (eqb (length a) (length u) && eqb (leValue a) (leValue u)) ≡ same a u
 text-same a u p q = go (eqb (length a) (length u)) refl
   where
     go : (t : Bool) → eqb (length a) (length u) ≡ t → (t && eqb (leValue a) (leValue u)) ≡ same a u
@@ -58,7 +57,7 @@ text-same a u p q = go (eqb (length a) (length u)) refl
     go false e = sym (same-long _ a u (eqb-false (length a) (length u) e))
 
 -- the key tells a text of 1 to 3 bytes from every other
-key-same : (a u : List ℕ) → 1 ≤ length a → length a ≤ 3 → T (bytesb a) → Bytes u → eqb (unitKey a) (unitKey u) ≡ same a u
+key-same : (a u : List ℕ) → 1 ≤ length a → length a ≤ 3 → bytesb a ≡ true → Bytes u → eqb (unitKey a) (unitKey u) ≡ same a u
 unfolding unitKey leValue
 key-same a u h l p q = rw (le-leb (length a) 3 l) (go (leb (length u) 3) refl)
   where
@@ -88,9 +87,9 @@ row-same : (u : List ℕ) (k : ℕ) → Bytes u → k < 22 → eqb (getD unitKey
 unfolding fine abbreviations unitAbbreviations unitKeys unitKey leValue all
 row-same u k b h =
     let a = getD abbreviations k [] in
-    let y = and-yes (leb 1 (length a) && leb (length a) 3) (bytesb a) (below fine 22 tt k h) in
-    let z = and-yes (leb 1 (length a)) (leb (length a) 3) (y .0) in
-    rw (List·getD-map unitKey abbreviations k []) (key-same a u (leb→le _ _ (z .0)) (leb→le _ _ (z .1)) (y .1) b)
+    let y = and-eq-true-iff (leb 1 (length a) && leb (length a) 3) (bytesb a) .0 (below fine 22 refl k h) in
+    let z = and-eq-true-iff (leb 1 (length a)) (leb (length a) 3) .0 (y .0) in
+    rw (List·getD-map unitKey abbreviations k []) (key-same a u (leb-true _ _ (z .0)) (leb-true _ _ (z .1)) (y .1) b)
 
 -- row k's word is the lexicon's of its number
 worded : ℕ → Bool
@@ -98,7 +97,7 @@ worded k = same (wordOf (getD wordNumbers k 0)) (getD unitWords k [])
 
 pub word-row : (k : ℕ) → k < 22 → wordOf (getD wordNumbers k 0) ≡ getD unitWords k []
 unfolding worded lexicon wordNumbers before unitWords unitAbbreviations
-word-row k h = same→≡ _ _ (below worded 22 tt k h)
+word-row k h = same-true _ _ (below worded 22 refl k h)
 
 pub rows : length unitAbbreviations ≡ 22
 unfolding unitAbbreviations

@@ -1,10 +1,11 @@
 -- Demand 3 is no empty claim: a sheet with a name of each kind is accepted and made only of clear entries. Assumes nothing.
 use mathlib.Core.Path.{_≡_, refl}
-use mathlib.Core.Bool.{Bool, true, _&&_, and-eq-true-iff}
-use mathlib.Core.List.{List, [], _∷_}
+use mathlib.Core.Bool.{true}
+use mathlib.Core.List.{List}
 use Prim.Native.Nat.{ℕ}
-use Rattle.lists.specs.Bytes.{bytes, sameBy, split, onto, span, has, all, allParts, afterLast}
+use Rattle.lists.specs.Bytes.{bytes, sameBy, split, onto, span, has, all, any, afterLast}
 use Rattle.lists.specs.Recur.{recur, recurAt}
+use Rattle.lists.proofs.Every.{every-tested}
 use Rattle.admit.specs.Utf8.{utf8, utf8Step, charBytes}
 use Rattle.admit.specs.Refusals.{textTests}
 use Rattle.units.specs.Units.{unitAbbreviations, abbreviations, unitWords, before}
@@ -13,10 +14,10 @@ use Rattle.shapes.specs.Shapes.{isDigits, isAlpha, splitOnce, isHourMinute, isD
 use Rattle.tokens.specs.Tokens.{cut, tokensStep, tokens}
 use Rattle.sentences.specs.Sentences.{starts, startsAfter, breakAfter}
 use Rattle.sheets.specs.Sheet.{entriesOf}
-use Rattle.sheets.specs.Calls.{anyLong, Accepted}
-use Rattle.clear.specs.Clear.{suffix, tableWords}
+use Rattle.sheets.specs.Calls.{Accepted}
+use Rattle.clear.specs.Clear.{suffix, tableWords, Clear}
 use Rattle.clear.specs.Test.{isExponentClear, isFractionClear, isFigureClear, isClear}
-use Rattle.clear.proofs.Tested.{clear-test}
+use Rattle.clear.proofs.Tested.{test-clear}
 use Rattle.hearing.specs.Sheets.{names, AllClear}
 
 -- the kinds of 01's list, and one of them with %
@@ -24,21 +25,12 @@ unfoldable pub sheet : List ℕ
 sheet = bytes "rack 12 -1.50e+3 007% 9:30 9:00am 21st 5mm A.B"
 
 pub accepted : Accepted sheet
-unfolding sheet recur recurAt span all afterLast cut tokensStep tokens starts startsAfter breakAfter entriesOf anyLong textTests utf8 utf8Step charBytes
+unfolding sheet recur recurAt span all afterLast cut tokensStep tokens starts startsAfter breakAfter entriesOf any textTests utf8 utf8Step charBytes
 accepted = refl
 
-test : List (List ℕ) → Bool
-test [] = true
-test (n ∷ ns) = isClear n && test ns
-
-from-test : (ns : List (List ℕ)) → test ns ≡ true → AllClear ns
-unfolding test AllClear
-from-test [] h = tt
-from-test (n ∷ ns) h = let k = and-eq-true-iff (isClear n) (test ns) .0 h in (clear-test n (k .0), from-test ns (k .1))
-
-passes : test (names sheet) ≡ true
-unfolding sheet test recur recurAt span all allParts afterLast has cut tokensStep tokens isClear isExponentClear isFractionClear isFigureClear suffix tableWords before unitAbbreviations abbreviations unitWords sameBy split onto isDigits isAlpha splitOnce isHourMinute isDottedAbbrev ones teens tens ordinalOnes ordinalTeens ordinalTens
+passes : all isClear (names sheet) ≡ true
+unfolding sheet recur recurAt span all afterLast has cut tokensStep tokens isClear isExponentClear isFractionClear isFigureClear suffix tableWords before unitAbbreviations abbreviations unitWords sameBy split onto isDigits isAlpha splitOnce isHourMinute isDottedAbbrev ones teens tens ordinalOnes ordinalTeens ordinalTens
 passes = refl
 
 pub all-clear : AllClear (names sheet)
-all-clear = from-test (names sheet) passes
+all-clear = every-tested isClear Clear test-clear (names sheet) passes

@@ -1,11 +1,12 @@
 use borrow.Author.Tests.{lt-ltb, le-ltb}
 use borrow.Author.Needs.{needs}
+use Rattle.lists.specs.Bytes.{any}
 use Rattle.admit.specs.Refusals.{textTests}
 use Rattle.admit.proofs.admit.Statement.{statement}
 use Rattle.admit.proofs.admit.Tie as tie
 
 pub admit-spec : {M : Type 1} → statement M
-unfolding textTests
+unfolding textTests any
 admit-spec =
     tie.close
     (tie.spec (λ c. rw (lt-ltb _ _ (c .if1 .taken))) (λ c κs. search needs)

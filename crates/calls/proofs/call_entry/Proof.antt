@@ -1,9 +1,6 @@
 use borrow.Author.Tests.{not-true, not-false}
-use mathlib.Core.Path.{sym, ap, _∙_}
-use mathlib.Core.List.{List}
-use Prim.Native.Nat.{ℕ}
-use Rattle.sheets.specs.Sheet.{SheetEntry}
-use Rattle.calls.specs.Walk.{refusedEntry, named, nameCall}
+use mathlib.Core.Path.{ap, _∙_}
+use Rattle.calls.specs.Walk.{refusedEntry}
 use Rattle.calls.proofs.Answers.{entry-refused, entry-none, entry-there}
 use borrow.Author.Needs.{needs}
 use Rattle.calls.proofs.call_entry.Statement.{statement}
@@ -18,7 +15,8 @@ call-entry-spec =
     (λ c.
     let at-if1 = c .before in
     let start = at-if1 .before .before .before .before in
-    entry-refused (start .args .s .now) (start .args .out .now) (at-if1 .before .refusal-of .ensures) (start .args .k) (at-if1 .if1 .taken) (c .entry-refused .ensures))
+    entry-refused (start .args .s .now) (start .args .out .now) (at-if1 .before .refusal-of .ensures) (start .args .k) (at-if1 .if1 .taken)
+    (c .entry-refused .ensures))
     (λ c κs. search needs)
     (λ c κs. search needs)
     (λ c κs. search needs)
@@ -27,8 +25,8 @@ call-entry-spec =
     let at-if1 = at-if2 .before .before .before in
     let start = at-if1 .before .before .before .before in
     entry-none (start .args .s .now) (start .args .out .now) (at-if1 .before .refusal-of .ensures) (start .args .k) (at-if1 .if1 .left)
-    (sym (at-if2 .before .before .find-entry .ensures .there) ∙ not-true _ (at-if2 .if2 .taken))
-    (c .entry-refused2 .ensures ∙ ap refusedEntry (c .before .number-of .ensures)))
+    (at-if2 .before .before .find-entry .ensures) (not-true _ (at-if2 .if2 .taken))
+    (c .entry-refused2 .ensures ∙ ap refusedEntry (c .before .number .ensures)))
     (λ c κs. search needs)
     (λ c κs. search needs)
     (λ c. search needs)
@@ -38,8 +36,5 @@ call-entry-spec =
     let at-if1 = at-find-entry .before in
     let start = at-if1 .before .before .before .before in
     c .before .before .call-name .ensures
-    ∙ ap (λ (m : List ℕ). nameCall (named (at-find-entry .find-entry .result .starts) m) (start .args .out .now)) (at-part .part .ensures)
-    ∙ ap (λ (e : SheetEntry). nameCall e (start .args .out .now))
-    (at-find-entry .find-entry .ensures .entry (not-false _ (at-part .before .if2 .left)))
     ∙ entry-there (start .args .s .now) (start .args .out .now) (at-if1 .before .refusal-of .ensures) (start .args .k) (at-if1 .if1 .left)
-    (sym (at-find-entry .find-entry .ensures .there) ∙ not-false _ (at-part .before .if2 .left))))
+    (at-find-entry .find-entry .ensures) (not-false _ (at-part .before .if2 .left)) (at-part .part .ensures)))

@@ -1,6 +1,7 @@
 use mathlib.Core.Path.{sym, ap, _∙_}
 use native.Mathlib.Omega.{arith}
-use Rattle.calls.specs.Walk.{refusedEntry, named}
+use Rattle.entries.specs.Find.{named}
+use Rattle.calls.specs.Walk.{refusedEntry}
 use Rattle.calls.proofs.Answers.{name-long, line-short, line-given}
 use borrow.Author.Needs.{needs}
 use Rattle.calls.proofs.call_name.Statement.{statement}
@@ -16,7 +17,7 @@ call-name-spec =
     let at-if1 = c .before .before in
     let start = at-if1 .before .before .before in
     name-long (named (start .args .starts) (start .args .name .now)) (start .args .out .now) (at-if1 .if1 .taken)
-    (c .entry-refused .ensures ∙ ap refusedEntry (c .before .number-of .ensures)))
+    (c .entry-refused .ensures ∙ ap refusedEntry (c .before .number .ensures)))
     (λ c κs. search needs)
     (λ c κs. search needs)
     (λ c κs. search needs)
@@ -25,7 +26,7 @@ call-name-spec =
     let start = at-if2 .before .before .before .before .before in
     line-short (named (start .args .starts) (start .args .name .now)) (start .args .out .now) (omega arith)
     (sym (at-if2 .before .is-line-short .ensures) ∙ at-if2 .if2 .taken)
-    (c .entry-refused2 .ensures ∙ ap refusedEntry (c .before .number-of2 .ensures)))
+    (c .entry-refused2 .ensures ∙ ap refusedEntry (c .before .number2 .ensures)))
     (λ c. search needs)
     (λ c κs. search needs)
     (λ c κs. search needs)

@@ -25,7 +25,7 @@ call-sheet-spec =
     let start = at-if1 .before .before .before .before in
     sheet-long (start .args .s .now) (start .args .out .now) (at-if1 .before .refusal-of .ensures) (at-if1 .if1 .left)
     (sym (at-if2 .before .has-long-name .ensures) ∙ at-if2 .if2 .taken)
-    (c .sheet-refused2 .ensures ∙ ap refusedSheet (c .before .number-of .ensures)))
+    (c .sheet-refused2 .ensures ∙ ap refusedSheet (c .before .number .ensures)))
     (λ c κs. search needs)
     (λ c κs. search needs)
     (λ c κs. search needs)
@@ -36,7 +36,7 @@ call-sheet-spec =
     let start = at-if1 .before .before .before .before in
     sheet-short (start .args .s .now) (start .args .out .now) (at-if1 .before .refusal-of .ensures) (at-if1 .if1 .left)
     (sym (at-if2 .before .has-long-name .ensures) ∙ at-if2 .if2 .left) (sym (at-if3 .before .is-sheet-short .ensures) ∙ at-if3 .if3 .taken)
-    (c .sheet-refused3 .ensures ∙ ap refusedSheet (c .before .number-of2 .ensures)))
+    (c .sheet-refused3 .ensures ∙ ap refusedSheet (c .before .number2 .ensures)))
     (λ c. search needs)
     (λ c κs. search needs)
     (λ c. search needs)

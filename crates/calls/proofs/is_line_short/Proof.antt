@@ -1,5 +1,5 @@
 use lib.ListN.{length}
-use Rattle.calls.specs.Walk.{named}
+use Rattle.entries.specs.Find.{named}
 use Rattle.calls.proofs.Lines.{wrote-line, line-words, measured-lines}
 use Rattle.calls.proofs.Room.{line-fits, surely-fits}
 use borrow.Author.Needs.{needs}

@@ -1,4 +1,4 @@
-use Rattle.calls.specs.Walk.{named}
+use Rattle.entries.specs.Find.{named}
 use Rattle.calls.proofs.Lines.{line-said}
 use borrow.Author.Needs.{needs}
 use Rattle.calls.proofs.say_line.Statement.{statement}
@@ -16,7 +16,8 @@ say-line-spec =
     (λ c. search needs)
     (λ c.
     let at-byte2 = c .before .before in
-    let at-read-name = at-byte2 .before .before .before .before .before .before .before .before in
+    let after-words = at-byte2 .before .before .before .before in
+    let at-read-name = after-words .before .before .before .before in
     let at-byte = at-read-name .before .before .before .before .before in
     let start = at-byte .before .before .before .before .before .before in
     record {

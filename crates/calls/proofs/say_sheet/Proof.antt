@@ -1,4 +1,5 @@
-use mathlib.Core.Path.{_≡_, refl, ap, _∙_}
+use mathlib.Core.Path.{_≡_, refl, ap₂, _∙_}
+use mathlib.Core.List.{List}
 use Prim.Native.Nat.{_-_}
 use native.Mathlib.Omega.{arith}
 use lib.ListN.{length, drop}
@@ -6,17 +7,19 @@ use borrow.Author.Needs.{needs}
 use Rattle.sink.specs.Sink.{sink}
 use Rattle.sink.specs.Words.{spacedPen}
 use Rattle.sink.specs.declared.Pen.{Pen}
-use Rattle.tokens.proofs.Walks.{moves-on}
-use Rattle.sheets.specs.Sheet.{entries}
+use Rattle.tokens.specs.Tokens.{tokens}
+use Rattle.tokens.proofs.Walks.{Left, left-all, left-none, left-next, left-on, left-past}
+use Rattle.sheets.specs.Sheet.{SheetEntry, entries}
+use Rattle.entries.proofs.Turns.{entriesFrom, from-fresh, from-none, entry-next}
 use Rattle.calls.specs.Walk.{linesTo}
-use Rattle.calls.proofs.Turns.{Left, left-all, left-none, left-past, left-next, lines-on, lines-done}
+use Rattle.calls.proofs.Lines.{lines-on, lines-done}
 use Rattle.calls.proofs.say_sheet.Statement.{statement}
 use Rattle.calls.proofs.say_sheet.Tie as tie
 
 abbrev Inv-loop : tie.InvT-loop
 Inv-loop s out₀ table₀ state₀ pen₀ n₀ at₀ out table state pen n at =
-    Left s n at state × (length out ≡ length out₀) × (length table ≡ length table₀)
-    × (linesTo (drop n (entries s)) (sink out table pen) ≡ linesTo (entries s) (sink out₀ table₀ spacedPen))
+    Left s n at × (length out ≡ length out₀) × (length table ≡ length table₀)
+    × (linesTo (entriesFrom state (tokens (drop at s))) (sink out table pen) ≡ linesTo (entries s) (sink out₀ table₀ spacedPen))
 
 abbrev μ-loop : tie.MeasureT-loop
 μ-loop s out₀ table₀ state₀ pen₀ n₀ at₀ out table state pen n at = length s - at
@@ -31,19 +34,20 @@ say-sheet-spec =
     (λ c κs. search needs)
     (λ c.
     let start = c .before .before .before .before .before in (
-      left-all (c .before .fresh .ensures),
+      left-all,
       refl,
       refl,
-      ap (λ (p : Pen). linesTo (entries (start .args .s .now)) (sink (start .args .out .now) (start .args .table .now) p))
-          (c .spaced .ensures),
+      ap₂ (λ (es : List SheetEntry) (p : Pen). linesTo es (sink (start .args .out .now) (start .args .table .now) p))
+          (from-fresh (start .args .s .now) (c .before .fresh .ensures)) (c .spaced .ensures),
     ))
+    (λ c κs. search needs)
     (λ c κs. search needs)
     (λ c. search needs)
     (λ c. search needs)
     (λ c.
     let at-loop = c .before .before .before .before in
-    let d = left-none (at-loop .loop .inv .0) (c .before .before .token-at .ensures) (c .if1 .taken) in
-    (d, lines-done (at-loop .before .before .before .before .before .before .args .s .now) _ d (at-loop .loop .inv .3)))
+    let d = left-none (at-loop .loop .inv .0) (c .before .before .token-at .ensures) (c .before .none-left .ensures) (c .if1 .taken) in
+    (d .all, lines-done _ (from-none (at-loop .loop .state) (d .none)) (at-loop .loop .inv .3)))
     (λ c κs. search needs)
     (λ c κs. search needs)
     (λ c κs. search needs)
@@ -51,38 +55,39 @@ say-sheet-spec =
     (λ c κs. search needs)
     (λ c κs. search needs)
     (λ c.
-    let at-if1 = c .before .before .before .before .before .before .before .before .before .before .before .before .before in
-    let at-loop = at-if1 .before .before .before .before in
-    let start = at-loop .before .before .before .before .before .before in
-    let m = moves-on (start .args .s .now) (at-loop .loop .at) _ (at-loop .loop .inv .0 .within) (at-if1 .before .before .token-at .ensures) (at-if1 .if1 .left) in
+    let after-line = c .before .before .before .before .before .before in
+    let after-name = after-line .before .before .before .before .before .before in
+    let at-loop = after-name .before .before .before .before .before in
     let f = at-loop .loop .inv .0 .few in
-    let g = start .good .0 .1 in
-    omega (arith, m .0, m .1))
+    let g = at-loop .before .before .before .before .before .before .good .0 .1 in
+    omega arith)
     (λ c.
-    let at-if1 = c .before .before .before .before .before .before .before .before .before .before .before .before .before in
-    let at-loop = at-if1 .before .before .before .before in
-    let m =
-    moves-on (at-loop .before .before .before .before .before .before .args .s .now) (at-loop .loop .at) _ (at-loop .loop .inv .0 .within)
-    (at-if1 .before .before .token-at .ensures) (at-if1 .if1 .left) in
-    omega (arith, m .0, m .1))
+    let after-line = c .before .before .before .before .before .before in
+    let after-name = after-line .before .before .before .before .before .before in
+    let at-if1 = after-name .before in
+    let next =
+    left-next (at-if1 .before .before .before .before .loop .inv .0) (at-if1 .before .before .token-at .ensures)
+    (at-if1 .before .none-left .ensures) (at-if1 .if1 .left) in
+    omega arith)
     (λ c.
-    let at-say-line = c .before .before .before .before .before .before .before in
+    let after-line = c .before .before .before .before .before .before in
+    let at-say-line = after-line .before in
     let at-starts-sentence = at-say-line .before .before .before in
     let at-part = at-starts-sentence .before .before in
-    let at-token-at = at-part .before .before .before in
-    let at-loop = at-token-at .before .before in
-    let o =
-    left-next (at-loop .loop .inv .0) (at-token-at .token-at .ensures) (at-part .before .if1 .left)
-    (at-starts-sentence .before .part2 .ensures) (at-part .part .ensures) (c .before .part3 .ensures)
+    let at-none-left = at-part .before .before in
+    let at-loop = at-none-left .before .before .before in
+    let next = left-next (at-loop .loop .inv .0) (at-none-left .before .token-at .ensures) (at-none-left .none-left .ensures) (at-part .before .if1 .left) in
+    let entry =
+    entry-next next (at-loop .loop .state) (at-starts-sentence .before .part2 .ensures) (at-part .part .ensures) (c .before .part3 .ensures)
     (at-starts-sentence .starts-sentence .ensures) (c .kept .ensures) in (
-      o .1,
+      left-on (at-loop .loop .inv .0) next,
       at-say-line .say-line .kept .1 .1 .0 ∙ at-loop .loop .inv .1,
       at-say-line .say-line .kept .1 .1 .1 .0 ∙ at-loop .loop .inv .2,
-      lines-on _ (o .0) (at-say-line .say-line .ensures .written) (at-loop .loop .inv .3),
+      lines-on (sink (at-loop .loop .out) (at-loop .loop .table) (at-loop .loop .pen)) entry (at-say-line .say-line .ensures .written) (at-loop .loop .inv .3),
     ))
     (λ c. search needs)
     (λ c. search needs)
     (λ c.
     let at-loop = c .before in
     let d = left-past (at-loop .loop .inv .0) (omega arith) in
-    (d, lines-done (at-loop .before .before .before .before .before .before .args .s .now) _ d (at-loop .loop .inv .3))))
+    (d .all, lines-done _ (from-none (at-loop .loop .state) (d .none)) (at-loop .loop .inv .3))))

@@ -1,22 +1,17 @@
 use Rattle.leaf.proofs.say_initials.Statement.{statement}
 use Rattle.leaf.proofs.say_initials.Tie as tie
-use mathlib.Core.Path.{_≡_, refl, _∙_}
-use mathlib.Core.List.{List}
-use Prim.Native.Nat.{ℕ, _-_, _≤_, zero-le}
+use Prim.Native.Nat.{_-_}
 use native.Mathlib.Omega.{arith}
-use lib.ListN.{length, drop}
+use lib.ListN.{length}
 use borrow.Author.Needs.{needs}
-use Rattle.sink.specs.Sink.{sink, emitAll}
-use Rattle.sink.proofs.Walks.{turn, walked}
+use Rattle.sink.specs.Sink.{sink}
+use Rattle.sink.proofs.Walks.{Walk, walk-start, walk-byte, walk-end}
 use Rattle.numerals.specs.Words.{spelled}
 use Rattle.leaf.specs.Walk.{initials}
-use Rattle.leaf.proofs.Laws.{initials-at, no-initials}
+use Rattle.leaf.proofs.Laws.{initials-append, no-initials}
 
 abbrev Inv-loop : tie.InvT-loop
-Inv-loop name store₀ table₀ p₀ i₀ store table p i =
-    (i ≤ length name)
-    × (emitAll (spelled (initials (drop i name))) (sink store table p) ≡ emitAll (spelled (initials name)) (sink store₀ table₀ p₀))
-    × (length store ≡ length store₀) × (length table ≡ length table₀)
+Inv-loop name store₀ table₀ p₀ i₀ store table p i = Walk (λ t. spelled (initials t)) name (sink store₀ table₀ p₀) (sink store table p) i
 
 abbrev μ-loop : tie.MeasureT-loop
 μ-loop name store₀ table₀ p₀ i₀ store table p i = length name - i
@@ -27,25 +22,16 @@ say-initials-spec =
     (tie.spec
     Inv-loop
     μ-loop
-    (λ c. (zero-le, refl, refl, refl))
+    (λ c. walk-start)
     (λ c. search needs)
     (λ c κs. search needs)
     (λ c. search needs)
     (λ c. search needs)
     (λ c.
     let at-say-initial = c .before .before .before .before in
-    let at-loop = at-say-initial .before .before .before .before .before in
-    let start = at-loop .before .before .before .before in (
-      omega arith,
-      turn (λ (t : List ℕ). spelled (initials t)) (start .args .name .now) (at-loop .loop .i) 1 _
-          (initials-at (start .args .name .now) (at-loop .loop .i) (omega arith))
-          (sink (at-loop .loop .store) (at-loop .loop .table) (at-loop .loop .p)) (at-say-initial .say-initial .ensures) (at-loop .loop .inv .1),
-      at-say-initial .say-initial .kept .1 .0 ∙ at-loop .loop .inv .2,
-      at-say-initial .say-initial .kept .1 .1 .0 ∙ at-loop .loop .inv .3,
-    ))
+    let said = at-say-initial .say-initial in
+    walk-byte (at-say-initial .before .before .before .before .before .loop .inv) initials-append (omega arith)
+    (said .ensures) (said .kept .1 .0) (said .kept .1 .1 .0))
     (λ c. search needs)
     (λ c. search needs)
-    (λ c.
-    let at-loop = c .before in
-    walked (λ (t : List ℕ). spelled (initials t)) (at-loop .before .before .before .before .args .name .now) (at-loop .loop .i) no-initials
-    (omega arith) _ (at-loop .loop .inv .1)))
+    (λ c. walk-end (c .before .loop .inv) no-initials (omega arith)))

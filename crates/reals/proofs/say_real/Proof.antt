@@ -1,9 +1,8 @@
-use mathlib.Core.Path.{_≡_, refl, _∙_}
-use Prim.Native.Nat.{_-_, _≤_, zero-le}
+use Prim.Native.Nat.{_-_}
 use native.Mathlib.Omega.{arith}
-use lib.ListN.{length, drop}
-use Rattle.sink.specs.Sink.{sink, emitAll}
-use Rattle.sink.proofs.Walks.{turn, walked}
+use lib.ListN.{length}
+use Rattle.sink.specs.Sink.{sink}
+use Rattle.sink.proofs.Walks.{Walk, walk-start, walk-on, walk-end}
 use Rattle.numerals.specs.Words.{spelled}
 use Rattle.reals.specs.Real.{real}
 use Rattle.reals.proofs.RealLaws.{part-more, real-at, real-end}
@@ -13,8 +12,7 @@ use Rattle.reals.proofs.say_real.Tie as tie
 
 abbrev Inv-loop : tie.InvT-loop
 Inv-loop s store₀ table₀ p₀ i₀ store table p i =
-    (i ≤ length s) × (emitAll (spelled (real (drop i s))) (sink store table p) ≡ emitAll (spelled (real s)) (sink store₀ table₀ p₀))
-    × (length store ≡ length store₀) × (length table ≡ length table₀)
+    Walk (λ t. spelled (real t)) s (sink store₀ table₀ p₀) (sink store table p) i
 
 abbrev μ-loop : tie.MeasureT-loop
 μ-loop s store₀ table₀ p₀ i₀ store table p i = length s - i
@@ -25,19 +23,27 @@ say-real-spec =
     (tie.spec
     Inv-loop
     μ-loop
-    (λ c. (zero-le, refl, refl, refl))
+    (λ c. walk-start)
     (λ c κs. search needs)
     (λ c κs. search needs)
     (λ c.
     let at-say-part = c .before .before .before .before .before .before in
     let at-tail = at-say-part .before .before .before in
     let at-loop = at-tail .before .before in
-    omega (arith, part-more (at-loop .before .before .before .before .args .s .now) (at-loop .loop .i) (at-tail .tail .ensures) (at-say-part .say-part .ensures .1) (omega arith)))
+    omega (
+      arith,
+      part-more (at-loop .before .before .before .before .args .s .now) (at-loop .loop .i) (at-tail .tail .ensures)
+          (at-say-part .say-part .ensures .1) (omega arith),
+    ))
     (λ c.
     let at-say-part = c .before .before .before .before .before .before in
     let at-tail = at-say-part .before .before .before in
     let at-loop = at-tail .before .before in
-    omega (arith, part-more (at-loop .before .before .before .before .args .s .now) (at-loop .loop .i) (at-tail .tail .ensures) (at-say-part .say-part .ensures .1) (omega arith)))
+    omega (
+      arith,
+      part-more (at-loop .before .before .before .before .args .s .now) (at-loop .loop .i) (at-tail .tail .ensures)
+          (at-say-part .say-part .ensures .1) (omega arith),
+    ))
     (λ c.
     let at-say-part = c .before .before .before .before .before .before in
     let at-tail = at-say-part .before .before .before in
@@ -45,16 +51,9 @@ say-real-spec =
     let l = at-loop .loop in
     let d = at-say-part .say-part in
     let s = at-loop .before .before .before .before .args .s .now in
-    let g = at-tail .tail .ensures in (
-      omega (arith, part-more s (l .i) g (d .ensures .1) (omega arith)),
-      turn (λ t. spelled (real t)) s (l .i) _ _ (real-at s (l .i) g (d .ensures .1)) (sink (l .store) (l .table) (l .p)) (d .ensures .0)
-          (l .inv .1),
-      d .kept .1 .0 ∙ l .inv .2,
-      d .kept .1 .1 .0 ∙ l .inv .3,
-    ))
-    (λ c. c .before .loop .inv .2)
-    (λ c. c .before .loop .inv .3)
-    (λ c.
-    let at-loop = c .before in
-    walked (λ t. spelled (real t)) (at-loop .before .before .before .before .args .s .now) (at-loop .loop .i) real-end (omega arith)
-    (sink (at-loop .loop .store) (at-loop .loop .table) (at-loop .loop .p)) (at-loop .loop .inv .1)))
+    let g = at-tail .tail .ensures in
+    walk-on (l .inv) _ _ (omega (arith, part-more s (l .i) g (d .ensures .1) (omega arith))) (real-at s (l .i) g (d .ensures .1))
+    (d .ensures .0) (d .kept .1 .0) (d .kept .1 .1 .0))
+    (λ c. c .before .loop .inv .store)
+    (λ c. c .before .loop .inv .table)
+    (λ c. walk-end (c .before .loop .inv) real-end (omega arith)))

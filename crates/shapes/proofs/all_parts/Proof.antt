@@ -6,13 +6,13 @@ use lib.ListN.{length, drop, length-drop}
 use lib.Seq.{drop-drop}
 use borrow.Author.Tests.{not-true, not-false}
 use Rattle.shapes.specs.Tests.{passes}
-use Rattle.lists.specs.Bytes.{split, allParts}
+use Rattle.lists.specs.Bytes.{split, all}
 use Rattle.lists.proofs.Parts.{parts-fail, parts-end, parts-more}
 use Rattle.shapes.proofs.all_parts.Statement.{statement}
 use Rattle.shapes.proofs.all_parts.Tie as tie
 
 abbrev Inv-loop : tie.InvT-loop
-Inv-loop test c s i₀ i = allParts (passes test) (split c s) ≡ allParts (passes test) (split c (drop i s))
+Inv-loop test c s i₀ i = all (passes test) (split c s) ≡ all (passes test) (split c (drop i s))
 
 abbrev μ-loop : tie.MeasureT-loop
 μ-loop test c s i₀ i = length s - i
@@ -35,7 +35,12 @@ all-parts-spec =
     (λ c.
     let at-part-passes = c .before .before in
     let at-span-of = at-part-passes .before .before in
-    let e = rw (at-part-passes .before .front .ensures, at-span-of .span-of .ensures, at-span-of .before .tail .ensures) at (at-part-passes .part-passes .ensures) in
+    let e =
+    rw (
+      at-part-passes .before .front .ensures,
+      at-span-of .span-of .ensures,
+      at-span-of .before .tail .ensures,
+    ) at (at-part-passes .part-passes .ensures) in
     let h = rw (at-span-of .span-of .ensures, at-span-of .before .tail .ensures) at (c .if2 .taken) in
     sym (at-span-of .before .before .loop .inv ∙ parts-end _ _ _ (sym e ∙ not-false _ (c .before .if1 .left)) h))
     (λ c. omega (arith, simp length-drop at (rw (c .before .before .before .before .before .tail .ensures) at (c .if2 .left))))
@@ -47,4 +52,6 @@ all-parts-spec =
     let at-tail = at-span-of .before in
     let e = rw (at-part-passes .before .front .ensures, at-span-of .span-of .ensures, at-tail .tail .ensures) at (at-part-passes .part-passes .ensures) in
     let h = rw (at-span-of .span-of .ensures, at-tail .tail .ensures) at (c .if2 .left) in
-    at-tail .before .loop .inv ∙ (parts-more _ _ _ (sym e ∙ not-false _ (c .before .if1 .left)) h ∙ rw (drop-drop, at-span-of .span-of .ensures, at-tail .tail .ensures))))
+    at-tail .before .loop .inv
+    ∙ (parts-more _ _ _ (sym e ∙ not-false _ (c .before .if1 .left)) h
+    ∙ rw (drop-drop, at-span-of .span-of .ensures, at-tail .tail .ensures))))

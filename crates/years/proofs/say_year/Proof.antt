@@ -1,9 +1,8 @@
-use mathlib.Core.Path.{_≡_, refl, sym, ap, _∙_}
-use Prim.Native.Nat.{_≤_, zero-le}
+use mathlib.Core.Path.{_≡_, sym, ap, _∙_}
 use native.Mathlib.Omega.{arith}
 use lib.ListN.{length, drop, length-drop}
-use Rattle.sink.specs.Sink.{sink, emitAll}
-use Rattle.sink.proofs.Walks.{turn}
+use Rattle.sink.specs.Sink.{sink}
+use Rattle.sink.proofs.Walks.{Walk, walk-start, walk-on}
 use Rattle.numerals.specs.Words.{spelled}
 use Rattle.numerals.specs.Cardinal.{clean}
 use Rattle.years.specs.Year.{year}
@@ -14,9 +13,7 @@ use Rattle.years.proofs.say_year.Tie as tie
 
 abbrev Inv-loop : tie.InvT-loop
 Inv-loop s store₀ table₀ p₀ i₀ left₀ store table p i left =
-    (i ≤ length s) × (left ≡ length (clean (drop i s)))
-    × (emitAll (spelled (year (drop i s))) (sink store table p) ≡ emitAll (spelled (year s)) (sink store₀ table₀ p₀))
-    × (length store ≡ length store₀) × (length table ≡ length table₀)
+    (left ≡ length (clean (drop i s))) × Walk (λ t. spelled (year t)) s (sink store₀ table₀ p₀) (sink store table p) i
 
 abbrev μ-loop : tie.MeasureT-loop
 μ-loop s store₀ table₀ p₀ i₀ left₀ store table p i left = left
@@ -28,7 +25,7 @@ say-year-spec =
     Inv-loop
     μ-loop
     (λ c κs. search needs)
-    (λ c. (zero-le, c .count-of .ensures ∙ sym (clean-length (c .before .before .before .before .args .s .now)), refl, refl, refl))
+    (λ c. (c .count-of .ensures ∙ sym (clean-length (c .before .before .before .before .args .s .now)), walk-start))
     (λ c κs. search needs)
     (λ c κs. search needs)
     (λ c.
@@ -51,12 +48,9 @@ say-year-spec =
     let l = at-loop .loop in
     let s = at-loop .before .before .before .before .before .args .s .now in
     let e = rw (at-tail .tail .ensures) at (at-say-lead .say-lead .ensures) in (
-      omega (arith, e .2, length-drop (l .i) s),
-      left-after s (l .i) _ _ (l .inv .1) (e .1),
-      turn (λ t. spelled (year t)) s (l .i) _ _ (year-at s (l .i) _ _ (l .inv .1) (e .1) (omega arith)) (sink (l .store) (l .table) (l .p))
-          (e .0) (l .inv .2),
-      search needs,
-      search needs,
+      left-after s (l .i) _ _ (l .inv .0) (e .1),
+      walk-on (l .inv .1) _ _ (omega (arith, e .2, length-drop (l .i) s)) (year-at s (l .i) _ _ (l .inv .0) (e .1) (omega arith)) (e .0)
+          (at-say-lead .say-lead .kept .1 .1 .0) (at-say-lead .say-lead .kept .1 .1 .1 .0),
     ))
     (λ c κs. search needs)
     (λ c κs. search needs)
@@ -66,7 +60,8 @@ say-year-spec =
     let at-front = c .before .before in
     let at-find-few = at-front .before .before .before in
     let l = at-find-few .before .before .before .loop in
-    year-last _ (l .left) (l .inv .1) (omega arith) _ (rw (at-find-few .before .tail2 .ensures) at (at-find-few .find-few .ensures)) (at-front .front .ensures) .0)
+    year-last _ (l .left) (l .inv .0) (omega arith) _ (rw (at-find-few .before .tail2 .ensures) at (at-find-few .find-few .ensures))
+    (at-front .front .ensures) .0)
     (λ c. search needs)
     (λ c. search needs)
     (λ c.
@@ -74,5 +69,7 @@ say-year-spec =
     let at-front = at-say-last .before .before .before in
     let at-find-few = at-front .before .before .before in
     let l = at-find-few .before .before .before .loop in
-    let q = year-last _ (l .left) (l .inv .1) (omega arith) _ (rw (at-find-few .before .tail2 .ensures) at (at-find-few .find-few .ensures)) (at-front .front .ensures) in
-    (rw (q .1) at (at-say-last .say-last .ensures)) ∙ l .inv .2))
+    let q =
+    year-last _ (l .left) (l .inv .0) (omega arith) _ (rw (at-find-few .before .tail2 .ensures) at (at-find-few .find-few .ensures))
+    (at-front .front .ensures) in
+    (rw (q .1) at (at-say-last .say-last .ensures)) ∙ l .inv .1 .left))

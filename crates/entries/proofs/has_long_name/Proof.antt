@@ -5,12 +5,12 @@ use borrow.Author.Needs.{needs}
 use borrow.Author.Tests.{not-true}
 use mathlib.Core.Path.{_≡_, sym}
 use Rattle.tokens.specs.Tokens.{tokens}
-use Rattle.tokens.proofs.Walks.{no-more, moves-on, tokens-past}
+use Rattle.tokens.proofs.Walks.{no-more, one-more, tokens-past}
 use Rattle.sheets.specs.Sheet.{entries}
 use Rattle.sheets.specs.Calls.{anyLong}
-use Rattle.calls.proofs.Turns.{longNames, long-names, long-none, long-here, long-later}
-use Rattle.calls.proofs.has_long_name.Statement.{statement}
-use Rattle.calls.proofs.has_long_name.Tie as tie
+use Rattle.entries.proofs.Names.{longNames, long-names, long-none, long-here, long-later}
+use Rattle.entries.proofs.has_long_name.Statement.{statement}
+use Rattle.entries.proofs.has_long_name.Tie as tie
 
 abbrev Inv-loop : tie.InvT-loop
 Inv-loop s at₀ at = (at ≤ length s) × (longNames (tokens (drop at s)) ≡ anyLong (entries s))
@@ -28,34 +28,36 @@ has-long-name-spec =
     (λ c. sym (c .before .has-long-run .ensures (not-true _ (c .if1 .taken))))
     (λ c. (omega arith, long-names (c .before .before .before .args .s .now)))
     (λ c κs. search needs)
+    (λ c κs. search needs)
     (λ c.
-    let at-loop = c .before .before .before .before in
+    let at-none-left = c .before in
+    let at-loop = at-none-left .before .before .before in
     long-none
     (no-more (at-loop .before .before .before .before .args .s .now) (at-loop .loop .at) _ (at-loop .loop .inv .0)
-    (c .before .before .token-at .ensures) (c .if2 .taken))
+    (at-none-left .before .token-at .ensures) (at-none-left .none-left .ensures) (c .if2 .taken))
     (at-loop .loop .inv .1))
     (λ c κs. search needs)
     (λ c.
     let at-if2 = c .before .before in
     let at-loop = at-if2 .before .before .before .before in
-    long-here (at-loop .before .before .before .before .args .s .now) (at-loop .loop .at) _ (at-loop .loop .inv .0)
-    (at-if2 .before .before .token-at .ensures) (at-if2 .if2 .left) (omega (arith, c .before .minus .ensures)) (at-loop .loop .inv .1))
+    let next =
+    one-more (at-loop .before .before .before .before .args .s .now) (at-loop .loop .at) _ (at-loop .loop .inv .0)
+    (at-if2 .before .before .token-at .ensures) (at-if2 .before .none-left .ensures) (at-if2 .if2 .left) in
+    long-here next (omega (arith, c .before .minus .ensures)) (at-loop .loop .inv .1))
     (λ c.
     let at-if2 = c .before .before in
     let at-loop = at-if2 .before .before .before .before in
-    let m =
-    moves-on (at-loop .before .before .before .before .args .s .now) (at-loop .loop .at) _ (at-loop .loop .inv .0)
-    (at-if2 .before .before .token-at .ensures) (at-if2 .if2 .left) in
-    omega (arith, m .0, m .1))
+    let next =
+    one-more (at-loop .before .before .before .before .args .s .now) (at-loop .loop .at) _ (at-loop .loop .inv .0)
+    (at-if2 .before .before .token-at .ensures) (at-if2 .before .none-left .ensures) (at-if2 .if2 .left) in
+    omega arith)
     (λ c.
     let at-if2 = c .before .before in
-    let at-token-at = at-if2 .before .before in
-    let at-loop = at-token-at .before .before in
-    let start = at-loop .before .before .before .before in (
-      moves-on (start .args .s .now) (at-loop .loop .at) _ (at-loop .loop .inv .0) (at-token-at .token-at .ensures) (at-if2 .if2 .left) .1,
-      long-later (start .args .s .now) (at-loop .loop .at) _ (at-loop .loop .inv .0) (at-token-at .token-at .ensures) (at-if2 .if2 .left)
-          (omega (arith, c .before .minus .ensures)) (at-loop .loop .inv .1),
-    ))
+    let at-loop = at-if2 .before .before .before .before in
+    let next =
+    one-more (at-loop .before .before .before .before .args .s .now) (at-loop .loop .at) _ (at-loop .loop .inv .0)
+    (at-if2 .before .before .token-at .ensures) (at-if2 .before .none-left .ensures) (at-if2 .if2 .left) in
+    (next .within, long-later next (omega (arith, c .before .minus .ensures)) (at-loop .loop .inv .1)))
     (λ c.
     let at-loop = c .before in
     long-none (tokens-past (at-loop .before .before .before .before .args .s .now) (at-loop .loop .at) (omega arith)) (at-loop .loop .inv .1)))

@@ -1,12 +1,12 @@
 use mathlib.Core.Bool.{false≢true}
-use Rattle.calls.proofs.Runs.{RunsFrom, ahead-within, runs-on, runs-end}
+use Rattle.entries.proofs.Runs.{RunsFrom, ahead-within, runs-on, runs-end}
 use mathlib.Core.Path.{sym}
 use Prim.Native.Nat.{_-_, _≤_}
 use native.Mathlib.Omega.{arith}
 use lib.ListN.{length}
 use borrow.Author.Needs.{needs}
-use Rattle.calls.proofs.has_long_run.Statement.{statement}
-use Rattle.calls.proofs.has_long_run.Tie as tie
+use Rattle.entries.proofs.has_long_run.Statement.{statement}
+use Rattle.entries.proofs.has_long_run.Tie as tie
 
 abbrev Inv-loop : tie.InvT-loop
 Inv-loop s at₀ at = (at ≤ length s) × RunsFrom s at
@@ -29,12 +29,16 @@ has-long-run-spec =
     (λ c.
     let at-loop = c .before .before .before .before in
     let start = at-loop .before .before in
-    let w = ahead-within (start .args .s .now) (at-loop .loop .at) (c .before .before .part .ensures) (c .before .after-last .ensures) (at-loop .loop .inv .0) in
+    let w =
+    ahead-within (start .args .s .now) (at-loop .loop .at) (c .before .before .part .ensures) (c .before .after-last .ensures)
+    (at-loop .loop .inv .0) in
     let g = start .good .0 .1 in
     omega arith)
     (λ c.
     let at-loop = c .before .before .before .before in
-    let w = ahead-within (at-loop .before .before .args .s .now) (at-loop .loop .at) (c .before .before .part .ensures) (c .before .after-last .ensures) (at-loop .loop .inv .0) in
+    let w =
+    ahead-within (at-loop .before .before .args .s .now) (at-loop .loop .at) (c .before .before .part .ensures)
+    (c .before .after-last .ensures) (at-loop .loop .inv .0) in
     omega arith)
     (λ c.
     let at-after-last = c .before in

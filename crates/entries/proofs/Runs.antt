@@ -9,7 +9,7 @@ use lib.Dec.{eqb}
 use lib.ListN.{length, take, drop, getD, length-take, length-drop}
 use lib.Seq.{getD-drop, getD-take, drop-drop}
 use borrow.Author.Tests.{le-ltb, ne-eqb}
-use Rattle.lists.specs.Bytes.{span, afterLast}
+use Rattle.lists.specs.Bytes.{any, span, afterLast}
 use Rattle.lists.specs.Classes.{whitespace, nonWhitespace}
 use Rattle.lists.proofs.Recursion.{cond-elim}
 use Rattle.lists.proofs.Scan.{span-le, last-le}
@@ -19,7 +19,7 @@ use Rattle.tokens.proofs.Forward.{firstSize, tokens-none, tokens-more, tokens-i
 use Rattle.tokens.proofs.Walks.{first-white}
 use Rattle.sheets.specs.Sheet.{entries}
 use Rattle.sheets.specs.Calls.{nameLimit, anyLong}
-use Rattle.calls.proofs.Turns.{longNames, long-names}
+use Rattle.entries.proofs.Names.{longNames, long-names}
 
 -- a scan stops at a byte that fails
 span-stops : (p : ℕ → Bool) (s : List ℕ) (j : ℕ) → j < length s → p (getD s j 0) ≡ false → span p s ≤ j
@@ -34,7 +34,8 @@ unfolding afterLast
 last-passes p [] k h = absurd (omega arith)
 last-passes p (b ∷ s) k h = go (afterLast p s) (p b) refl (last-passes p s) k h
   where
-    go : (n : ℕ) (t : Bool) → p b ≡ t → ((j : ℕ) → n ≡ suc j → p (getD s j 0) ≡ true) → (k : ℕ) → cond (eqb n 0) (cond t 1 0) (suc n) ≡ suc k → p (getD (b ∷ s) k 0) ≡ true
+    go : (n : ℕ) (t : Bool) → p b ≡ t → ((j : ℕ) → n ≡ suc j → p (getD s j 0) ≡ true) → (k : ℕ)
+        → cond (eqb n 0) (cond t 1 0) (suc n) ≡ suc k → p (getD (b ∷ s) k 0) ≡ true
     go zero true e i zero h = e
     go zero true e i (suc k) h = absurd (omega arith)
     go zero false e i k h = absurd (omega arith)
@@ -47,7 +48,7 @@ LongRun s i = nameLimit < span nonWhitespace (drop i s)
 
 -- a long name makes its run one
 no-long : (s : List ℕ) → ((i : ℕ) → LongRun s i → ⊥) → longNames (tokens s) ≡ false
-unfolding longNames
+unfolding any
 no-long =
     tokens-induct (λ (s : List ℕ). ((i : ℕ) → LongRun s i → ⊥) → longNames (tokens s) ≡ false)
     (λ s e f. rw (tokens-none s e))
@@ -57,7 +58,8 @@ no-long =
     (λ (k : nameLimit < length (firstToken s .name)). absurd
     (f (span whitespace s) (omega (arith, first-size s, size-parts (firstToken s), first-white s))))
     (le-or-lt (length (firstToken s .name)) nameLimit) in
-    rw (tokens-more s e, le-ltb nameLimit (length (firstToken s .name)) h) (i (λ j r. f (firstSize s + j) (rw (afterRun-drop s, drop-drop j (firstSize s) s) at r))))
+    rw (tokens-more s e, le-ltb nameLimit (length (firstToken s .name)) h)
+    (i (λ j r. f (firstSize s + j) (rw (afterRun-drop s, drop-drop j (firstSize s) s) at r))))
 
 -- no long run starts before `at`
 abbrev pub RunsFrom : List ℕ → ℕ → Type 0

@@ -1,0 +1,103 @@
+// The entries of a sheet: whether a name is too long, and where an entry is. No words are said here.
+use lists::WHITESPACE;
+use lists::after_last;
+use lists::minus;
+use lists::part;
+use sentences::State;
+use sentences::starts_sentence;
+use tokens::token_at;
+ghost use mathlib.Core.Path.{_≡_};
+ghost use mathlib.Core.Bool.{false};
+ghost use Rattle.sheets.specs.Sheet.{entries};
+ghost use Rattle.sheets.specs.Calls.{anyLong};
+ghost use Rattle.entries.specs.Find.{FoundAt};
+
+// The longest name that is called.
+pub const NAME_BYTES: usize = 4096;
+
+// The shortest run in which a name may be longer.
+const RUN_BYTES: usize = NAME_BYTES + 1;
+
+// Where an entry was found, if it was: whether it starts a sentence, and its name's place in the sheet.
+pub struct Found {
+    pub found: bool,
+    pub starts: bool,
+    pub name: usize,
+    pub end: usize,
+}
+
+// Whether more bytes than a name may have stand together without whitespace. From each place the last whitespace is looked for
+// that would end such a run, so few bytes are read.
+fn has_long_run(s: &[u8]) -> bool
+    ensures { λ r. ⌜ (r ≡ false → anyLong (entries (now (s .entry))) ≡ false) ⌝ }
+{
+    let mut at = 0;
+    while NAME_BYTES < s.len() - at {
+        let ahead = after_last(WHITESPACE, 0, part(s, at, at + RUN_BYTES));
+        if ahead == 0 {
+            return true;
+        }
+        at += ahead;
+    }
+    false
+}
+
+// Whether a name is longer than is called.
+pub fn has_long_name(s: &[u8]) -> bool
+    ensures { λ r. ⌜ r ≡ anyLong (entries (now (s .entry))) ⌝ }
+{
+    if !has_long_run(s) {
+        return false;
+    }
+    let mut at = 0;
+    while at < s.len() {
+        let places = token_at(s, at);
+        if places.none_left(s.len()) {
+            return false;
+        }
+        if NAME_BYTES < minus(places.punctuation, places.name) {
+            return true;
+        }
+        at = places.end;
+    }
+    false
+}
+
+fn nowhere() -> Found
+    ensures { λ r. ⌜ r .found ≡ false ⌝ }
+{
+    Found {
+        found: false,
+        starts: false,
+        name: 0,
+        end: 0,
+    }
+}
+
+// Finds entry number k.
+pub fn find_entry(s: &[u8], k: usize) -> Found
+    ensures { λ r. ⌜ FoundAt (now (s .entry)) k r ⌝ }
+{
+    let mut state = State::fresh();
+    let mut n = 0;
+    let mut at = 0;
+    while at < s.len() {
+        let token = token_at(s, at);
+        if token.none_left(s.len()) {
+            return nowhere();
+        }
+        let name = part(s, token.name, token.punctuation);
+        if n == k {
+            return Found {
+                found: true,
+                starts: starts_sentence(state, part(s, at, token.prepunctuation), name),
+                name: token.name,
+                end: token.punctuation,
+            };
+        }
+        state = State::kept(name, part(s, token.punctuation, token.end));
+        n += 1;
+        at = token.end;
+    }
+    nowhere()
+}
