@@ -45,14 +45,14 @@ abbrev pub isTooLong : ℕ → List ℕ → Bool
 isTooLong limit s = ltb limit (length s)
 
 -- "a text isn't UTF-8"
-abbrev pub isBroken : List ℕ → Bool
-isBroken s = not (utf8 s)
+abbrev pub isNotUtf8 : List ℕ → Bool
+isNotUtf8 s = not (utf8 s)
 
 -- the tests of the texts that a call is given, one or several
 unfoldable pub textTests : ℕ → List (List ℕ) → List Test
 textTests limit texts =
     TextTooLong when any (isTooLong limit) texts
-    ∷ NotUtf8 when any isBroken texts
+    ∷ NotUtf8 when any isNotUtf8 texts
     ∷ []
 
 -- the number that is due where a call is given one text, and is tested for nothing else

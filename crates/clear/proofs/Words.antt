@@ -11,7 +11,6 @@ use borrow.Author.Tests.{leb-true, le-leb, not-true}
 use Rattle.lists.specs.Bytes.{all, small, keep}
 use Rattle.lists.specs.Classes.{except}
 use Rattle.lists.proofs.Table.{below}
-use Rattle.lists.proofs.Every.{every-drop}
 use Rattle.lexicon.specs.Lexicon.{wordOf, onesAt, teensAt, tensAt, ordinalStep}
 use Rattle.lexicon.proofs.Laws.{lexicon}
 use Rattle.units.specs.Units.{before}

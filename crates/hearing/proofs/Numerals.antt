@@ -14,7 +14,6 @@ use Rattle.lists.specs.Bytes.{same, starts, Every, all}
 use Rattle.lists.proofs.Recursion.{cond-elim}
 use Rattle.lists.proofs.Sets.{le-or-lt}
 use Rattle.lists.proofs.Table.{below}
-use Rattle.lists.proofs.Every.{every-append, every-take, every-drop, every-map}
 use Rattle.lists.proofs.Scan.{all-at}
 use Rattle.lexicon.proofs.Laws.{lexicon}
 use Rattle.units.specs.Units.{before}

@@ -26,7 +26,7 @@ use Rattle.years.proofs.YearLaws.{year-two}
 use Rattle.rows.specs.Rows.{clock}
 use Rattle.clear.specs.Clear.{isHour, isMinute, HalfDay, am, pm, listed}
 use Rattle.clear.proofs.Times.{hour-parts}
-use Rattle.hearing.specs.Hear.{counted, vocabulary, know, knowIn, known, firstWord, lastWord, isLetterWord, isLate, timeLike, hearTime, hear, isSmall}
+use Rattle.hearing.specs.Hear.{counted, vocabulary, know, knowIn, known, firstWord, lastWord, isLetterWord, timeLike, hearTime, hear, isSmall}
 use Rattle.hearing.proofs.Told.{solid}
 use Rattle.hearing.proofs.Shown.{clean-length}
 use Rattle.hearing.proofs.Numerals.{Numeral, numeral-test, cardinal-numerals, digits-numerals, numeral-known, every-known, plain-some}

@@ -7,7 +7,6 @@ use native.Mathlib.Omega.{arith}
 use lib.Dec.{ltb, eqb}
 use lib.ListN.{length, length-append}
 use borrow.Author.Tests.{lt-ltb, ne-eqb}
-use Rattle.lists.proofs.Every.{every-drop}
 use Rattle.lists.specs.Bytes.{all, any}
 use Rattle.lists.proofs.Scan.{all-append}
 use Rattle.numerals.specs.Words.{Word, one, teen, ten, hundred, scale}
@@ -35,8 +34,7 @@ pub large-sound : (u : List Word) (w : Word) (r : List Word) → ltb (smallValue
 large-sound u w r h l =
     record {
       untimely = rw (large-among u w r h);
-      alone =
-          rw (ne-eqb (length (u ++ w ∷ r)) 1 (λ e. omega (arith, length-append u (w ∷ r))));
+      alone = rw (ne-eqb (length (u ++ w ∷ r)) 1 (λ e. omega (arith, length-append u (w ∷ r))));
     }
 
 pair-sound : (a b : ℕ) → a < 10 → b < 10 → Sound (pair a b)
@@ -59,8 +57,7 @@ ones-sound (d ∷ []) h = single-sound (one d) (omega (arith, h .0))
 ones-sound (d ∷ b ∷ s) h =
     record {
       untimely = rw (ones-late (b ∷ s) (h .1)) (and-false (all isSmall (map one (d ∷ b ∷ s))));
-      alone =
-          rw (ne-eqb (length (map one (d ∷ b ∷ s))) 1 (λ e. omega arith));
+      alone = rw (ne-eqb (length (map one (d ∷ b ∷ s))) 1 (λ e. omega arith));
     }
 
 join-sound : (l : List Word) (k : ℕ) (r : List Word) → Sound r → Sound (join l (scale k) r)

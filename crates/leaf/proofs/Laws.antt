@@ -34,8 +34,7 @@ pub says-same : (g h : Reading) → g ≡ h → (σ : Sink) {τ : Sink} {q : Row
 says-same g h e σ k =
     record {
       row = k .row ∙ sym (ap (λ (r : Reading). r .row) e);
-      said =
-          k .said ∙ sym (ap (λ (r : Reading). emitAll (spelled (r .words)) σ) e);
+      said = k .said ∙ sym (ap (λ (r : Reading). emitAll (spelled (r .words)) σ) e);
     }
 
 -- a row's words are said, and the row answered

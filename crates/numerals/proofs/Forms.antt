@@ -11,7 +11,7 @@ use borrow.Author.Tests.{leb-true, lt-ltb, le-leb}
 use Rattle.lists.specs.Bytes.{bytes, same, keep, Every}
 use Rattle.lists.specs.Classes.{digit}
 use Rattle.lists.proofs.Table.{below, same-true}
-use Rattle.lists.proofs.Every.{every-append, every-take, every-drop, every-map, every-all, every-imply}
+use Rattle.lists.proofs.Every.{every-append, every-map, every-all, every-imply}
 use Rattle.lexicon.specs.Lexicon.{wordOf, cardinals, ordinals, onesAt, ordinalStep}
 use Rattle.lexicon.proofs.Laws.{lexicon, cardinal-word, ordinal-word}
 use Rattle.numerals.specs.Words.{Word, one, teen, ten, hundred, scale, other, spell, spelled}

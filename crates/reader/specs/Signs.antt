@@ -1,5 +1,5 @@
 -- The signs at a name's end, and the pen that the readers hand on. Definitions only; no public promise is made of them.
-use mathlib.Core.Bool.{Bool, not}
+use mathlib.Core.Bool.{not}
 use mathlib.Core.List.{List, [], _++_}
 use Prim.Native.Nat.{ℕ, zero, suc}
 use lib.Dec.{eqb}

@@ -39,6 +39,7 @@ shortFor bytes words store table = ltb store bytes || ltb table (pairBytes * wor
 abbrev pub short : List (List ℕ) → List ℕ → List ℕ → Bool
 short ws store table = shortFor (length (flatten ws)) (length ws) (length store) (length table)
 
+-- the tests of the call that reads the text s as the words ws, in their order
 abbrev pub wordsTests : List ℕ → List (List ℕ) → List ℕ → List ℕ → List Test
 wordsTests s ws store table = textTests textLimit (s ∷ []) ++ BufferTooShort when short ws store table ∷ []
 

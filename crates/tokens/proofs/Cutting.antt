@@ -56,8 +56,7 @@ pub cut-places : (at : ℕ) (w run : List ℕ) (ends : Bool) (n p : ℕ) → Cut
       prepunctuation = at + length w;
       name = at + length w + n;
       punctuation = at + length w + p;
-      end =
-          at + length w + length run;
+      end = at + length w + length run;
     }
     ≡ placesOf at (cut w run ends)
 cut-places at w run ends n p c =

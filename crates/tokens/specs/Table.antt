@@ -43,6 +43,7 @@ pub record Filled : Type 0 where
   pub tokens : ℕ
   pub buffer : List ℕ
 
+-- the tests of a call that is given the text s and writes `result` over `old`, in their order
 abbrev pub filledTests : List ℕ → List ℕ → List ℕ → List Test
 filledTests s result old = textTests textLimit (s ∷ []) ++ BufferTooShort when ltb (length old) (length result) ∷ []
 

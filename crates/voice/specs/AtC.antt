@@ -18,8 +18,7 @@ partsAtC n number (At hour minute meridiem) =
       «hour_at» = 0;
       «hour_len» = hour;
       «minute_at» = minute;
-      «minute_len» =
-          meridiem - minute;
+      «minute_len» = meridiem - minute;
       «meridiem_at» = meridiem;
       «meridiem_len» = n - meridiem;
     }
