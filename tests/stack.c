@@ -124,7 +124,7 @@ static void repeat(const char *piece, size_t most)
 static size_t within(const char *what, size_t bytes, size_t most)
 {
     bytes -= touched(nothing);
-    printf("header: %s %lu bytes of stack at most\n", what, (unsigned long)bytes);
+    printf("stack: %s %lu bytes of stack at most\n", what, (unsigned long)bytes);
     return bytes < most;
 }
 

@@ -1,5 +1,5 @@
 -- Document 01, "Calls held back": the refusals, their numbers, the tests of a call, and what a refused call answers. Definitions only.
-use mathlib.Core.Bool.{Bool, cond, not}
+use mathlib.Core.Bool.{Bool, true, cond, not, _&&_}
 use mathlib.Core.List.{List, [], _∷_}
 use Prim.Native.Nat.{ℕ, zero, suc}
 use lib.Dec.{ltb}
@@ -29,18 +29,25 @@ infix 70 _when_
 pub data Test : Type 0 where
   _when_ : Refusal → Bool → Test
 
--- "Tests run in the order 1 to 5. Each refusal is given under its condition and never otherwise": of the tests that a call makes,
--- in the order it makes them, the number of the first one that holds, 0 where none does
+-- "Each refusal is given under its condition and never otherwise": of the tests that a call makes, in the order it makes them, the
+-- number of the first one that holds, 0 where none does
 abbrev pub firstDue : List Test → ℕ
 firstDue [] = 0
 firstDue (refusal when holds ∷ tests) = cond holds (number refusal) (firstDue tests)
 
+-- "Tests run in the order 1 to 5": the number of each is larger than that of the one before
+abbrev pub inOrder : List Test → Bool
+inOrder [] = true
+inOrder (a ∷ []) = true
+inOrder (refusal when holds ∷ next when too ∷ tests) = ltb (number refusal) (number next) && inOrder (next when too ∷ tests)
+
 -- ---- the tests that every call makes first
 
--- "a text has more than 65,536 bytes", or than the limit of its call
+-- "a text has more than 65,536 bytes"
 abbrev pub textLimit : ℕ
 textLimit = 65536
 
+-- more than the limit of its call
 abbrev pub isTooLong : ℕ → List ℕ → Bool
 isTooLong limit s = ltb limit (length s)
 

@@ -2,7 +2,7 @@
 use mathlib.Core.Path.{_≡_, refl}
 use mathlib.Core.Bool.{Bool, true, false, not, _&&_, and-eq-true-iff}
 use mathlib.Core.List.{List, [], _∷_, _++_, map}
-use Prim.Native.Nat.{ℕ, zero, suc, _-_, _≤_, _<_}
+use Prim.Native.Nat.{ℕ, _-_, _≤_}
 use native.Mathlib.Omega.{arith}
 use lib.ListN.{length, getD, length-append}
 use lib.Seq.{take-at, getD-at}
@@ -22,12 +22,6 @@ use Rattle.hearing.proofs.Told.{solid, HeededWith}
 use Rattle.hearing.proofs.Numerals.{Numeral, numeral-test, numeral-known, every-known, plain-some}
 
 -- ---- the words of a line
-
--- an element of a list whose elements all have a property
-pub every-at : {A : Type 0} (P : A → Type 0) (s : List A) (i : ℕ) (d : A) → i < length s → Every P s → P (getD s i d)
-every-at P [] i d l h = absurd (omega arith)
-every-at P (a ∷ s) zero d l h = h .0
-every-at P (a ∷ s) (suc i) d l h = every-at P s i d (omega arith) (h .1)
 
 -- the last word
 pub last-word : (ws : List (List ℕ)) (x : List ℕ) → lastWord (ws ++ x ∷ []) ≡ x

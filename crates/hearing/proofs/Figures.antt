@@ -10,7 +10,7 @@ use lib.ListN.{length, length-append, length-map, List·getD-append}
 use lib.Seq.{append-snoc}
 use borrow.Author.Tests.{not-true, not-false}
 use Rattle.lists.specs.Bytes.{bytes, all, same, sameBy, starts, Every}
-use Rattle.lists.proofs.Every.{every-append, every-map, every-imply}
+use Rattle.lists.proofs.Every.{every-append, every-map, every-imply, every-at}
 use Rattle.lexicon.specs.Lexicon.{ordinals}
 use Rattle.units.specs.Units.{unitWords}
 use Rattle.shapes.specs.Shapes.{isDigits, isLeadingZeroDigits}
@@ -26,7 +26,7 @@ use Rattle.hearing.specs.Hear.{know, known, firstWord, lastWord, smallVa
 use Rattle.hearing.proofs.Told.{solid, HeededWith}
 use Rattle.hearing.proofs.Shown.{clean-length}
 use Rattle.hearing.proofs.Numerals.{Numeral, numeral-test, cardinal-numerals, digits-numerals, every-known, plain-some, hear-plain, hear-leading}
-use Rattle.hearing.proofs.Dispatch.{every-at, last-word, but-last, not-lone, numeral-no-letter, heeded}
+use Rattle.hearing.proofs.Dispatch.{last-word, but-last, not-lone, numeral-no-letter, heeded}
 use Rattle.hearing.proofs.Real.{minusWords}
 use Rattle.hearing.proofs.Figure.{Fine, plainEnd, dictionary, numeral-fine, minus-is, Tail, none, part, front-heard, tail-fine, plain-part, figure-tail}
 use Rattle.hearing.proofs.FigureRows.{figure-read, leading-read}

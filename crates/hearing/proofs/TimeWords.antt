@@ -12,7 +12,7 @@ use lib.Seq.{getD-append-seam, getD-append-add}
 use borrow.Author.Tests.{eqb-true, not-true}
 use Rattle.lists.specs.Bytes.{bytes, same, sameBy, all, any, Every}
 use Rattle.lists.proofs.Recursion.{cond-elim}
-use Rattle.lists.proofs.Every.{every-append, every-map, every-imply}
+use Rattle.lists.proofs.Every.{every-append, every-map, every-imply, every-at}
 use Rattle.lexicon.specs.Lexicon.{ordinals}
 use Rattle.lexicon.proofs.Laws.{lexicon}
 use Rattle.units.specs.Units.{unitAbbreviations, unitWords, before}
@@ -30,7 +30,7 @@ use Rattle.hearing.specs.Hear.{counted, vocabulary, know, knowIn, known,
 use Rattle.hearing.proofs.Told.{solid}
 use Rattle.hearing.proofs.Shown.{clean-length}
 use Rattle.hearing.proofs.Numerals.{Numeral, numeral-test, cardinal-numerals, digits-numerals, numeral-known, every-known, plain-some}
-use Rattle.hearing.proofs.Dispatch.{every-at, not-lone, but-last}
+use Rattle.hearing.proofs.Dispatch.{not-lone, but-last}
 use Rattle.hearing.proofs.Times.{minute-parts, time-like, time-heard}
 
 abbrev oh : Word

@@ -10,7 +10,7 @@ use borrow.Author.Tests.{leb-true, eqb-true, not-true}
 use Rattle.lists.specs.Bytes.{bytes, same, sameBy, keep, all, any}
 use Rattle.lists.specs.Recur.{recur, recurAt}
 use Rattle.lists.proofs.Table.{upto, below}
-use Rattle.lists.proofs.Scan.{all-append}
+use Rattle.lists.proofs.Scan.{all-append, any-append}
 use Rattle.shapes.specs.Shapes.{isDigits, isNDigits}
 use Rattle.shapes.proofs.Laws.{digits-all}
 use Rattle.numerals.specs.Words.{Word}
@@ -141,9 +141,7 @@ heard h m (w ∷ v ∷ []) vs p q =
 heard h m (w ∷ v ∷ u ∷ ws) vs p q = absurd (false≢true p)
 
 late-append : (ws vs : List Word) → any isLate vs ≡ true → any isLate (ws ++ vs) ≡ true
-unfolding any
-late-append [] vs q = q
-late-append (w ∷ ws) vs q = rw (late-append ws vs q) (or-true (ltb (smallValue w) 100 && not (isOne w)))
+late-append ws vs q = rw (any-append isLate ws vs, q) (or-true (any isLate ws))
 
 -- with a minute there are two words, and they are a time's
 late : (m : ℕ) (vs : List Word) → minutely m vs ≡ true → (m ≡ 0 → ⊥) → any isLate vs ≡ true

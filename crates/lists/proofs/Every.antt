@@ -2,8 +2,9 @@
 use mathlib.Core.Path.{_≡_}
 use mathlib.Core.Bool.{Bool, true, and-eq-true-iff}
 use mathlib.Core.List.{List, [], _∷_, _++_, map}
-use Prim.Native.Nat.{ℕ, zero, suc}
-use lib.ListN.{take, drop}
+use Prim.Native.Nat.{ℕ, zero, suc, _<_}
+use native.Mathlib.Omega.{arith}
+use lib.ListN.{take, drop, length, getD}
 use Rattle.lists.specs.Bytes.{all, Every}
 
 -- two lists, one after the other
@@ -48,3 +49,9 @@ pub every-tested : {A : Type 0} (p : A → Bool) (P : A → Type 0) → ((a : A)
 unfolding all
 every-tested p P f [] h = tt
 every-tested p P f (a ∷ s) h = let k = and-eq-true-iff (p a) (all p s) .0 h in (f a (k .0), every-tested p P f s (k .1))
+
+-- the element at a place of the list
+pub every-at : {A : Type 0} (P : A → Type 0) (s : List A) (i : ℕ) (d : A) → i < length s → Every P s → P (getD s i d)
+every-at P [] i d l h = absurd (omega arith)
+every-at P (a ∷ s) zero d l h = h .0
+every-at P (a ∷ s) (suc i) d l h = every-at P s i d (omega arith) (h .1)

@@ -1,4 +1,4 @@
--- `cardinalFew` is its own step, at each length. Assumes nothing.
+-- `cardinalFew` is its own step, at each length; what holds of the words of every number follows by one induction. Assumes nothing.
 use mathlib.Core.Path.{_≡_, refl, ap, _∙_, subst⁻¹}
 use mathlib.Core.Bool.{Bool, true, false, cond, _&&_, or-false}
 use mathlib.Core.Logic.{⊎-elim}
@@ -68,7 +68,7 @@ pub record Cases (D : ℕ → Type 0) (P : ℕ → List Word → Type 0) : Type 
   pub triple : (a b c : ℕ) → D a → D b → D c → P 3 (one a ∷ hundred ∷ pair b c)
   pub joined : (n : ℕ) (left right : List Word) → 3 < n → P (splitAt n) left → P (n - splitAt n) right → P n (join left (scale (scaleFor n)) right)
 
--- then it holds of the words of every digits that have D, since the parts of a number are shorter
+-- then it holds of the words of all digits that have D, since the parts of a number are shorter
 pub few-induct : (D : ℕ → Type 0) (P : ℕ → List Word → Type 0) → Cases D P → (s : List ℕ) → Every D s → P (length s) (cardinalFew s)
 unfolding cardinalFew cardinalStep byScale
 few-induct D P r = recur-induct (λ s ws. Every D s → P (length s) ws) [] cardinalStep step

@@ -63,8 +63,9 @@ one-room d h = fits-room 1 6 (one d ∷ []) (below (λ d. fits 1 6 (one d ∷ []
 
 pair-room : (a b : ℕ) → a < 10 → b < 10 → Room 2 14 (pair a b)
 unfolding pair spell lexicon
-pair-room a b h k = let f : ℕ → ℕ
-    → Bool = λ a b. fits 2 14 (pair a b) in fits-room 2 14 (pair a b) (below (f a) 10 (below (λ a. upto (f a) 10) 10 refl a h) b k)
+pair-room a b h k =
+    let f : ℕ → ℕ → Bool = λ a b. fits 2 14 (pair a b) in
+    fits-room 2 14 (pair a b) (below (f a) 10 (below (λ a. upto (f a) 10) 10 refl a h) b k)
 
 -- the word "hundred"
 pub hundred-room : Room 1 8 (hundred ∷ [])

@@ -1,13 +1,13 @@
 -- The unit calls, case by case. Assumes nothing.
 use mathlib.Core.Path.{_≡_, refl}
 use mathlib.Core.Bool.{Bool, true, false, cond}
-use mathlib.Core.List.{List, [], _∷_}
+use mathlib.Core.List.{List, [], _∷_, _++_}
 use Prim.Native.Nat.{ℕ, _-_, _≤_, _<_}
 use native.Mathlib.Omega.{arith}
 use lib.Dec.{ltb}
 use lib.ListN.{length, drop, length-drop}
 use borrow.Author.Tests.{le-ltb}
-use Rattle.admit.specs.Refusals.{textLimit, textTests, textRefusal}
+use Rattle.admit.specs.Refusals.{textLimit, textTests, textRefusal, inOrder}
 use Rattle.admit.proofs.Calls.{held, passed}
 use Rattle.units.specs.Units.{unitIndex, unitWord}
 use Rattle.units.proofs.Laws.{miss-none, miss-word, hit-some}
@@ -45,6 +45,11 @@ unit-le s = go (hasUnit s)
     go : (t : Bool) → length (cond t (drop (unitAt s) s) []) ≤ length s
     go true = simp length-drop (omega arith)
     go false = omega arith
+
+-- the tests of unit_word run in the order of their numbers
+pub word-in-order : (s store : List ℕ) → inOrder (textTests textLimit (s ∷ []) ++ storeTests (unitWord s) store) ≡ true
+unfolding textTests
+word-in-order s store = refl
 
 module _ (s store : List ℕ) (n : ℕ) (due : n ≡ textRefusal textLimit s) where
   pub word-refused : (n ≡ 0 → ⊥) → record { refusal = n; value = record { found = false; size = 0; store = store } } ≡ wordCall s store

@@ -6,7 +6,7 @@ use Prim.Native.Nat.{ℕ, zero, suc, _<_}
 use native.Mathlib.Omega.{arith}
 use borrow.Author.Tests.{ne-eqb, le-leb, lt-leb}
 use Rattle.lists.proofs.Scan.{any-append}
-use Rattle.admit.specs.Refusals.{number, Test, _when_, firstDue, textLimit, textTests, textRefusal}
+use Rattle.admit.specs.Refusals.{number, Test, _when_, firstDue, textLimit, textTests, textRefusal, inOrder}
 use Rattle.sentences.specs.Calls.{stepTests, smallerDue}
 
 -- the tests of two lists, each of which holds where it does in one of them
@@ -69,3 +69,8 @@ texts-due limit ss ts = both-due 0 (textTests limit ss) (textTests limit ts) (om
 pub three-due : (w n p : List ℕ) → smallerDue (smallerDue (textRefusal textLimit w) (textRefusal textLimit n)) (textRefusal textLimit p) ≡ firstDue (stepTests w n p)
 three-due w n p =
     ap (λ (k : ℕ). smallerDue k (textRefusal textLimit p)) (texts-due textLimit (w ∷ []) (n ∷ [])) ∙ texts-due textLimit (w ∷ n ∷ []) (p ∷ [])
+
+-- the tests of a step run in the order of their numbers
+pub step-in-order : (whitespace name punctuation : List ℕ) → inOrder (stepTests whitespace name punctuation) ≡ true
+unfolding textTests
+step-in-order whitespace name punctuation = refl

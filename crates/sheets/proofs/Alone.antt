@@ -1,6 +1,6 @@
 -- What the call of one entry gives is what stands in the whole sheet's call. Assumes nothing.
 use mathlib.Core.Path.{_≡_, refl, sym, ap, _∙_}
-use mathlib.Core.Bool.{Bool, false}
+use mathlib.Core.Bool.{Bool, false, true}
 use mathlib.Core.List.{List, [], _∷_, _++_, flatten}
 use Prim.Native.Nat.{ℕ, zero, suc, _+_, _≤_, _<_}
 use native.Mathlib.Omega.{arith}
@@ -10,12 +10,12 @@ use lib.Seq.{take-append-seam}
 use borrow.Author.Tests.{le-ltb, lt-leb}
 use Rattle.lists.proofs.Bools.{or-false-both}
 use Rattle.lists.specs.Bytes.{any}
-use Rattle.admit.specs.Refusals.{_when_, firstDue, textLimit, textTests, textRefusal, Call}
+use Rattle.admit.specs.Refusals.{_when_, firstDue, textLimit, textTests, textRefusal, Call, inOrder}
 use Rattle.admit.specs.declared.Refusal.the-variants.{NameTooLong, BufferTooShort}
 use Rattle.admit.proofs.Calls.{call-accepted, passed, both-passed, none-due}
 use Rattle.tokens.specs.Tokens.{tokens}
 use Rattle.sheets.specs.Sheet.{SheetEntry, entries, wordsOf, lines, callSheet, countWords, noEntry}
-use Rattle.sheets.specs.Calls.{isLong, anyLong, Accepted, entryAt, lineAt, entryTests, EntryGiven, entryCall}
+use Rattle.sheets.specs.Calls.{isLong, anyLong, Accepted, entryAt, lineAt, entryTests, EntryGiven, entryCall, sheetTests}
 use Rattle.sheets.proofs.Entries.{entries-length, sheet-at}
 
 -- the line and the words that a call of entry k gives, on the buffer `old`
@@ -40,6 +40,15 @@ entry-alone s old k t h l r =
       sym (ap (λ (c : Call EntryGiven). take (c .value .bytes) (c .value .buffer)) q) ∙ take-append-seam (lineAt s k) (drop (length (lineAt s k)) old),
       sym (ap (λ (c : Call EntryGiven). c .value .words) q),
     )
+
+-- the tests of both calls run in the order of their numbers
+pub sheet-in-order : (s : List ℕ) (short : Bool) → inOrder (sheetTests s short) ≡ true
+unfolding textTests
+sheet-in-order s short = refl
+
+pub entry-in-order : (s : List ℕ) (k : ℕ) (short : Bool) → inOrder (entryTests s k short) ≡ true
+unfolding textTests
+entry-in-order s k short = refl
 
 -- no entry of an accepted sheet is held back but for room
 accepted-tests : (s : List ℕ) → Accepted s → (textRefusal textLimit s ≡ 0) × (anyLong (entries s) ≡ false)

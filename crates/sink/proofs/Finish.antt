@@ -14,11 +14,11 @@ use Rattle.lists.specs.Bytes.{over}
 use Rattle.lists.specs.LittleEndian.{leBytes}
 use Rattle.lists.proofs.Sets.{sets-append, sets-front, le-or-lt}
 use Rattle.lists.proofs.Bools.{or-false-both}
-use Rattle.admit.specs.Refusals.{Test, _when_, textLimit, textTests, textRefusal}
+use Rattle.admit.specs.Refusals.{Test, _when_, textLimit, textTests, textRefusal, inOrder}
 use Rattle.admit.specs.declared.Refusal.the-variants.{BufferTooShort}
 use Rattle.admit.proofs.Calls.{held, passed}
 use Rattle.sink.specs.Sink.{top, pairOf, pairBytes, Sink, sink, gap, afterGap, emit, emitAll}
-use Rattle.sink.specs.Words.{tableOf, shortFor, short, wordsCall, asWords, startPen, spokenBy, refusedBy}
+use Rattle.sink.specs.Words.{tableOf, shortFor, short, wordsCall, asWords, startPen, spokenBy, refusedBy, wordsTests}
 use Rattle.sink.specs.declared.Pen.{Pen}
 use Rattle.sink.specs.declared.Spoken.{Spoken}
 
@@ -131,6 +131,11 @@ measured ws a b ha hb x y x₀ y₀ {m} {p₀} e₀ e =
 -- buffers that are long enough are not too short
 pub long-enough : (ws : List (List ℕ)) (a b : ℕ) → length (flatten ws) ≤ a → pairBytes * length ws ≤ b → shortFor (length (flatten ws)) (length ws) a b ≡ false
 long-enough ws a b h k = rw (le-ltb a (length (flatten ws)) h, le-ltb b (pairBytes * length ws) k)
+
+-- the tests of such a call run in the order of their numbers
+pub words-in-order : (s : List ℕ) (ws : List (List ℕ)) (st tb : List ℕ) → inOrder (wordsTests s ws st tb) ≡ true
+unfolding textTests
+words-in-order s ws st tb = refl
 
 -- ws are the words of the text s, whose refusal n is tested first; st and tb are the lent buffers
 module _ (s : List ℕ) (ws : List (List ℕ)) (st tb : List ℕ) (n : ℕ) (due : n ≡ textRefusal textLimit s) where

@@ -1,5 +1,5 @@
 -- What a call answers that fills a buffer by tokens. Assumes nothing.
-use mathlib.Core.Path.{_≡_, sym, _∙_}
+use mathlib.Core.Path.{_≡_, sym, _∙_, refl}
 use mathlib.Core.Bool.{Bool, true, false}
 use mathlib.Core.Logic.{⊎-elim}
 use mathlib.Core.List.{List, [], _∷_}
@@ -11,11 +11,11 @@ use lib.Seq.{sets}
 use borrow.Author.Tests.{lt-ltb, le-ltb, ltb-false}
 use Rattle.lists.proofs.Sets.{sets-front, le-or-lt}
 use Rattle.lists.specs.Bytes.{over}
-use Rattle.admit.specs.Refusals.{Test, _when_, textLimit, textTests, textRefusal}
+use Rattle.admit.specs.Refusals.{Test, _when_, textLimit, textTests, textRefusal, inOrder}
 use Rattle.admit.specs.declared.Refusal.the-variants.{BufferTooShort}
 use Rattle.admit.proofs.Calls.{held, passed}
 use Rattle.tokens.specs.Tokens.{tokens}
-use Rattle.tokens.specs.Table.{recordBytes, records, filledCall, asFilled}
+use Rattle.tokens.specs.Table.{recordBytes, records, filledCall, asFilled, filledTests}
 use Rattle.tokens.proofs.Records.{records-length}
 
 -- whether so many records fit
@@ -26,6 +26,11 @@ records-fit len n =
 
 pub records-short : (s old : List ℕ) → ltb (length old) (length (records 0 (tokens s))) ≡ ltb (length old / recordBytes) (length (tokens s))
 records-short s old = rw (records-length 0 (tokens s)) (records-fit (length old) (length (tokens s)))
+
+-- the tests of such a call run in the order of their numbers
+pub filled-in-order : (s result old : List ℕ) → inOrder (filledTests s result old) ≡ true
+unfolding textTests
+filled-in-order s result old = refl
 
 -- `result` is what is written for the text s, whose refusal n is tested first; `old` is the lent buffer
 module _ (s result old : List ℕ) (n : ℕ) (due : n ≡ textRefusal textLimit s) where
