@@ -10,13 +10,13 @@ use lib.Dec.{ltb, eqb, leb·suc-suc}
 use lib.ListN.{length, drop, getD, drop-of-length-le}
 use lib.Seq.{drop-cons}
 use borrow.Author.Tests.{lt-ltb, le-ltb, not-true}
-use Rattle.lists.specs.Bytes.{same}
+use Rattle.lists.specs.Bytes.{any, same, listed}
 use Rattle.lists.proofs.Sets.{le-or-lt}
 use Rattle.lists.proofs.Table.{below, same-true}
 use Rattle.lexicon.specs.Lexicon.{wordOf}
 use Rattle.lexicon.proofs.Laws.{lexicon}
-use Rattle.units.specs.Units.{unitAbbreviations, unitWords, before, wordNumbers}
-use Rattle.clear.specs.Clear.{tableWords, listed}
+use Rattle.units.specs.Units.{unitAbbreviations, abbreviations, unitWords, before, wordNumbers}
+use Rattle.clear.specs.Clear.{tableWords}
 
 -- two tests agree
 agree : (a b : Bool) → cond a b (not b) ≡ true → a ≡ b
@@ -25,7 +25,7 @@ agree false b t = sym (not-true b t)
 
 -- there is a row k, and it is the first with its word
 abbrev firstRow : ℕ → Bool
-firstRow k = ltb k (length unitAbbreviations) && eqb (before (getD unitWords k []) unitWords) k
+firstRow k = ltb k (length abbreviations) && eqb (before (getD unitWords k []) unitWords) k
 
 -- there is a row k, and its word's number is larger than that of the row before
 abbrev newWord : ℕ → Bool
@@ -33,7 +33,7 @@ newWord k = ltb k 22 && ltb (getD wordNumbers (k - 1) 0) (getD wordNumbers k 0)
 
 -- row 0 has a word that no row before it has
 pub first-zero : true ≡ firstRow 0
-unfolding lexicon before unitWords unitAbbreviations
+unfolding lexicon before unitWords abbreviations unitAbbreviations
 first-zero = refl
 
 first : ℕ → Bool
@@ -41,7 +41,7 @@ first k = cond (newWord (suc k)) (firstRow (suc k)) (not (firstRow (suc k)))
 
 -- rows with one word stand together, and the words in the lexicon's order
 pub first-row : (k : ℕ) → (k ≡ 0 → ⊥) → newWord k ≡ firstRow k
-unfolding first lexicon wordNumbers before unitWords unitAbbreviations
+unfolding first lexicon wordNumbers before unitWords abbreviations unitAbbreviations
 first-row zero h = absurd (h refl)
 first-row (suc k) h =
     ⊎-elim (λ (g : 21 ≤ k). rw (le-ltb (suc k) 22 (omega arith)))
@@ -65,20 +65,10 @@ tables = refl
 
 -- the look-up from word i on: this word, or those after it
 pub listed-more : (s : List ℕ) (i : ℕ) → i < 63 → listed s (drop i tableWords) ≡ same (getD tableWords i []) s || listed s (drop (i + 1) tableWords)
-unfolding before
-listed-more s i h = rw (add-one, drop-cons tableWords i [] (rw tables h)) (go (same (getD tableWords i []) s))
-  where
-    n : ℕ
-    n = before s (drop (suc i) tableWords)
-
-    m : ℕ
-    m = length (drop (suc i) tableWords)
-
-    go : (t : Bool) → ltb (cond t 0 (suc n)) (suc m) ≡ t || ltb n m
-    go true = lt-ltb 0 (suc m) (omega arith)
-    go false = leb·suc-suc (suc n) m
+unfolding any
+listed-more s i h = rw (add-one, drop-cons tableWords i [] (rw tables h))
 
 -- past the last word nothing is found
 pub listed-end : (s : List ℕ) (i : ℕ) → 63 ≤ i → listed s (drop i tableWords) ≡ false
-unfolding before
+unfolding any
 listed-end s i h = rw (drop-of-length-le tableWords {i = i} (rw tables h))

@@ -15,6 +15,7 @@ use Rattle.lists.specs.Classes.{digit}
 use Rattle.lists.proofs.Recursion.{cond-elim}
 use Rattle.lists.proofs.Scan.{last-span}
 use Rattle.lists.proofs.Table.{below, same-true}
+use Rattle.units.proofs.Laws.{unit-in-table}
 use Rattle.units.specs.Units.{unitAbbreviations, abbreviations, unitWords, before, unitIndex, isUnit, unitWord}
 use Rattle.shapes.specs.Shapes.{unitAt}
 use Rattle.shapes.proofs.Laws.{digits-all}
@@ -62,7 +63,7 @@ before-at t (s ∷ ss) h = go (same s t) refl h (before-at t ss)
     go false e h i = i (omega arith)
 
 -- the table has as many rows in either column
-columns : (length abbreviations ≡ length unitAbbreviations) × (length unitWords ≡ length unitAbbreviations)
+columns : (length abbreviations ≡ 22) × (length unitWords ≡ 22)
 unfolding abbreviations unitWords unitAbbreviations
 columns = (refl, refl)
 
@@ -72,7 +73,7 @@ test-unit s h =
     let u = drop (unitAt s) s in
     let p = and-eq-true-iff (plain (take (unitAt s) s)) (isFirstUnit u) .0 h in
     let q = and-eq-true-iff (isUnit u) (eqb (before (unitWord u) unitWords) (unitIndex u)) .0 (p .1) in
-    let l : unitIndex u < length unitAbbreviations = ltb-true _ _ (q .0) in
+    let l : unitIndex u < 22 = ltb-true _ _ (sym (unit-in-table u) ∙ q .0) in
     let e : getD abbreviations (unitIndex u) [] ≡ u = before-at u abbreviations (rw (columns .0) l) in
     rw (e, take-append-drop) at (is-unit (take (unitAt s) s) (unitIndex u) (p .0) (rw (columns .1) l) (eqb-true _ _ (q .1)))
 
@@ -108,13 +109,14 @@ pub unit-test : (s : List ℕ) (k : ℕ) → plain s ≡ true → k < length uni
 unit-test s k h l w =
     let u = getD abbreviations k [] in
     let e = unit-at s k h l in
-    let r : k < length unitAbbreviations = rw (columns .1) at l in
+    let r : k < 22 = rw (columns .1) at l in
     rw (
       take-at s u (unitAt (s ++ u)) (sym e),
       drop-at s u (unitAt (s ++ u)) (sym e),
       h,
+      unit-in-table u,
       unit-row k l .first,
-      lt-ltb k (length unitAbbreviations) r,
+      lt-ltb k 22 r,
       w,
     )
     (eq-eqb k k refl)

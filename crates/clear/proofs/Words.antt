@@ -8,7 +8,7 @@ use native.Mathlib.Omega.{arith}
 use lib.Dec.{leb}
 use lib.ListN.{length}
 use borrow.Author.Tests.{leb-true, le-leb, not-true}
-use Rattle.lists.specs.Bytes.{all, small, keep}
+use Rattle.lists.specs.Bytes.{all, small, keep, listed, any}
 use Rattle.lists.specs.Classes.{except}
 use Rattle.lists.proofs.Table.{below}
 use Rattle.lexicon.specs.Lexicon.{wordOf, onesAt, teensAt, tensAt, ordinalStep}
@@ -19,7 +19,7 @@ use Rattle.numerals.specs.Cardinal.{clean, pair, scaleFor, join, cardinalFew, c
 use Rattle.numerals.specs.Ordinal.{ordinalForm, orZero, onLast, ordinal}
 use Rattle.numerals.proofs.Cardinal.{few-induct, cardinalOf-elim}
 use Rattle.numerals.proofs.Forms.{Digits, clean-digits, form-number}
-use Rattle.clear.specs.Clear.{tableWords, listed, Alone, Clear, is-word}
+use Rattle.clear.specs.Clear.{tableWords, Alone, Clear, is-word}
 use Rattle.clear.specs.Test.{isWordClear}
 
 -- ---- an answer of one word
@@ -91,7 +91,7 @@ barredb : ℕ → Bool
 barredb k = listed (wordOf (onesAt + k)) tableWords && listed (wordOf (onesAt + ordinalStep + k)) tableWords
 
 barred : (k : ℕ) → k < 30 → (listed (wordOf (onesAt + k)) tableWords ≡ true) × (listed (wordOf (onesAt + ordinalStep + k)) tableWords ≡ true)
-unfolding barredb tableWords before lexicon
+unfolding barredb tableWords any lexicon
 barred k h =
     and-eq-true-iff (listed (wordOf (onesAt + k)) tableWords) (listed (wordOf (onesAt + ordinalStep + k)) tableWords) .0
     (below barredb 30 refl k h)

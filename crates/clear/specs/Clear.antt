@@ -6,7 +6,7 @@ use Prim.Native.Nat.{ℕ, _-_, _≤_, _<_}
 use Prim.Native.Char.{code}
 use lib.Dec.{leb, ltb, eqb}
 use lib.ListN.{length, getD}
-use Rattle.lists.specs.Bytes.{bytes, all, capital, small}
+use Rattle.lists.specs.Bytes.{bytes, all, listed, capital, small}
 use Rattle.lexicon.specs.Lexicon.{ones, teens, tens, ordinalOnes, ordinalTeens, ordinalTens}
 use Rattle.units.specs.Units.{abbreviations, unitWords, before}
 use Rattle.shapes.specs.Shapes.{isDigits, isNDigits, isLeadingZeroDigits}
@@ -75,10 +75,6 @@ dotted c (d ∷ cs) = c ∷ code "." ∷ dotted d cs
 unfoldable pub tableWords : List (List ℕ)
 tableWords =
     map bytes (ones ++ (teens ++ (tens ++ (ordinalOnes ++ (ordinalTeens ++ (ordinalTens ++ ("billion" ∷ "million" ∷ "thousand" ∷ [])))))))
-
--- the text is one of the list
-abbrev pub listed : List ℕ → List (List ℕ) → Bool
-listed t ss = ltb (before t ss) (length ss)
 
 -- "any word that alone is an answer": some text is read as the one word w
 abbrev pub Alone : (List ℕ → List Word) → List ℕ → Type 0

@@ -6,11 +6,11 @@ use Prim.Native.Nat.{ℕ, _-_}
 use Prim.Native.Char.{code}
 use lib.Dec.{leb, eqb}
 use lib.ListN.{length, take, drop}
-use Rattle.lists.specs.Bytes.{bytes, all, span, same, capital, small, starts, ends, stripPrefix, lead, after}
+use Rattle.lists.specs.Bytes.{bytes, all, span, same, capital, small, starts, ends, stripPrefix, lead, after, listed}
 use Rattle.lists.specs.Classes.{digit, except}
 use Rattle.units.specs.Units.{unitWords, before, unitIndex, isUnit, unitWord}
 use Rattle.shapes.specs.Shapes.{isDigits, stripSign, isTime, isDottedAbbrev, unitAt}
-use Rattle.clear.specs.Clear.{plain, suffix, tableWords, listed}
+use Rattle.clear.specs.Clear.{plain, suffix, tableWords}
 
 -- past the digits of a figure: an exponent, or nothing
 unfoldable pub isExponentClear : List ℕ → Bool

@@ -33,10 +33,10 @@ ghost use mathlib.Core.List.{[]};
 ghost use Prim.Native.Nat.{_<_};
 ghost use lib.Dec.{ltb, eqb};
 ghost use lib.ListN.{length, getD};
-ghost use Rattle.lists.specs.Bytes.{all, same as sameText};
+ghost use Rattle.lists.specs.Bytes.{all, same as sameText, listed};
 ghost use Rattle.lexicon.specs.Lexicon.{wordOf};
-ghost use Rattle.units.specs.Units.{unitAbbreviations, unitWords, before};
-ghost use Rattle.clear.specs.Clear.{plain, suffix, suffixFor, tableWords, listed};
+ghost use Rattle.units.specs.Units.{abbreviations, unitWords, before};
+ghost use Rattle.clear.specs.Clear.{plain, suffix, suffixFor, tableWords};
 ghost use Rattle.clear.specs.Test.{isExponentClear, isFractionClear, isFigureClear, isNumberClear, isPercentClear, isPlainTime, isTimeClear, isMeridiemClear, isOrdinalClear, isUnitClear, isInitialsClear, isWordClear, isClear};
 ghost use Rattle.clear.specs.Classes.{ofClass};
 
@@ -154,7 +154,7 @@ pub fn is_ordinal_clear(s: &[u8]) -> bool
 
 // Whether row k of the units is the first with its word. Rows with one word stand together.
 fn is_first_row(k: u8) -> bool
-    ensures { λ r. ⌜ r ≡ (ltb k (length unitAbbreviations) && eqb (before (getD unitWords k []) unitWords) k) ⌝ }
+    ensures { λ r. ⌜ r ≡ (ltb k (length abbreviations) && eqb (before (getD unitWords k []) unitWords) k) ⌝ }
 {
     if k == 0 {
         return true;

@@ -7,7 +7,7 @@ use native.Mathlib.Omega.{arith}
 use lib.ListN.{length, getD, length-append}
 use lib.Seq.{take-at, getD-at}
 use borrow.Author.Tests.{ne-eqb, not-true}
-use Rattle.lists.specs.Bytes.{bytes, all, same, Every}
+use Rattle.lists.specs.Bytes.{bytes, all, same, Every, listed}
 use Rattle.lists.proofs.Every.{every-append, every-map, every-imply}
 use Rattle.lexicon.specs.Lexicon.{ordinals}
 use Rattle.lexicon.proofs.Laws.{lexicon}
@@ -16,7 +16,7 @@ use Rattle.numerals.specs.Words.{Word, other, spell, spelled}
 use Rattle.numerals.specs.Cardinal.{cardinal}
 use Rattle.numerals.proofs.Digits.{spelled-append}
 use Rattle.rows.specs.Rows.{readWith}
-use Rattle.clear.specs.Clear.{plain, listed}
+use Rattle.clear.specs.Clear.{plain}
 use Rattle.hearing.specs.Hear.{counted, vocabulary, know, known, firstWord, lastWord, butLast, hearDigits, isLetterWord, isLone, cardinalWord, withSuffix, hear}
 use Rattle.hearing.proofs.Told.{solid, HeededWith}
 use Rattle.hearing.proofs.Numerals.{Numeral, numeral-test, numeral-known, every-known, plain-some}

@@ -5,7 +5,7 @@ use mathlib.Core.List.{List, [], _∷_, _++_, map, append-nil}
 use Prim.Native.Nat.{ℕ}
 use Prim.Native.Char.{code}
 use lib.Dec.{ltb, eqb}
-use Rattle.lists.specs.Bytes.{bytes, all, same, Every}
+use Rattle.lists.specs.Bytes.{bytes, all, same, Every, listed, any}
 use Rattle.lists.proofs.Every.{every-append, every-imply}
 use Rattle.lexicon.specs.Lexicon.{ordinals}
 use Rattle.lexicon.proofs.Laws.{lexicon}
@@ -13,7 +13,7 @@ use Rattle.units.specs.Units.{unitAbbreviations, unitWords, before}
 use Rattle.shapes.specs.Shapes.{isDigits}
 use Rattle.numerals.specs.Words.{Word, other, spell}
 use Rattle.numerals.specs.Cardinal.{clean, cardinal, digits}
-use Rattle.clear.specs.Clear.{plain, listed, tableWords, Fraction, no-point, a-point, no-sign, plus-sign, minus-sign, Exponent, no-exponent, an-exponent}
+use Rattle.clear.specs.Clear.{plain, tableWords, Fraction, no-point, a-point, no-sign, plus-sign, minus-sign, Exponent, no-exponent, an-exponent}
 use Rattle.hearing.specs.Hear.{counted, vocabulary, knowIn, know, inked, digitOf, signByte, smallValue, hearAfter, hears, hearFigure}
 use Rattle.hearing.proofs.Told.{solid}
 use Rattle.hearing.proofs.Shown.{inked-clean}
@@ -34,7 +34,7 @@ pub record Fine (w : Word) : Type 0 where
 
 -- to compute what words pass
 unfoldable pub dictionary : Unit {0}
-unfolding lexicon spell vocabulary counted know knowIn all before unitWords unitAbbreviations tableWords digitOf smallValue signByte
+unfolding lexicon spell vocabulary counted know knowIn all before any unitWords unitAbbreviations tableWords digitOf smallValue signByte
 dictionary = tt
 
 -- the words of numbers are such

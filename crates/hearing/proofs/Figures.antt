@@ -9,7 +9,7 @@ use lib.Dec.{ltb}
 use lib.ListN.{length, length-append, length-map, List·getD-append}
 use lib.Seq.{append-snoc}
 use borrow.Author.Tests.{not-true, not-false}
-use Rattle.lists.specs.Bytes.{bytes, all, same, sameBy, starts, Every}
+use Rattle.lists.specs.Bytes.{bytes, all, same, sameBy, starts, Every, listed}
 use Rattle.lists.proofs.Every.{every-append, every-map, every-imply, every-at}
 use Rattle.lexicon.specs.Lexicon.{ordinals}
 use Rattle.units.specs.Units.{unitWords}
@@ -21,7 +21,7 @@ use Rattle.numerals.proofs.Digits.{spelled-append}
 use Rattle.rows.specs.Rows.{readWith, perCent}
 use Rattle.rows.proofs.Percent.{percent-with}
 use Rattle.clear.proofs.Cuts.{cut-front, snoc-ends}
-use Rattle.clear.specs.Clear.{plain, listed, tableWords, Minus, no-minus, a-minus, Fraction, no-point, Exponent, no-exponent, Number, is-digits, is-figure}
+use Rattle.clear.specs.Clear.{plain, tableWords, Minus, no-minus, a-minus, Fraction, no-point, Exponent, no-exponent, Number, is-digits, is-figure}
 use Rattle.hearing.specs.Hear.{know, known, firstWord, lastWord, smallValue, timeLike, hearDigits, hearAfter, hearFigure, isLetterWord, isLone, hear, isSmall}
 use Rattle.hearing.proofs.Told.{solid, HeededWith}
 use Rattle.hearing.proofs.Shown.{clean-length}

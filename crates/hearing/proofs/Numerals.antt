@@ -10,7 +10,7 @@ use native.Mathlib.Omega.{arith}
 use lib.Dec.{ltb, eqb}
 use lib.ListN.{length, getD, length-map}
 use borrow.Author.Tests.{lt-ltb, le-leb, lt-leb, ltb-true, eqb-true}
-use Rattle.lists.specs.Bytes.{same, starts, Every, all}
+use Rattle.lists.specs.Bytes.{same, starts, Every, all, any}
 use Rattle.lists.proofs.Recursion.{cond-elim}
 use Rattle.lists.proofs.Sets.{le-or-lt}
 use Rattle.lists.proofs.Table.{below}
@@ -102,7 +102,7 @@ digits-numerals s = ones-every (λ d. d < 10) Numeral numerals-said (clean s) (c
 
 -- the first word that is spelled so
 know-first : (vs : List Word) (w : List ℕ) → before w (map spell vs) < length vs → knowIn vs w ≡ getD vs (before w (map spell vs)) hundred
-unfolding knowIn before
+unfolding knowIn before any
 know-first [] w h = absurd (omega arith)
 know-first (v ∷ vs) w h = go (same (spell v) w) h (know-first vs w)
   where
@@ -118,7 +118,7 @@ first k = eqb (before (spell (getD vocabulary k hundred)) (map spell vocabulary)
 
 -- a number's word is known by its spelling, and so are words one after another
 pub numeral-known : (w : Word) → Numeral w → know (spell w) ≡ w
-unfolding first know vocabulary counted before spell lexicon
+unfolding first know vocabulary counted before any spell lexicon
 numeral-known w n =
     let k = n .0 in
     let e : before (spell (getD vocabulary k hundred)) (map spell vocabulary) ≡ k = eqb-true _ _ (below first 32 refl k (n .1)) in

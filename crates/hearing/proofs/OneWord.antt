@@ -8,7 +8,7 @@ use native.Mathlib.Omega.{arith}
 use lib.Dec.{leb, ltb}
 use lib.ListN.{length, take, getD}
 use borrow.Author.Tests.{leb-true, le-ltb, lt-leb, ne-eqb}
-use Rattle.lists.specs.Bytes.{all, span, small, lower, starts}
+use Rattle.lists.specs.Bytes.{all, span, small, lower, starts, listed}
 use Rattle.lists.specs.Classes.{digit, except}
 use Rattle.lists.proofs.Scan.{all-within, all-span, last-none, apart, starts-first}
 use Rattle.lists.proofs.Parts.{split-two}
@@ -19,7 +19,7 @@ use Rattle.rows.specs.Rows.{readStep, readWith, by}
 use Rattle.rows.specs.declared.Row.the-variants.{OneWord}
 use Rattle.rows.proofs.Laws.{step-eq}
 use Rattle.rows.proofs.Taken.{untaken, no-comma, no-time, no-meridiem, no-ending}
-use Rattle.clear.specs.Clear.{tableWords, listed}
+use Rattle.clear.specs.Clear.{tableWords}
 use Rattle.hearing.specs.Hear.{hear}
 use Rattle.hearing.proofs.Told.{solid, HeededWith}
 

@@ -9,7 +9,7 @@ use lib.Dec.{eqb}
 use lib.ListN.{length, take, getD, length-append}
 use lib.Seq.{take-at, drop-at, take-suc, take-length}
 use borrow.Author.Tests.{le-leb, eqb-true, not-true}
-use Rattle.lists.specs.Bytes.{bytes, all, same, sameBy, Every}
+use Rattle.lists.specs.Bytes.{bytes, all, same, sameBy, Every, listed, any}
 use Rattle.lists.specs.Classes.{digit, letter, digitOrComma}
 use Rattle.lists.proofs.Scan.{all-within, all-at}
 use Rattle.lists.proofs.Sets.{le-or-lt}
@@ -27,7 +27,7 @@ use Rattle.numerals.specs.Value.{valueFrom, value}
 use Rattle.numerals.proofs.Digits.{clean-commas, spelled-append}
 use Rattle.numerals.proofs.Flushing.{onLast-snoc}
 use Rattle.rows.specs.Rows.{readWith}
-use Rattle.clear.specs.Clear.{plain, suffix, tableWords, listed}
+use Rattle.clear.specs.Clear.{plain, suffix, tableWords}
 use Rattle.hearing.specs.Hear.{counted, vocabulary, isLone, cardinalWord}
 use Rattle.hearing.proofs.Told.{HeededWith}
 use Rattle.rows.proofs.Taken.{doubleByte}
@@ -85,25 +85,25 @@ module _ (w : Word) (n : Numeral w) where
   form-late = numeral-test (λ w. lateWord (form w)) refl w n
 
   form-no-unit : listed (form w) unitWords ≡ false
-  unfolding vocabulary counted spell lexicon ordinalForm formIn before unitWords unitAbbreviations all
+  unfolding vocabulary counted spell lexicon ordinalForm formIn before any unitWords unitAbbreviations all
   form-no-unit = not-true (listed (form w) unitWords) (numeral-test (λ w. not (listed (form w) unitWords)) refl w n)
 
   form-listed : listed (form w) (map bytes ordinals) ≡ true
-  unfolding vocabulary counted spell lexicon ordinalForm formIn before all
+  unfolding vocabulary counted spell lexicon ordinalForm formIn before any all
   form-listed = numeral-test (λ w. listed (form w) (map bytes ordinals)) refl w n
 
   -- "ten" is spelled in two tables, and so is its form
   form-back : cardinalWord (form w) ≡ spell w
-  unfolding vocabulary counted spell lexicon ordinalForm formIn before all
+  unfolding vocabulary counted spell lexicon ordinalForm formIn before any all
   form-back = same-true (cardinalWord (form w)) (spell w) (numeral-test (λ w. same (cardinalWord (form w)) (spell w)) refl w n)
 
   -- "hundred" and the scales name nothing alone, and their forms are not in the tables
   form-in-table : (eqb (value (w ∷ [])) 0 || listed (form w) tableWords) ≡ true
-  unfolding vocabulary counted spell lexicon ordinalForm formIn before tableWords value valueFrom all
+  unfolding vocabulary counted spell lexicon ordinalForm formIn before any tableWords value valueFrom all
   form-in-table = numeral-test (λ w. eqb (value (w ∷ [])) 0 || listed (form w) tableWords) refl w n
 
 zeroth-in-table : listed (form (one 0)) tableWords ≡ true
-unfolding spell lexicon ordinalForm formIn before tableWords
+unfolding spell lexicon ordinalForm formIn before any tableWords
 zeroth-in-table = refl
 
 -- ---- the words

@@ -9,7 +9,7 @@ use lib.Dec.{eqb}
 use lib.ListN.{length, take, drop, length-append}
 use lib.Seq.{take-at, drop-at, take-append-seam, drop-append-seam, drop-append-add}
 use borrow.Author.Tests.{ne-eqb, lt-ltb, le-leb}
-use Rattle.lists.specs.Bytes.{bytes, all, span, has, sameBy, lower, Every}
+use Rattle.lists.specs.Bytes.{bytes, all, span, has, sameBy, lower, Every, any}
 use Rattle.lists.specs.Classes.{digit, digitOrComma, except, colonNorPoint}
 use Rattle.lists.proofs.Scan.{apart}
 use Rattle.shapes.specs.Shapes.{splitOnce, isDottedAbbrev, isCommaInt, isTime}
@@ -29,7 +29,7 @@ use Rattle.hearing.proofs.Dispatch.{heeded}
 use Rattle.hearing.proofs.TimeWords.{time-told, meridiem-told, clock-solid}
 
 has-right : (c : ℕ) (a b : List ℕ) → has c b ≡ true → has c (a ++ b) ≡ true
-unfolding has
+unfolding any
 has-right c [] b h = h
 has-right c (x ∷ a) b h = rw (has-right c a b h) (or-true (eqb x c))
 
@@ -45,7 +45,7 @@ module _ (h t : List ℕ) (p : isHour h ≡ true) where
   name = h ++ (bytes ":" ++ t)
 
   has-colon : has (code ":") name ≡ true
-  unfolding has
+  unfolding any
   has-colon = has-right (code ":") h (bytes ":" ++ t) refl
 
   name-length : length name ≡ length h + suc (length t)
@@ -83,7 +83,7 @@ time-row word h m p q =
 half-day : (x : List ℕ) → HalfDay x
     → (length x ≡ 2) × ((sameBy lower x (bytes "am") || sameBy lower x (bytes "pm")) ≡ true) × (has (code "m") x ≡ true) × Every
     (λ w. solid w ≡ true) (spelled (letters x))
-unfolding sameBy has letters letterWord chars spelled spell all
+unfolding sameBy any letters letterWord chars spelled spell all
 half-day x am = (refl, refl, refl, (refl, (refl, tt)))
 half-day x pm = (refl, refl, refl, (refl, (refl, tt)))
 

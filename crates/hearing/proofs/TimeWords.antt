@@ -10,7 +10,7 @@ use lib.Dec.{eqb}
 use lib.ListN.{length, getD, length-map, length-append, List·getD-append}
 use lib.Seq.{getD-append-seam, getD-append-add}
 use borrow.Author.Tests.{eqb-true, not-true}
-use Rattle.lists.specs.Bytes.{bytes, same, sameBy, all, any, Every}
+use Rattle.lists.specs.Bytes.{bytes, same, sameBy, all, any, Every, listed}
 use Rattle.lists.proofs.Recursion.{cond-elim}
 use Rattle.lists.proofs.Every.{every-append, every-map, every-imply, every-at}
 use Rattle.lexicon.specs.Lexicon.{ordinals}
@@ -24,7 +24,7 @@ use Rattle.years.specs.Year.{yearOf, year}
 use Rattle.readings.specs.Letters.{chars, letterWord, letters}
 use Rattle.years.proofs.YearLaws.{year-two}
 use Rattle.rows.specs.Rows.{clock}
-use Rattle.clear.specs.Clear.{isHour, isMinute, HalfDay, am, pm, listed}
+use Rattle.clear.specs.Clear.{isHour, isMinute, HalfDay, am, pm}
 use Rattle.clear.proofs.Times.{hour-parts}
 use Rattle.hearing.specs.Hear.{counted, vocabulary, know, knowIn, known, firstWord, lastWord, isLetterWord, timeLike, hearTime, hear, isSmall}
 use Rattle.hearing.proofs.Told.{solid}
@@ -137,7 +137,7 @@ module _ (h m : List ℕ) (q : isMinute m ≡ true) where
   -- with a minute the words are told as a time
   module _ (p : isHour h ≡ true) (n : m ≡ bytes "00" → ⊥) where
     pub time-told : hear (spelled (clock h m)) ≡ h ++ (bytes ":" ++ m)
-    unfolding hear vocabulary counted spell lexicon unitAbbreviations unitWords before all
+    unfolding hear vocabulary counted spell lexicon unitAbbreviations unitWords before any all
     time-told =
         let ws = spelled (clock h m) in
         let t : timeLike (clock h m) ≡ true = time-like h m p q n in

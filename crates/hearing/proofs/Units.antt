@@ -8,12 +8,13 @@ use lib.Dec.{leb}
 use lib.ListN.{length, drop, getD, length-append}
 use lib.Seq.{take-at, drop-at, drop-append-add}
 use borrow.Author.Tests.{lt-ltb, leb-true, not-true}
-use Rattle.lists.specs.Bytes.{all, sameBy}
+use Rattle.lists.specs.Bytes.{all, sameBy, any}
 use Rattle.lists.specs.Classes.{digit, letter, digitOrComma}
 use Rattle.lists.proofs.Scan.{all-within}
 use Rattle.lists.proofs.Table.{upto, below}
 use Rattle.shapes.specs.Shapes.{isOrdinal, isOrdinalSuffix, hasUnit}
 use Rattle.shapes.proofs.Laws.{digits-all, digits-filled}
+use Rattle.units.proofs.Laws.{listed-before}
 use Rattle.units.specs.Units.{unitAbbreviations, abbreviations, unitWords, before, isUnit}
 use Rattle.numerals.specs.Words.{other}
 use Rattle.numerals.specs.Cardinal.{cardinal}
@@ -60,7 +61,7 @@ module _ (k : ℕ) (h : k < length unitWords) where
       (row-test (λ k. not (isOrdinalSuffix (drop (length (rowUnit k) - 2) (rowUnit k)))) refl k h)
 
   in-table : isUnit (rowUnit k) ≡ true
-  unfolding abbreviations unitAbbreviations before sameBy
+  unfolding abbreviations unitAbbreviations before any sameBy
   in-table = row-test (λ k. isUnit (rowUnit k)) refl k h
 
   late : lateWord (rowWord k) ≡ true
@@ -110,4 +111,4 @@ unit-heeded {word} s k p h b =
     let q = late k h in
     let l = plain-not-lone s p (rowWord k) [] in
     heeded-late (cardinal s) (rowWord k) e q l (s ++ rowUnit k) (words s k p h word)
-    (hear-unit (cardinal s) (rowWord k) e q l (rw b (lt-ltb k (length unitWords) h)) ∙ rw (b, hear-plain s p))
+    (hear-unit (cardinal s) (rowWord k) e q l (listed-before (rowWord k) unitWords ∙ rw b (lt-ltb k (length unitWords) h)) ∙ rw (b, hear-plain s p))

@@ -5,12 +5,12 @@ use Prim.Native.Nat.{ℕ, zero, suc, _+_, _-_, _*_, _/_, _%_}
 use Prim.Native.Char.{code}
 use lib.Dec.{ltb, eqb}
 use lib.ListN.{length, take, drop, getD}
-use Rattle.lists.specs.Bytes.{bytes, all, any, same, small}
+use Rattle.lists.specs.Bytes.{bytes, all, any, same, small, listed}
 use Rattle.lexicon.specs.Lexicon.{cardinals, ordinals}
 use Rattle.units.specs.Units.{abbreviations, unitWords, before}
 use Rattle.numerals.specs.Words.{Word, one, teen, ten, hundred, scale, other, spell}
 use Rattle.numerals.specs.Value.{value}
-use Rattle.clear.specs.Clear.{suffix, dotted, tableWords, listed}
+use Rattle.clear.specs.Clear.{suffix, dotted, tableWords}
 
 -- ---- words
 

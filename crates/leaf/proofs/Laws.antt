@@ -12,7 +12,7 @@ use Rattle.lists.specs.Classes.{except, letter, digitOrComma}
 use Rattle.units.specs.Units.{unitIndex, isUnit, unitWord, wordNumbers, unitAbbreviations}
 use Rattle.lists.proofs.Recursion.{cond-elim}
 use Rattle.lists.proofs.Scan.{ByParts, keep-append}
-use Rattle.units.proofs.Laws.{word-row, rows}
+use Rattle.units.proofs.Laws.{word-row, unit-in-table}
 use Rattle.shapes.specs.Shapes.{hasUnit, unitAt, unitPart, isDottedAbbrev}
 use Rattle.shapes.specs.Times.{parts, timeOf, separatorAt, isMeridiemTime, timeParts, timeSplit, partsOf}
 use Rattle.shapes.specs.declared.TimeSplit.{TimeSplit}
@@ -61,7 +61,7 @@ is-unit s e = rw e (unfold hasUnit in and-eq-true-iff (not (eqb (unitAt s) 0) &&
 pub unit-word : (s : List ℕ) {u : List ℕ} {i k : ℕ} → u ≡ unitPart s → (length u ≡ 0 → ⊥) → i ≡ unitIndex u → k ≡ getD wordNumbers i 0
     → wordOf k ≡ unitWord (unitPart s)
 unit-word s e n p q =
-    let h : unitIndex (unitPart s) < 22 = rw rows at (ltb-true (unitIndex (unitPart s)) (length unitAbbreviations) (is-unit s (unit-there s e n))) in
+    let h : unitIndex (unitPart s) < 22 = ltb-true (unitIndex (unitPart s)) 22 (sym (unit-in-table (unitPart s)) ∙ is-unit s (unit-there s e n)) in
     rw (q, p, e) (word-row (unitIndex (unitPart s)) h)
 
 -- ---- hour, minute and meridiem

@@ -10,7 +10,7 @@ use lib.Dec.{eqb, leb, ltb, leb·suc-suc}
 use lib.ListN.{length, take, drop}
 use lib.Seq.{take-all, take-length}
 use borrow.Author.Tests.{ltb-true, ltb-false, lt-ltb, le-leb}
-use Rattle.lists.specs.Bytes.{span, has, split, onto, all, filled}
+use Rattle.lists.specs.Bytes.{span, has, split, onto, all, filled, any}
 use Rattle.lists.specs.Classes.{except}
 use Rattle.lists.proofs.Scan.{span-le}
 
@@ -82,7 +82,7 @@ parts-more p c s f h = rw (split-more c s h, f)
 
 -- whether a separator stands in the text
 pub has-span : (c : ℕ) (s : List ℕ) → has c s ≡ ltb (span (except c) s) (length s)
-unfolding has span
+unfolding any span
 has-span c [] = refl
 has-span c (b ∷ s) = go (eqb b c) (has-span c s)
   where

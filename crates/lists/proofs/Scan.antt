@@ -1,6 +1,6 @@
 -- Laws of `all`, `span`, `count`, `keep`, `afterLast` and `sameBy` along a list, over the test, for loops that count. Assumes nothing.
 use mathlib.Core.Path.{_≡_, refl, sym, ap, _∙_}
-use mathlib.Core.Bool.{Bool, true, false, cond, _&&_, and-false, and-assoc, and-eq-true-iff, true≢false, _||_, or-assoc}
+use mathlib.Core.Bool.{Bool, true, false, cond, _&&_, and-false, and-assoc, and-eq-true-iff, true≢false, _||_, or-assoc, or-false}
 use mathlib.Core.List.{List, [], _∷_, _++_}
 use Prim.Native.Nat.{ℕ, zero, suc, _+_, _-_, _≤_, _<_}
 use native.Mathlib.Nat.{add-zero}
@@ -10,7 +10,8 @@ use lib.Dec.{eqb}
 use lib.ListN.{length, take, drop, getD, length-drop, take-append-drop, drop-of-length-le, List·getD-eq-default}
 use lib.Seq.{drop-cons, take-all, take-suc, length-take-le}
 use borrow.Author.Tests.{eqb-true, ne-eqb}
-use Rattle.lists.specs.Classes.{foundIn}
+use Rattle.lists.specs.Classes.{oneOf}
+use Rattle.lists.proofs.Bools.{or-true-elim}
 use Rattle.lists.specs.Bytes.{all, any, span, count, keep, afterLast, sameBy, starts}
 
 module _ (p : ℕ → Bool) (s : List ℕ) (i : ℕ) where
@@ -352,13 +353,22 @@ module _ (p q : ℕ → Bool) (f : (b : ℕ) → p b ≡ true → q b ≡ true) 
       go false false e g i = refl
 
 -- what holds of all bytes listed holds of one that is found among them
-found-in : (q : ℕ → Bool) (t : Bool) (cs : List ℕ) (b : ℕ) → (t ≡ true → q b ≡ true) → all q cs ≡ true → foundIn t cs b ≡ true → q b ≡ true
-unfolding all
-found-in q t [] b i h e = i e
-found-in q true (c ∷ cs) b i h e = i refl
-found-in q false (c ∷ cs) b i h e =
+pub one-in : (q : ℕ → Bool) (cs : List ℕ) → all q cs ≡ true → (b : ℕ) → oneOf cs b ≡ true → q b ≡ true
+unfolding all any
+one-in q [] h b e = absurd (true≢false (sym e))
+one-in q (c ∷ cs) h b e =
     let k = and-eq-true-iff (q c) (all q cs) .0 h in
-    found-in q (eqb b c) cs b (λ z. rw (eqb-true b c z) (k .0)) (k .1) e
+    or-true-elim (eqb b c) (oneOf cs b) (λ f. rw (eqb-true b c f) (k .0)) (one-in q cs (k .1) b) e
 
-pub one-in : (q : ℕ → Bool) (cs : List ℕ) → all q cs ≡ true → (b : ℕ) → foundIn false cs b ≡ true → q b ≡ true
-one-in q cs h b e = found-in q false cs b (λ z. cc) h e
+-- the bytes listed, tested from the left, as the code does
+abbrev foundIn : Bool → List ℕ → ℕ → Bool
+foundIn found [] b = found
+foundIn found (c ∷ cs) b = foundIn (found || eqb b c) cs b
+
+found-left : (t : Bool) (cs : List ℕ) (b : ℕ) → foundIn t cs b ≡ t || oneOf cs b
+unfolding any
+found-left t [] b = sym (or-false t)
+found-left t (c ∷ cs) b = rw (found-left (t || eqb b c) cs b) (or-assoc t (eqb b c) (oneOf cs b))
+
+pub from-left : (cs : List ℕ) (b : ℕ) → foundIn false cs b ≡ oneOf cs b
+from-left cs b = found-left false cs b

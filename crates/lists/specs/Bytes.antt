@@ -55,9 +55,8 @@ keep p [] = []
 keep p (b ∷ s) = cond (p b) (b ∷ keep p s) (keep p s)
 
 -- c is one of the bytes
-unfoldable pub has : ℕ → List ℕ → Bool
-has c [] = false
-has c (b ∷ s) = eqb b c || has c s
+abbrev pub has : ℕ → List ℕ → Bool
+has c s = any (λ b. eqb b c) s
 
 -- the second text is the first with f applied to each byte
 unfoldable pub sameBy : (ℕ → ℕ) → List ℕ → List ℕ → Bool
@@ -69,6 +68,10 @@ sameBy f (b ∷ s) (c ∷ t) = eqb (f b) c && sameBy f s t
 -- the two texts are the same bytes
 abbrev pub same : List ℕ → List ℕ → Bool
 same = sameBy (λ b. b)
+
+-- the text t is one of those listed
+abbrev pub listed : List ℕ → List (List ℕ) → Bool
+listed t ss = any (λ s. same s t) ss
 
 -- A to Z, a to z
 abbrev pub capital : ℕ → Bool

@@ -5,7 +5,7 @@ use Prim.Native.Nat.{ℕ}
 use Prim.Native.Char.{code}
 use lib.Dec.{leb, ltb, eqb}
 use lib.ListN.{getD}
-use Rattle.lists.specs.Bytes.{bytes, capital, small, lower}
+use Rattle.lists.specs.Bytes.{bytes, any, capital, small, lower}
 
 -- a byte that is a character by itself
 abbrev pub ascii : ℕ → Bool
@@ -47,14 +47,9 @@ notE b = not (eqb b (code "e") || eqb b (code "E"))
 abbrev pub continuation : ℕ → Bool
 continuation b = leb 0x80 b && leb b 0xBF
 
--- the byte is one of those listed, or found already: tested from the left, as the code does
-abbrev pub foundIn : Bool → List ℕ → ℕ → Bool
-foundIn found [] b = found
-foundIn found (c ∷ cs) b = foundIn (found || eqb b c) cs b
-
 -- the byte is one of those listed
 abbrev pub oneOf : List ℕ → ℕ → Bool
-oneOf cs b = foundIn false cs b
+oneOf cs b = any (eqb b) cs
 
 -- document 01: "Whitespace is space, tab, LF, CR."
 abbrev pub whites : List ℕ

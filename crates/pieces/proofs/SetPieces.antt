@@ -1,7 +1,7 @@
 -- Every set piece holds: the definitions are evaluated. Assumes nothing.
 use mathlib.Core.List.{flatMap}
 use lib.Dec.{T}
-use Rattle.lists.specs.Bytes.{sameBy, split, onto, filled, span, keep, has, all, afterLast}
+use Rattle.lists.specs.Bytes.{sameBy, split, onto, filled, span, keep, has, all, afterLast, any}
 use Rattle.lists.specs.Recur.{recur, recurAt}
 use Rattle.lexicon.proofs.Laws.{lexicon}
 use Rattle.numerals.specs.Words.{spell, spelled}
@@ -9,10 +9,10 @@ use Rattle.numerals.specs.Cardinal.{clean, pair, join, byScale, cardinalStep, c
 use Rattle.numerals.specs.Ordinal.{formIn, ordinalForm, orZero, onLast, ordinal}
 use Rattle.years.specs.Year.{yearStep, yearOf, year}
 use Rattle.reals.specs.Real.{pointed, realStep, real}
-use Rattle.readings.specs.Roman.{numeral, larger, added, taken, romanValue}
+use Rattle.readings.specs.Roman.{numeral, added, taken, romanValue}
 use Rattle.tokens.specs.Tokens.{cut, tokensStep, tokens}
 use Rattle.pieces.specs.Pieces.{pieces, sameTexts, holds}
 
 pub set-pieces : T (all holds pieces)
-unfolding sameBy split onto filled span keep has recur recurAt lexicon spell spelled clean pair join byScale cardinalStep cardinalFew cardinalOf cardinal digits formIn ordinalForm orZero onLast ordinal yearStep yearOf year pointed realStep real numeral larger added taken romanValue flatMap all afterLast cut tokensStep tokens pieces sameTexts holds
+unfolding sameBy split onto filled span keep any recur recurAt lexicon spell spelled clean pair join byScale cardinalStep cardinalFew cardinalOf cardinal digits formIn ordinalForm orZero onLast ordinal yearStep yearOf year pointed realStep real numeral added taken romanValue flatMap all afterLast cut tokensStep tokens pieces sameTexts holds
 set-pieces = tt

@@ -11,12 +11,12 @@ use lib.Dec.{ltb, eqb}
 use lib.ListN.{length, drop, getD}
 use lib.Seq.{drop-cons, drop-length}
 use borrow.Author.Tests.{lt-ltb, le-ltb, ne-eqb}
-use Rattle.lists.specs.Bytes.{bytes, has}
+use Rattle.lists.specs.Bytes.{bytes, has, any}
 use Rattle.lists.proofs.Sets.{le-or-lt}
 use Rattle.readings.specs.Roman.{numeral, larger, added, taken, romanValue}
 
 neither : (b x y : ℕ) → ((b ≡ x) ⊎ (b ≡ y) → ⊥) → has b (x ∷ y ∷ []) ≡ false
-unfolding has
+unfolding any
 neither b x y n = rw (ne-eqb x b (λ e. n (inl (sym e))), ne-eqb y b (λ e. n (inr (sym e))))
 
 -- what the last arm of `value` knows: b is neither letter of each pair
@@ -41,7 +41,7 @@ ltb-max v w m =
     (λ (h : v < w). rw (lt-ltb v w h) (sym (lt-ltb v (max w m) (omega arith)))) (le-or-lt w v)
 
 larger-max : (v : ℕ) (vs : List ℕ) → larger v vs ≡ ltb v (maximum vs)
-unfolding larger maximum
+unfolding any maximum
 larger-max v [] = sym (le-ltb v 0 (omega arith))
 larger-max v (w ∷ vs) = rw (larger-max v vs) (ltb-max v w (maximum vs))
 
@@ -55,11 +55,11 @@ pub record Summed (s : List ℕ) (i a u m : ℕ) : Type 0 where
   pub bound : a + u + 1000 * i ≤ 1000 * length s
 
 pub summed-none : (s : List ℕ) → Summed s (length s) 0 0 0
-unfolding has added taken maximum
+unfolding any added taken maximum
 summed-none s = record { within = omega arith; letters = rw drop-length; adds = rw drop-length; takes = rw drop-length; most = rw drop-length; bound = omega arith }
 
 has-at : (s : List ℕ) (i : ℕ) → i < length s → numeral (getD s i 0) ≡ 0 → has 0 (map numeral s) ≡ true
-unfolding has
+unfolding any
 has-at [] i h e = absurd (omega arith)
 has-at (b ∷ s) zero h e = rw e
 has-at (b ∷ s) (suc i) h e = rw (has-at s i (omega arith) e) (or-true (eqb (numeral b) 0))
@@ -80,7 +80,7 @@ module _ (s : List ℕ) (i v : ℕ) (z : 0 < i) (h : i ≤ length s) (e : v ≡ 
       ap (map numeral) (drop-cons s (i - 1) 0 (omega arith)) ∙ ap₂ (λ (x k : ℕ). x ∷ map numeral (drop k s)) (sym e) n
 
   pub summed-more : {a u m t n : ℕ} → Summed s i a u m → (v ≡ 0 → ⊥) → v ≤ 1000 → (t ≡ cond (ltb v m) v 0) × (t ≤ v) → n ≡ max v m → Summed s (i - 1) (a + (v - t)) (u + t) n
-  unfolding has added taken maximum
+  unfolding any added taken maximum
   summed-more {a} {u} {m} {t} {n} r k b q en =
       let l : larger v (map numeral (drop i s)) ≡ ltb v m = larger-max v (map numeral (drop i s)) ∙ ap (ltb v) (sym (r .most)) in
       record {

@@ -3,7 +3,7 @@ use mathlib.Core.Bool.{Bool, false, cond, _||_}
 use mathlib.Core.List.{List, [], _∷_, map}
 use Prim.Native.Nat.{ℕ, _+_, _-_}
 use lib.Dec.{ltb}
-use Rattle.lists.specs.Bytes.{bytes, has}
+use Rattle.lists.specs.Bytes.{bytes, any, has}
 
 -- the value of a character, in either case; 0 for a foreign one, each byte of a longer character among them
 unfoldable pub numeral : ℕ → ℕ
@@ -12,9 +12,8 @@ numeral b =
     (cond (has b (bytes "Cc")) 100 (cond (has b (bytes "Dd")) 500 (cond (has b (bytes "Mm")) 1000 0))))))
 
 -- some value after v is larger
-unfoldable pub larger : ℕ → List ℕ → Bool
-larger v [] = false
-larger v (w ∷ ws) = ltb v w || larger v ws
+abbrev pub larger : ℕ → List ℕ → Bool
+larger v ws = any (ltb v) ws
 
 -- "a letter with any larger one after it subtracts": the sum of those that add, and of those that subtract
 unfoldable pub added : List ℕ → ℕ

@@ -8,7 +8,7 @@ use native.Mathlib.Omega.{arith}
 use lib.Dec.{eqb, ltb}
 use lib.ListN.{length, take, getD}
 use borrow.Author.Tests.{eqb-true, eq-eqb, ne-eqb}
-use Rattle.lists.specs.Bytes.{all, has, lower, starts, ends}
+use Rattle.lists.specs.Bytes.{all, has, lower, starts, ends, any}
 use Rattle.lists.specs.Classes.{digit, digitOrComma}
 use Rattle.shapes.specs.Shapes.{isDottedAbbrev, isCommaInt, isTime, isLeadingZeroDigits, isDigits, isDouble, isOrdinal}
 use Rattle.shapes.specs.Times.{isMeridiemTime}
@@ -19,7 +19,7 @@ use Rattle.rows.proofs.Laws.{ends-some, step-eq}
 use Rattle.rows.proofs.Taken.{outside, dottedByte, timeByte, meridiemByte, doubleByte, ordinalByte, dotted-bytes, comma-bytes, time-bytes, meridiem-bytes, double-bytes, ordinal-bytes, PastTimes}
 
 has-at : (c : ℕ) (s : List ℕ) (i : ℕ) → i < length s → getD s i 0 ≡ c → has c s ≡ true
-unfolding has
+unfolding any
 has-at c [] i h e = absurd (omega arith)
 has-at c (b ∷ s) zero h e = rw (eq-eqb b c e)
 has-at c (b ∷ s) (suc i) h e = rw (has-at c s i (omega arith) e, or-true (eqb b c))

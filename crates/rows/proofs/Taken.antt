@@ -9,7 +9,7 @@ use lib.Dec.{eqb, leb, ltb}
 use lib.ListN.{length, take, drop, getD, take-append-drop, drop-of-length-le}
 use lib.Seq.{getD-drop}
 use borrow.Author.Tests.{eqb-true, ltb-true, ltb-false, leb-true, not-false, le-ltb, ne-eqb}
-use Rattle.lists.specs.Bytes.{bytes, all, span, has, split, onto, sameBy, capital, small, lower, starts, ends, stripSuffix, endsBy}
+use Rattle.lists.specs.Bytes.{bytes, all, span, has, split, onto, sameBy, capital, small, lower, starts, ends, stripSuffix, endsBy, any}
 use Rattle.lists.specs.Classes.{digit, letter, digitOrComma, colonNorPoint, except}
 use Rattle.lists.proofs.Scan.{all-append, all-more, all-within, span-all, span-fails, all-span, all-split, all-at, apart}
 use Rattle.lists.proofs.Parts.{parts-fail, has-span}
@@ -26,7 +26,7 @@ untaken false h = refl
 
 -- a text with a byte that is outside a class is not all of that class
 pub lacks : (p : ℕ → Bool) (c : ℕ) (s : List ℕ) → p c ≡ false → has c s ≡ true → all p s ≡ false
-unfolding has all
+unfolding any all
 lacks p c [] h k = absurd (false≢true k)
 lacks p c (b ∷ s) h k = go (eqb b c) refl k (lacks p c s h)
   where

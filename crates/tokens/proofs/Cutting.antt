@@ -9,7 +9,7 @@ use lib.Dec.{eqb, leb}
 use lib.ListN.{length, take, drop, length-append, length-take, length-drop, drop-of-length-le}
 use lib.Seq.{drop-drop, length-take-le}
 use borrow.Author.Tests.{le-leb, lt-leb, eq-eqb, ne-eqb}
-use Rattle.lists.specs.Bytes.{all, span, lead, after, afterLast}
+use Rattle.lists.specs.Bytes.{all, span, lead, after, afterLast, any}
 use Rattle.lists.specs.Classes.{leadingMarks, whitespace, nonWhitespace, leadingMark, unmarked}
 use Rattle.lists.proofs.Scan.{span-le, all-span, span-full, span-within, span-lead, last-le, one-in}
 use Rattle.lists.proofs.Sets.{le-or-lt}
@@ -75,7 +75,7 @@ cut-places at w run ends n p c =
 
 -- leading marks are no whitespace
 marks-black : (b : ℕ) → leadingMark b ≡ true → nonWhitespace b ≡ true
-unfolding all
+unfolding all any
 marks-black = one-in nonWhitespace leadingMarks refl
 
 -- the first token of what follows the first `at` bytes, as the code finds it: q bytes of whitespace, m leading marks, and r bytes

@@ -1,16 +1,16 @@
 -- The keys tell the abbreviations from every text, the lexicon holds the words, and how a look-up goes on. Assumes nothing.
 use mathlib.Core.Path.{_≡_, refl, sym, ap, _∙_}
-use mathlib.Core.Bool.{Bool, true, false, cond, _&&_, and-eq-true-iff}
+use mathlib.Core.Bool.{Bool, true, false, cond, _&&_, _||_, and-eq-true-iff}
 use mathlib.Core.List.{List, [], _∷_}
 use Prim.Native.Nat.{ℕ, suc, _+_, _*_, _≤_, _<_, _%_}
 use native.Mathlib.Nat.{mod-eq-of-lt, add-mul-mod-self-left, eq-of-mul-eq-mul-left}
 use native.Mathlib.Numerals.{add-one}
 use native.Mathlib.Omega.{arith}
-use lib.Dec.{leb, ltb, eqb}
+use lib.Dec.{leb, ltb, eqb, leb·suc-suc}
 use lib.ListN.{length, drop, getD, drop-of-length-le, List·getD-eq-default, List·getD-map}
 use lib.Seq.{drop-cons}
 use borrow.Author.Tests.{lt-ltb, le-ltb, le-leb, lt-leb, leb-true, leb-false, eq-eqb, ne-eqb, eqb-true, eqb-false, ltb-true}
-use Rattle.lists.specs.Bytes.{all, same, sameBy}
+use Rattle.lists.specs.Bytes.{all, any, same, sameBy, listed}
 use Rattle.lists.specs.LittleEndian.{leValue}
 use Rattle.lists.proofs.Scan.{same-long}
 use Rattle.lists.proofs.Table.{below, same-true}
@@ -99,10 +99,6 @@ pub word-row : (k : ℕ) → k < 22 → wordOf (getD wordNumbers k 0) ≡ getD u
 unfolding worded lexicon wordNumbers before unitWords unitAbbreviations
 word-row k h = same-true _ _ (below worded 22 refl k h)
 
-pub rows : length unitAbbreviations ≡ 22
-unfolding unitAbbreviations
-rows = refl
-
 named : length abbreviations ≡ 22
 unfolding abbreviations unitAbbreviations
 named = refl
@@ -117,14 +113,28 @@ pub index-end : (u : List ℕ) (k : ℕ) → 22 ≤ k → before u (drop k abbre
 unfolding before
 index-end u k h = rw (drop-of-length-le abbreviations {i = k} (rw named h))
 
+-- a text is one of those listed where fewer than all stand before it
+pub listed-before : (t : List ℕ) (ss : List (List ℕ)) → listed t ss ≡ ltb (before t ss) (length ss)
+unfolding any before
+listed-before t [] = refl
+listed-before t (s ∷ ss) = go (same s t) (listed-before t ss)
+  where
+    go : (b : Bool) → listed t ss ≡ ltb (before t ss) (length ss) → (b || listed t ss) ≡ ltb (cond b 0 (suc (before t ss))) (suc (length ss))
+    go true h = sym (lt-ltb 0 (suc (length ss)) (omega arith))
+    go false h = h ∙ sym (leb·suc-suc (suc (before t ss)) (length ss))
+
+-- a unit is a row of the table
+pub unit-in-table : (u : List ℕ) → isUnit u ≡ ltb (unitIndex u) 22
+unit-in-table u = listed-before u abbreviations ∙ ap (ltb (unitIndex u)) named
+
 -- no abbreviation is empty
 pub empty-none : isUnit [] ≡ false
-unfolding abbreviations unitAbbreviations before sameBy
+unfolding abbreviations unitAbbreviations any sameBy
 empty-none = refl
 
 -- past the table: no unit, and no word
 pub miss-none : (u : List ℕ) → 22 ≤ unitIndex u → isUnit u ≡ false
-miss-none u h = le-ltb (unitIndex u) (length unitAbbreviations) (rw rows h)
+miss-none u h = unit-in-table u ∙ le-ltb (unitIndex u) 22 h
 
 pub miss-word : (u : List ℕ) → 22 ≤ unitIndex u → unitWord u ≡ []
 unfolding unitWords unitAbbreviations
@@ -132,4 +142,4 @@ miss-word u h = List·getD-eq-default unitWords [] h
 
 -- in the table: a unit, and its word from the lexicon
 pub hit-some : (u : List ℕ) → unitIndex u < 22 → isUnit u ≡ true
-hit-some u h = lt-ltb (unitIndex u) (length unitAbbreviations) (rw rows h)
+hit-some u h = unit-in-table u ∙ lt-ltb (unitIndex u) 22 h

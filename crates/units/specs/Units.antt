@@ -3,9 +3,9 @@ use mathlib.Core.Bool.{Bool, cond}
 use mathlib.Core.List.{List, [], _∷_, map}
 use Prim.Native.Nat.{ℕ, suc}
 use Prim.Native.String.{String}
-use lib.Dec.{leb, ltb}
+use lib.Dec.{leb}
 use lib.ListN.{length, getD}
-use Rattle.lists.specs.Bytes.{bytes, same}
+use Rattle.lists.specs.Bytes.{bytes, same, listed}
 use Rattle.lists.specs.LittleEndian.{leValue}
 use Rattle.lexicon.specs.Lexicon.{words}
 
@@ -44,7 +44,7 @@ unitIndex u = before u abbreviations
 
 -- some row's abbreviation is u
 abbrev pub isUnit : List ℕ → Bool
-isUnit u = ltb (unitIndex u) (length unitAbbreviations)
+isUnit u = listed u abbreviations
 
 -- unit_word: the word of the first row whose abbreviation is u, nothing where there is none
 abbrev pub unitWord : List ℕ → List ℕ

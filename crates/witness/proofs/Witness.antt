@@ -29,7 +29,7 @@ unfolding sheet recur recurAt span all afterLast cut tokensStep tokens starts st
 accepted = refl
 
 passes : all isClear (names sheet) ≡ true
-unfolding sheet recur recurAt span all afterLast has cut tokensStep tokens isClear isExponentClear isFractionClear isFigureClear suffix tableWords before unitAbbreviations abbreviations unitWords sameBy split onto isDigits isAlpha splitOnce isHourMinute isDottedAbbrev ones teens tens ordinalOnes ordinalTeens ordinalTens
+unfolding sheet recur recurAt span all afterLast any cut tokensStep tokens isClear isExponentClear isFractionClear isFigureClear suffix tableWords before unitAbbreviations abbreviations unitWords sameBy split onto isDigits isAlpha splitOnce isHourMinute isDottedAbbrev ones teens tens ordinalOnes ordinalTeens ordinalTens
 passes = refl
 
 pub all-clear : AllClear (names sheet)

@@ -1,6 +1,7 @@
 use borrow.Author.Tests.{eq-eqb, ne-eqb, not-true, not-false}
-use Rattle.shapes.specs.Shapes.{hasUnit}
-use Rattle.units.proofs.Laws.{rows}
+use lib.ListN.{drop}
+use Rattle.shapes.specs.Shapes.{unitAt, hasUnit}
+use Rattle.units.proofs.Laws.{unit-in-table}
 use borrow.Author.Needs.{needs}
 use Rattle.shapes.proofs.has_unit.Statement.{statement}
 use Rattle.shapes.proofs.has_unit.Tie as tie
@@ -25,14 +26,15 @@ returns-3 : tie.Need-returns-3
 unfolding hasUnit
 returns-3 c =
     let at-all-of = c .before .before .before in
+    let s = at-all-of .before .before .before .before .before .args .s .now in
     rw (
+      unit-in-table (drop (unitAt s) s),
       ← at-all-of .before .before .before .after-last .ensures,
       ne-eqb _ _ (at-all-of .before .before .if1 .left),
       ← at-all-of .before .front .ensures,
       ← at-all-of .all-of .ensures,
       not-false (at-all-of .all-of .result) (c .before .before .if2 .left),
       ← c .before .tail .ensures,
-      rows,
       ← c .unit-index .ensures,
     )
 

@@ -3,7 +3,8 @@ use native.Mathlib.Omega.{arith}
 use mathlib.Core.Path.{_≡_, refl, sym, _∙_}
 use Prim.Native.Nat.{_-_, _≤_}
 use lib.ListN.{drop}
-use Rattle.clear.specs.Clear.{tableWords, listed}
+use Rattle.lists.specs.Bytes.{listed}
+use Rattle.clear.specs.Clear.{tableWords}
 use Rattle.clear.proofs.Lookups.{listed-more, listed-end}
 use borrow.Author.Needs.{needs}
 use Rattle.clear.proofs.tests.is_table_word.Statement.{statement}

@@ -1,3 +1,7 @@
+use lib.ListN.{drop}
+use Rattle.units.specs.Units.{abbreviations}
+use Rattle.units.proofs.Laws.{listed-before}
+use Rattle.shapes.specs.Shapes.{unitAt}
 use borrow.Author.Needs.{needs}
 use Rattle.clear.proofs.tests.is_unit_clear.Statement.{statement}
 use Rattle.clear.proofs.tests.is_unit_clear.Tie as tie
@@ -14,7 +18,9 @@ is-unit-clear-spec =
     (λ c κs. search needs)
     (λ c.
     let at-tail = c .before .before in
+    let s = at-tail .before .before .before .before .before .args .s .now in
     rw (
+      listed-before (drop (unitAt s) s) abbreviations,
       at-tail .before .is-plain .ensures,
       c .is-first-row .ensures,
       c .before .unit-index .ensures,

@@ -1,13 +1,13 @@
 use native.Mathlib.Omega.{arith}
 use mathlib.Core.Logic.{⊎-elim}
-use Rattle.lists.specs.Bytes.{has}
+use Rattle.lists.specs.Bytes.{has, any}
 use Rattle.readings.specs.Roman.{numeral}
 use Rattle.readings.proofs.RomanLaws.{no-letter}
 use Rattle.readings.proofs.roman.value.Statement.{statement}
 use Rattle.readings.proofs.roman.value.Tie as tie
 
 pub value-spec : {M : Type 1} → statement M
-unfolding numeral has
+unfolding numeral any
 value-spec =
     tie.close
     (tie.spec
