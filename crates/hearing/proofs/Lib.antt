@@ -18,3 +18,4 @@ pub mod OneWord
 pub mod Clears
 pub mod Lines
 pub mod Demand
+pub mod Solid

@@ -3,7 +3,7 @@ use mathlib.Core.Path.{_≡_, refl}
 use mathlib.Core.Bool.{true}
 use mathlib.Core.List.{List}
 use Prim.Native.Nat.{ℕ}
-use Rattle.lists.specs.Bytes.{bytes, sameBy, split, onto, span, has, all, any, afterLast}
+use Rattle.lists.specs.Bytes.{bytes, sameBy, split, onto, span, all, any, afterLast}
 use Rattle.lists.specs.Recur.{recur, recurAt}
 use Rattle.lists.proofs.Every.{every-tested}
 use Rattle.admit.specs.Utf8.{utf8, utf8Step, charBytes}
@@ -20,9 +20,9 @@ use Rattle.clear.specs.Test.{isExponentClear, isFractionClear, isFigureClear, i
 use Rattle.clear.proofs.Tested.{test-clear}
 use Rattle.hearing.specs.Sheets.{names, AllClear}
 
--- the kinds of 01's list, and one of them with %
+-- the kinds of 01's list, and both of those that may have a % with one
 unfoldable pub sheet : List ℕ
-sheet = bytes "rack 12 -1.50e+3 007% 9:30 9:00am 21st 5mm A.B"
+sheet = bytes "rack 12 -1.50e+3 007% -2.5% 9:30 9:00am 21st 5mm A.B"
 
 pub accepted : Accepted sheet
 unfolding sheet recur recurAt span all afterLast cut tokensStep tokens starts startsAfter breakAfter entriesOf any textTests utf8 utf8Step charBytes
