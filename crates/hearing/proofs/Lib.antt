@@ -19,3 +19,4 @@ pub mod Clears
 pub mod Lines
 pub mod Demand
 pub mod Solid
+pub mod Parted

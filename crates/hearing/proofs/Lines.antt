@@ -11,9 +11,11 @@ use lib.Seq.{take-at}
 use Rattle.lists.specs.Bytes.{bytes, all, split, onto, Every}
 use Rattle.lists.specs.Classes.{except}
 use Rattle.lists.proofs.Scan.{all-append, all-within, all-span}
+use Rattle.lists.proofs.Every.{every-imply}
 use Rattle.lists.proofs.Parts.{split-last}
 use Rattle.sheets.specs.Sheet.{SheetEntry, wordsOf, mark, spaced, lineOf}
-use Rattle.hearing.specs.Sheets.{hearLine, hearSheet}
+use Rattle.hearing.specs.Hear.{hear}
+use Rattle.hearing.specs.Sheets.{linesIn, startsIn, wordsIn, hearSheet}
 use Rattle.hearing.proofs.Told.{solid, Heeded}
 
 -- a part without the separator, and the parts after it
@@ -58,28 +60,42 @@ mark-told : (b : Bool) → (eqb (mark b) (code "+") ≡ b) × (except (code "\n"
 mark-told true = (refl, refl)
 mark-told false = (refl, refl)
 
+-- no word that the entry is called with has a space or an LF
+abbrev pub SolidEntry : SheetEntry → Type 0
+SolidEntry e = Every (λ w. solid w ≡ true) (wordsOf e)
+
 -- a line without its LF
 bare : SheetEntry → List ℕ
 bare e = mark (e .starts) ∷ spaced (wordsOf e)
 
 -- the lines are the parts at LF, and nothing follows the last LF
-lines-parted : (es : List SheetEntry) → Every (λ (e : SheetEntry). Heeded (e .name)) es → split (code "\n") (flatten (map lineOf es)) ≡ map bare es ++ [] ∷ []
+lines-parted : (es : List SheetEntry) → Every SolidEntry es → split (code "\n") (flatten (map lineOf es)) ≡ map bare es ++ [] ∷ []
 unfolding flatten lineOf bare all
 lines-parted [] h = unfold split in refl
 lines-parted (e ∷ es) h =
     ap (λ (l : List ℕ). split (code "\n") (mark (e .starts) ∷ l)) (append-assoc (spaced (wordsOf e)) (bytes "\n") (flatten (map lineOf es)))
-    ∙ split-at (code "\n") (bare e) (flatten (map lineOf es)) refl (rw (mark-told (e .starts) .1) (spaced-except (wordsOf e) (h .0 .words)))
+    ∙ split-at (code "\n") (bare e) (flatten (map lineOf es)) refl (rw (mark-told (e .starts) .1) (spaced-except (wordsOf e) (h .0)))
     ∙ ap (λ (ls : List (List ℕ)). bare e ∷ ls) (lines-parted es (h .1))
 
-line-heard : (e : SheetEntry) → Heeded (e .name) → hearLine (bare e) ≡ e
-unfolding bare
-line-heard e h = rw (mark-told (e .starts) .0, words-heard (wordsOf e) (h .words), h .heard)
+lines-in : (es : List SheetEntry) → Every SolidEntry es → linesIn (flatten (map lineOf es)) ≡ map bare es
+lines-in es h = rw (lines-parted es h, take-at (map bare es) ([] ∷ []) (length (map bare es ++ [] ∷ []) - 1) (simp length-append (omega arith)))
 
-lines-heard : (es : List SheetEntry) → Every (λ (e : SheetEntry). Heeded (e .name)) es → map hearLine (map bare es) ≡ es
-lines-heard [] h = refl
-lines-heard (e ∷ es) h = ap₂ (λ (l : SheetEntry) (ls : List SheetEntry). l ∷ ls) (line-heard e (h .0)) (lines-heard es (h .1))
+-- what a line tells, by its mark and its words, of each entry
+pub lines-told : {A : Type 0} (f : Bool → List (List ℕ) → A) (es : List SheetEntry) → Every SolidEntry es
+    → map (λ l. f (startsIn l) (wordsIn l)) (linesIn (flatten (map lineOf es))) ≡ map (λ (e : SheetEntry). f (e .starts) (wordsOf e)) es
+unfolding bare
+lines-told {A} f es h = ap (map (λ l. f (startsIn l) (wordsIn l))) (lines-in es h) ∙ go es h
+  where
+    go : (es : List SheetEntry) → Every SolidEntry es
+        → map (λ l. f (startsIn l) (wordsIn l)) (map bare es) ≡ map (λ (e : SheetEntry). f (e .starts) (wordsOf e)) es
+    go [] h = refl
+    go (e ∷ es) h = rw (mark-told (e .starts) .0, words-heard (wordsOf e) (h .0)) (ap (λ (r : List A). f (e .starts) (wordsOf e) ∷ r) (go es (h .1)))
 
 -- a call sheet is heard as its entries
 pub sheet-heard : (es : List SheetEntry) → Every (λ (e : SheetEntry). Heeded (e .name)) es → hearSheet (flatten (map lineOf es)) ≡ es
 sheet-heard es h =
-    rw (lines-parted es h, take-at (map bare es) ([] ∷ []) (length (map bare es ++ [] ∷ []) - 1) (simp length-append (omega arith))) (lines-heard es h)
+    lines-told (λ b ws. record { starts = b; name = hear ws }) es (every-imply _ SolidEntry (λ e k. k .words) es h) ∙ go es h
+  where
+    go : (es : List SheetEntry) → Every (λ (e : SheetEntry). Heeded (e .name)) es → map (λ (e : SheetEntry). record { starts = e .starts; name = hear (wordsOf e) }) es ≡ es
+    go [] h = refl
+    go (e ∷ es) h = rw (h .0 .heard) (ap (λ (r : List SheetEntry). e ∷ r) (go es (h .1)))

@@ -158,7 +158,7 @@ real-solid = recur-induct (λ s ws. Every SolidWord ws) [] realStep real-step
 -- ---- words made of the name's own bytes
 
 -- a name in small letters
-lower-solid : (s : List ℕ) → Solid s → Solid (map lower s)
+pub lower-solid : (s : List ℕ) → Solid s → Solid (map lower s)
 unfolding all
 lower-solid [] h = refl
 lower-solid (b ∷ s) h =

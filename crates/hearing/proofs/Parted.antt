@@ -1,0 +1,77 @@
+-- A call sheet is taken apart at its LFs and spaces into its lines and words, whether or not its names are clear. Assumes nothing.
+use mathlib.Core.Path.{_≡_, refl, sym, ap, _∙_}
+use mathlib.Core.Bool.{Bool, true, false, _&&_, _||_, not, true≢false}
+use mathlib.Core.List.{List, [], _∷_, _++_, map, flatten}
+use Prim.Native.Nat.{ℕ, _+_}
+use Prim.Native.Char.{code}
+use native.Mathlib.Omega.{arith}
+use lib.Dec.{eqb}
+use lib.ListN.{length, take, drop, length-append, length-map}
+use Rattle.lists.specs.Bytes.{all, any, span, after, lead, lower, Every}
+use Rattle.lists.specs.Classes.{whitespace, nonWhitespace, leadingMark}
+use Rattle.lists.proofs.Recursion.{cond-elim}
+use Rattle.lists.proofs.Scan.{all-split, all-within, span-all}
+use Rattle.tokens.specs.Tokens.{Token, nameSize, marked, cut, afterWhite, afterRun, tokens}
+use Rattle.tokens.proofs.Forward.{tokens-none, tokens-more, tokens-induct}
+use Rattle.sentences.specs.Sentences.{starts}
+use Rattle.sheets.specs.Sheet.{SheetEntry, entriesOf, entries, wordsOf, lineOf, callSheet, countWords}
+use Rattle.sheets.proofs.Entries.{entries-length}
+use Rattle.hearing.specs.Sheets.{linesIn, wordsIn, lineIn, said}
+use Rattle.hearing.proofs.Told.{solid}
+use Rattle.hearing.proofs.Solid.{lower-solid, read-solid}
+use Rattle.hearing.proofs.Lines.{SolidEntry, lines-told}
+
+abbrev Black : Token → Type 0
+Black t = all nonWhitespace (t .name) ≡ true
+
+cut-name : (white run : List ℕ) (ends : Bool) → all nonWhitespace run ≡ true → Black (cut white run ends)
+unfolding cut
+cut-name white run ends h =
+    let rest = after leadingMark run in
+    let k = all-split nonWhitespace run (span leadingMark run) h .1 in
+    cond-elim Black (ends && all leadingMark run) (λ e. h) (λ e. all-split nonWhitespace rest (nameSize rest) k .0)
+
+-- no name has whitespace
+names-black : (s : List ℕ) → Every Black (tokens s)
+names-black =
+    tokens-induct (λ s. Every Black (tokens s)) (λ s e. rw (tokens-none s e) tt)
+    (λ s e i. rw (tokens-more s e) (cut-name _ _ _ (span-all nonWhitespace (afterWhite s)), i))
+
+-- so no word of a sheet has a space or an LF
+name-solid : (n : List ℕ) → all nonWhitespace n ≡ true → solid n ≡ true
+unfolding any
+name-solid = all-within nonWhitespace _ (λ b. go (eqb b 32) (eqb b 9) (eqb b 10) (eqb b 13))
+  where
+    go : (space tab feed return : Bool) → not (space || (tab || (feed || (return || false)))) ≡ true → (not space && not feed) ≡ true
+    go true t f r h = absurd (true≢false (sym h))
+    go false true f r h = absurd (true≢false (sym h))
+    go false false true r h = absurd (true≢false (sym h))
+    go false false false r h = refl
+
+entries-solid : (s : List ℕ) → Every SolidEntry (entries s)
+unfolding entriesOf
+entries-solid s = go (starts (tokens s)) (tokens s) (names-black s)
+  where
+    go : (bs : List Bool) (ts : List Token) → Every Black ts → Every SolidEntry (entriesOf bs ts)
+    go [] ts h = tt
+    go (b ∷ bs) [] h = tt
+    go (b ∷ bs) (t ∷ ts) h = (read-solid (map lower) lower-solid (t .name) (name-solid (t .name) (h .0)), go bs ts (h .1))
+
+-- "A token makes one line: "+" if it starts a sentence, else "-"; then a space and the word for each word; then LF": the call
+-- sheet's lines have the marks and the words of the entries, and no others
+pub sheet-parted : (s : List ℕ) → map lineIn (linesIn (callSheet s)) ≡ map said (entries s)
+sheet-parted s = lines-told (λ b ws. record { starts = b; words = ws }) (entries s) (entries-solid s)
+
+words-counted : (es : List SheetEntry) → length (flatten (map wordsOf es)) ≡ countWords es
+unfolding flatten countWords
+words-counted [] = refl
+words-counted (e ∷ es) = length-append (wordsOf e) (flatten (map wordsOf es)) ∙ ap (λ n. length (wordsOf e) + n) (words-counted es)
+
+-- "the count of tokens and the count of words" are those of its lines and of their words
+pub sheet-counted : (s : List ℕ)
+    → (length (linesIn (callSheet s)) ≡ length (tokens s)) × (length (flatten (map wordsIn (linesIn (callSheet s)))) ≡ countWords (entries s))
+sheet-counted s =
+    let ls = linesIn (callSheet s) in
+    let e : map wordsIn ls ≡ map wordsOf (entries s) = lines-told (λ b ws. ws) (entries s) (entries-solid s) in
+    let n : length ls ≡ length (entries s) = sym (length-map ls wordsIn) ∙ ap length e ∙ length-map (entries s) wordsOf in
+    (n ∙ entries-length s, rw e (words-counted (entries s)))
