@@ -13,7 +13,6 @@ use Rattle.lists.specs.Classes.{except}
 use Rattle.lists.proofs.Table.{below}
 use Rattle.lexicon.specs.Lexicon.{wordOf, onesAt, teensAt, tensAt, ordinalStep}
 use Rattle.lexicon.proofs.Laws.{lexicon}
-use Rattle.units.specs.Units.{before}
 use Rattle.numerals.specs.Words.{Word, one, teen, ten, scale, other, spell, spelled}
 use Rattle.numerals.specs.Cardinal.{clean, pair, scaleFor, join, cardinalFew, cardinal}
 use Rattle.numerals.specs.Ordinal.{ordinalForm, orZero, onLast, ordinal}

@@ -19,6 +19,7 @@ use Rattle.sheets.specs.Calls.{sheetTests, SheetGiven, sheetCall, Accepted}
 use Rattle.hearing.specs.Sheets.{names, AllClear, SameEntries, written, hearSheet}
 use Rattle.hearing.proofs.Told.{Heeded}
 use Rattle.hearing.proofs.Lines.{sheet-heard}
+use Rattle.hearing.proofs.Parted.{entries-solid}
 use Rattle.hearing.proofs.Clears.{clear-heeded}
 
 abbrev nameOf : Token → List ℕ
@@ -89,7 +90,8 @@ entries-from s t h =
 -- isn't needed for it
 pub told-apart : (s t : List ℕ) → Accepted s → Accepted t → AllClear (names s) → AllClear (names t) → (callSheet s ≡ callSheet t) ↔ SameEntries s t
 told-apart s t a b p q = (
-  λ e. entries-told s t (sym (sheet-heard (entries s) (entries-heeded _ _ p)) ∙ ap hearSheet e ∙ sheet-heard (entries t) (entries-heeded _ _ q)),
+  λ e. entries-told s t
+      (sym (sheet-heard (entries s) (entries-solid s) (entries-heeded _ _ p)) ∙ ap hearSheet e ∙ sheet-heard (entries t) (entries-solid t) (entries-heeded _ _ q)),
   λ h. ap (λ (es : List SheetEntry). flatten (map lineOf es)) (entries-from s t h),
 )
 

@@ -8,7 +8,7 @@ use lib.ListN.{length, getD, length-append}
 use lib.Seq.{take-at, getD-at}
 use borrow.Author.Tests.{ne-eqb, not-true}
 use Rattle.lists.specs.Bytes.{bytes, all, same, Every, listed}
-use Rattle.lists.proofs.Every.{every-append, every-map, every-imply}
+use Rattle.lists.proofs.Every.{every-imply}
 use Rattle.lexicon.specs.Lexicon.{ordinals}
 use Rattle.lexicon.proofs.Laws.{lexicon}
 use Rattle.units.specs.Units.{abbreviations, unitWords, before}
@@ -18,7 +18,7 @@ use Rattle.numerals.proofs.Digits.{spelled-append}
 use Rattle.rows.specs.Rows.{readWith}
 use Rattle.clear.specs.Clear.{plain}
 use Rattle.hearing.specs.Hear.{counted, vocabulary, know, known, firstWord, lastWord, butLast, hearDigits, isLetterWord, isLone, cardinalWord, withSuffix, hear}
-use Rattle.hearing.proofs.Told.{solid, HeededWith}
+use Rattle.hearing.proofs.Told.{HeededWith}
 use Rattle.hearing.proofs.Numerals.{Numeral, numeral-test, numeral-known, every-known, plain-some}
 
 -- ---- the words of a line
@@ -46,11 +46,6 @@ pub numeral-no-letter : (w : Word) → Numeral w → isLetterWord (spell w) ≡ 
 unfolding vocabulary counted spell lexicon all
 numeral-no-letter w n = not-true (isLetterWord (spell w)) (numeral-test (λ w. not (isLetterWord (spell w))) refl w n)
 
--- no word of a number has a space or an LF
-pub numerals-solid : (ws : List Word) → Every Numeral ws → Every (λ w. solid w ≡ true) (spelled ws)
-unfolding vocabulary counted spell spelled lexicon all
-numerals-solid = every-map Numeral (λ w. solid w ≡ true) spell (λ w n. numeral-test (λ w. solid (spell w)) refl w n)
-
 -- a line that starts with plain digits and goes on
 pub plain-not-lone : (s : List ℕ) → plain s ≡ true → (x : List ℕ) (vs : List (List ℕ)) → isLone (spelled (cardinal s) ++ x ∷ vs) ≡ false
 unfolding spelled
@@ -59,53 +54,47 @@ plain-not-lone s h x vs =
     rw (k .2) (not-lone (spell (k .0) ∷ (map spell (k .1) ++ x ∷ vs)) (omega (arith, length-append (map spell (k .1)) (x ∷ vs))))
 
 -- a name by its words
-pub heeded : {word : List ℕ → List ℕ} (n : List ℕ) (ws : List Word) → readWith word n .words ≡ ws → hear (spelled ws) ≡ n
-    → Every (λ w. solid w ≡ true) (spelled ws) → HeededWith word n
-heeded n ws e h k = record { heard = rw e h; words = rw e k }
+pub heeded : {word : List ℕ → List ℕ} (n : List ℕ) (ws : List Word) → readWith word n .words ≡ ws → hear (spelled ws) ≡ n → HeededWith word n
+heeded n ws e h = record { heard = rw e h }
 
 -- ---- a number and one word more
 
 -- a word that is no letter, nor the last one of a per cent or of a meridiem
 abbrev pub lateWord : List ℕ → Bool
-lateWord x = not (isLetterWord x) && (not (same x (bytes "cent")) && (not (same x (bytes "m")) && solid x))
+lateWord x = not (isLetterWord x) && (not (same x (bytes "cent")) && not (same x (bytes "m")))
 
 module _ (ns : List Word) (x : List ℕ) (e : Every Numeral ns) (q : lateWord x ≡ true) (l : isLone (spelled ns ++ x ∷ []) ≡ false) where
   abbrev line : List (List ℕ)
   line = spelled ns ++ x ∷ []
 
-  past-letter : (isLetterWord x ≡ false) × ((not (same x (bytes "cent")) && (not (same x (bytes "m")) && solid x)) ≡ true)
-  past-letter = let k = and-eq-true-iff (not (isLetterWord x)) _ .0 q in (not-true (isLetterWord x) (k .0), k .1)
-
-  past-cent : (same x (bytes "cent") ≡ false) × ((not (same x (bytes "m")) && solid x) ≡ true)
-  past-cent =
-      let k = and-eq-true-iff (not (same x (bytes "cent"))) (not (same x (bytes "m")) && solid x) .0 (past-letter .1) in
-      (not-true (same x (bytes "cent")) (k .0), k .1)
-
-  past-m : (same x (bytes "m") ≡ false) × (solid x ≡ true)
-  past-m = let k = and-eq-true-iff (not (same x (bytes "m"))) (solid x) .0 (past-cent .1) in (not-true (same x (bytes "m")) (k .0), k .1)
+  late : (isLetterWord x ≡ false) × (same x (bytes "cent") ≡ false) × (same x (bytes "m") ≡ false)
+  late =
+      let k = and-eq-true-iff (not (isLetterWord x)) _ .0 q in
+      let l = and-eq-true-iff (not (same x (bytes "cent"))) (not (same x (bytes "m"))) .0 (k .1) in
+      (not-true _ (k .0), not-true _ (l .0), not-true _ (l .1))
 
   first : isLetterWord (firstWord line) ≡ false
   unfolding spelled
   first = go ns e
     where
       go : (ns : List Word) → Every Numeral ns → isLetterWord (firstWord (spelled ns ++ x ∷ [])) ≡ false
-      go [] e = past-letter .0
+      go [] e = late .0
       go (w ∷ ws) e = numeral-no-letter w (e .0)
 
   -- a number and a unit's word
   pub hear-unit : listed x unitWords ≡ true → hear line ≡ hearDigits ns ++ getD abbreviations (before x unitWords) []
   unfolding hear
-  hear-unit u = rw (l, first, last-word (spelled ns) x, past-cent .0, past-m .0, u, but-last (spelled ns) (x ∷ []), numerals-known ns e)
+  hear-unit u = rw (l, first, last-word (spelled ns) x, late .1, late .2, u, but-last (spelled ns) (x ∷ []), numerals-known ns e)
 
   -- a number whose last word is in its ordinal form
   pub hear-ordinal : listed x unitWords ≡ false → listed x (map bytes ordinals) ≡ true
       → hear line ≡ withSuffix (hearDigits (known (spelled ns ++ cardinalWord x ∷ [])))
   unfolding hear
-  hear-ordinal u o = rw (l, first, last-word (spelled ns) x, past-cent .0, past-m .0, u, o, but-last (spelled ns) (x ∷ []))
+  hear-ordinal u o = rw (l, first, last-word (spelled ns) x, late .1, late .2, u, o, but-last (spelled ns) (x ∷ []))
 
   -- a name that is read as a number and one word more
   pub heeded-late : {word : List ℕ → List ℕ} (n : List ℕ) → readWith word n .words ≡ ns ++ other x ∷ [] → hear line ≡ n → HeededWith word n
   unfolding spelled spell
   heeded-late n r h =
       let s : spelled (ns ++ other x ∷ []) ≡ line = spelled-append ns (other x ∷ []) in
-      heeded n (ns ++ other x ∷ []) r (rw s h) (rw s (every-append (λ w. solid w ≡ true) (spelled ns) (x ∷ []) (numerals-solid ns e) (past-m .1, tt)))
+      heeded n (ns ++ other x ∷ []) r (rw s h)

@@ -15,7 +15,6 @@ use Rattle.numerals.specs.Words.{Word, other, spell}
 use Rattle.numerals.specs.Cardinal.{clean, cardinal, digits}
 use Rattle.clear.specs.Clear.{plain, tableWords, Fraction, no-point, a-point, no-sign, plus-sign, minus-sign, Exponent, no-exponent, an-exponent}
 use Rattle.hearing.specs.Hear.{counted, vocabulary, knowIn, know, inked, digitOf, signByte, smallValue, hearAfter, hears, hearFigure}
-use Rattle.hearing.proofs.Told.{solid}
 use Rattle.hearing.proofs.Shown.{inked-clean}
 use Rattle.hearing.proofs.Numerals.{Numeral, numeral-test, cardinal-numerals, digits-numerals, numeral-known, digits-back, plain-some, hear-plain}
 use Rattle.hearing.proofs.Real.{fractionWords, exponentWords}
@@ -26,10 +25,9 @@ use Rattle.hearing.proofs.Real.{fractionWords, exponentWords}
 abbrev pub plainEnd : List ℕ → Bool
 plainEnd w = not (same w (bytes "cent")) && not (same w (bytes "m")) && not (listed w unitWords) && not (listed w (map bytes ordinals))
 
--- known by its spelling, without space and LF, and no ending of another kind of name
+-- known by its spelling, and no ending of another kind of name
 pub record Fine (w : Word) : Type 0 where
   pub again : know (spell w) ≡ w
-  pub whole : solid (spell w) ≡ true
   pub ending : plainEnd (spell w) ≡ true
 
 -- to compute what words pass
@@ -43,7 +41,6 @@ unfolding dictionary
 numeral-fine w n =
     record {
       again = numeral-known w n;
-      whole = numeral-test (λ v. solid (spell v)) refl w n;
       ending = numeral-test (λ v. plainEnd (spell v)) refl w n;
     }
 
@@ -57,19 +54,19 @@ pub record Sign (w : Word) (c : ℕ) : Type 0 where
 -- the words between digits and their bytes
 pub minus-is : Sign (other (bytes "minus")) (code "-")
 unfolding dictionary
-minus-is = record { fine = record { again = refl; whole = refl; ending = refl }; byte = refl; some = refl; large = refl }
+minus-is = record { fine = record { again = refl; ending = refl }; byte = refl; some = refl; large = refl }
 
 plus-is : Sign (other (bytes "plus")) (code "+")
 unfolding dictionary
-plus-is = record { fine = record { again = refl; whole = refl; ending = refl }; byte = refl; some = refl; large = refl }
+plus-is = record { fine = record { again = refl; ending = refl }; byte = refl; some = refl; large = refl }
 
 point-is : Sign (other (bytes "point")) (code ".")
 unfolding dictionary
-point-is = record { fine = record { again = refl; whole = refl; ending = refl }; byte = refl; some = refl; large = refl }
+point-is = record { fine = record { again = refl; ending = refl }; byte = refl; some = refl; large = refl }
 
 e-is : Sign (other (bytes "e")) (code "e")
 unfolding dictionary
-e-is = record { fine = record { again = refl; whole = refl; ending = refl }; byte = refl; some = refl; large = refl }
+e-is = record { fine = record { again = refl; ending = refl }; byte = refl; some = refl; large = refl }
 
 -- ---- signs, each with the digits after it
 

@@ -23,7 +23,7 @@ use Rattle.rows.proofs.Percent.{percent-with}
 use Rattle.clear.proofs.Cuts.{cut-front, snoc-ends}
 use Rattle.clear.specs.Clear.{plain, tableWords, Minus, no-minus, a-minus, Fraction, no-point, Exponent, no-exponent, Number, is-digits, is-figure}
 use Rattle.hearing.specs.Hear.{know, known, firstWord, lastWord, smallValue, timeLike, hearDigits, hearAfter, hearFigure, isLetterWord, isLone, hear, isSmall}
-use Rattle.hearing.proofs.Told.{solid, HeededWith}
+use Rattle.hearing.proofs.Told.{HeededWith}
 use Rattle.hearing.proofs.Shown.{clean-length}
 use Rattle.hearing.proofs.Numerals.{Numeral, numeral-test, cardinal-numerals, digits-numerals, every-known, plain-some, hear-plain, hear-leading}
 use Rattle.hearing.proofs.Dispatch.{last-word, but-last, not-lone, numeral-no-letter, heeded}
@@ -121,10 +121,6 @@ module _ {s : List ℕ} {ws : List Word} (o : Spoken s ws) where
   fine-known : known (spelled ws) ≡ ws
   fine-known = every-known ws (every-imply Fine (λ w. know (spell w) ≡ w) (λ w f. f .again) ws (o .fine))
 
-  fine-solid : Every (λ w. solid w ≡ true) (spelled ws)
-  unfolding spelled
-  fine-solid = every-map Fine (λ w. solid w ≡ true) spell (λ w f. f .whole) ws (o .fine)
-
   fine-last : plainEnd (lastWord (spelled ws)) ≡ true
   unfolding spelled
   fine-last =
@@ -172,16 +168,12 @@ module _ {s : List ℕ} {ws : List Word} (o : Spoken s ws) where
 
 -- a number is heeded
 pub number-heeded : {word : List ℕ → List ℕ} (s : List ℕ) → Number s → HeededWith word s
-number-heeded {word} s n = let o = number-spoken word s n in record { heard = hear-number o; words = fine-solid o }
+number-heeded {word} s n = record { heard = hear-number (number-spoken word s n) }
 
 percent-words : (word : List ℕ → List ℕ) (s : List ℕ) → readWith word (s ++ bytes "%") .words ≡ readWith word s .words ++ perCent
 percent-words word s = rw (percent-with word (s ++ bytes "%") (snoc-ends (code "%") s), cut-front s (bytes "%") 1 refl)
 
 -- so is a number with one %
 pub percent-heeded : {word : List ℕ → List ℕ} (s : List ℕ) → Number s → HeededWith word (s ++ bytes "%")
-unfolding spelled spell all
 percent-heeded {word} s n =
-    let o = number-spoken word s n in
-    heeded (s ++ bytes "%") (readWith word s .words ++ perCent) (percent-words word s) (hear-percent o)
-    (rw (said-percent o)
-    (every-append (λ w. solid w ≡ true) (spelled (readWith word s .words)) (bytes "per" ∷ bytes "cent" ∷ []) (fine-solid o) (refl, (refl, tt))))
+    heeded (s ++ bytes "%") (readWith word s .words ++ perCent) (percent-words word s) (hear-percent (number-spoken word s n))

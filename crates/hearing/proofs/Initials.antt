@@ -8,7 +8,7 @@ use native.Mathlib.Omega.{arith}
 use lib.Dec.{eqb, leb}
 use lib.ListN.{length}
 use borrow.Author.Tests.{leb-true, eqb-true, ne-eqb}
-use Rattle.lists.specs.Bytes.{all, keep, sameBy, capital, ends, Every}
+use Rattle.lists.specs.Bytes.{all, keep, sameBy, capital, ends}
 use Rattle.lists.specs.Classes.{letter, except}
 use Rattle.lists.proofs.Scan.{all-within, apart}
 use Rattle.lists.proofs.Table.{below}
@@ -23,7 +23,7 @@ use Rattle.clear.specs.Test.{capitalOrPoint}
 use Rattle.clear.proofs.Initials.{initials-test}
 use Rattle.clear.specs.Clear.{dotted}
 use Rattle.hearing.specs.Hear.{isLetterWord, capitalOf, hearInitials, hear}
-use Rattle.hearing.proofs.Told.{solid, HeededWith}
+use Rattle.hearing.proofs.Told.{HeededWith}
 use Rattle.hearing.proofs.Dispatch.{not-lone, heeded}
 
 -- ---- capitals
@@ -33,7 +33,7 @@ abbrev initial : ℕ → List ℕ
 initial b = letterWord (b ∷ [])
 
 told : ℕ → Bool
-told b = isLetterWord (initial b) && (eqb (capitalOf (initial b)) b && solid (initial b))
+told b = isLetterWord (initial b) && eqb (capitalOf (initial b)) b
 
 capital-range : (b : ℕ) → capital b ≡ true → (65 ≤ b) × (b ≤ 90)
 capital-range b h = (leb-true 65 b (and-eq-true-iff (leb 65 b) (leb b 90) .0 h .0), leb-true b 90 (and-eq-true-iff (leb 65 b) (leb b 90) .0 h .1))
@@ -54,15 +54,9 @@ module _ (b : ℕ) (h : capital b ≡ true) where
   unfolding told
   is-letter = and-eq-true-iff (isLetterWord (initial b)) _ .0 (capital-told b h) .0
 
-  others : (eqb (capitalOf (initial b)) b && solid (initial b)) ≡ true
-  unfolding told
-  others = and-eq-true-iff (isLetterWord (initial b)) _ .0 (capital-told b h) .1
-
   same-capital : capitalOf (initial b) ≡ b
-  same-capital = eqb-true _ b (and-eq-true-iff (eqb (capitalOf (initial b)) b) (solid (initial b)) .0 others .0)
-
-  is-solid : solid (initial b) ≡ true
-  is-solid = and-eq-true-iff (eqb (capitalOf (initial b)) b) (solid (initial b)) .0 others .1
+  unfolding told
+  same-capital = eqb-true _ b (and-eq-true-iff (isLetterWord (initial b)) _ .0 (capital-told b h) .1)
 
 -- ---- the name
 
@@ -91,11 +85,6 @@ capitals [] h = refl
 capitals (b ∷ s) h =
     ap₂ (λ (x : ℕ) (t : List ℕ). x ∷ t) (same-capital b (and-eq-true-iff (capital b) (all capital s) .0 h .0))
     (capitals s (and-eq-true-iff (capital b) (all capital s) .0 h .1))
-
-all-solid : (s : List ℕ) → all capital s ≡ true → Every (λ w. solid w ≡ true) (map initial s)
-unfolding all
-all-solid [] h = tt
-all-solid (b ∷ s) h = (is-solid b (and-eq-true-iff (capital b) (all capital s) .0 h .0), all-solid s (and-eq-true-iff (capital b) (all capital s) .0 h .1))
 
 module _ (c d : ℕ) (cs : List ℕ) (h : all capital (c ∷ d ∷ cs) ≡ true) where
   abbrev name : List ℕ
@@ -133,4 +122,4 @@ pub initials-heeded : {word : List ℕ → List ℕ} (c d : ℕ) (cs : List ℕ)
 initials-heeded {word} c d cs h =
     let e = spelled-initials (c ∷ d ∷ cs) in
     heeded (dotted c (d ∷ cs)) (map (λ b. other (initial b)) (c ∷ d ∷ cs)) (ap (λ r. r .words) (row c d cs h word))
-    (rw e (letters-heard c d cs h)) (rw e (all-solid (c ∷ d ∷ cs) h))
+    (rw e (letters-heard c d cs h))

@@ -17,6 +17,6 @@ pub mod Initials
 pub mod OneWord
 pub mod Clears
 pub mod Lines
-pub mod Demand
 pub mod Solid
 pub mod Parted
+pub mod Demand

@@ -1,5 +1,5 @@
--- A call sheet whose names are heeded is heard as its entries. Assumes nothing.
-use mathlib.Core.Path.{_≡_, refl, ap, ap₂, _∙_}
+-- A call sheet is taken apart at LFs and spaces, and heard as its entries if their names are heeded. Assumes nothing.
+use mathlib.Core.Path.{_≡_, refl, ap, _∙_}
 use mathlib.Core.Bool.{Bool, true, false, not, cond, _&&_, and-eq-true-iff}
 use mathlib.Core.List.{List, [], _∷_, _++_, map, append-assoc, append-nil, flatten}
 use Prim.Native.Nat.{ℕ, _-_}
@@ -11,7 +11,6 @@ use lib.Seq.{take-at}
 use Rattle.lists.specs.Bytes.{bytes, all, split, onto, Every}
 use Rattle.lists.specs.Classes.{except}
 use Rattle.lists.proofs.Scan.{all-append, all-within, all-span}
-use Rattle.lists.proofs.Every.{every-imply}
 use Rattle.lists.proofs.Parts.{split-last}
 use Rattle.sheets.specs.Sheet.{SheetEntry, wordsOf, mark, spaced, lineOf}
 use Rattle.hearing.specs.Hear.{hear}
@@ -92,9 +91,8 @@ lines-told {A} f es h = ap (map (λ l. f (startsIn l) (wordsIn l))) (lines-in es
     go (e ∷ es) h = rw (mark-told (e .starts) .0, words-heard (wordsOf e) (h .0)) (ap (λ (r : List A). f (e .starts) (wordsOf e) ∷ r) (go es (h .1)))
 
 -- a call sheet is heard as its entries
-pub sheet-heard : (es : List SheetEntry) → Every (λ (e : SheetEntry). Heeded (e .name)) es → hearSheet (flatten (map lineOf es)) ≡ es
-sheet-heard es h =
-    lines-told (λ b ws. record { starts = b; name = hear ws }) es (every-imply _ SolidEntry (λ e k. k .words) es h) ∙ go es h
+pub sheet-heard : (es : List SheetEntry) → Every SolidEntry es → Every (λ (e : SheetEntry). Heeded (e .name)) es → hearSheet (flatten (map lineOf es)) ≡ es
+sheet-heard es k h = lines-told (λ b ws. record { starts = b; name = hear ws }) es k ∙ go es h
   where
     go : (es : List SheetEntry) → Every (λ (e : SheetEntry). Heeded (e .name)) es → map (λ (e : SheetEntry). record { starts = e .starts; name = hear (wordsOf e) }) es ≡ es
     go [] h = refl

@@ -21,7 +21,7 @@ use Rattle.rows.proofs.Laws.{step-eq}
 use Rattle.rows.proofs.Taken.{untaken, no-comma, no-time, no-meridiem, no-ending}
 use Rattle.clear.specs.Clear.{tableWords}
 use Rattle.hearing.specs.Hear.{hear}
-use Rattle.hearing.proofs.Told.{solid, HeededWith}
+use Rattle.hearing.proofs.Told.{HeededWith}
 
 -- ---- a letter a to z
 
@@ -42,9 +42,6 @@ lowered (b ∷ s) h = let k = and-eq-true-iff (small b) (all small s) .0 h in ap
 
 small-except : (c : ℕ) → small c ≡ false → (s : List ℕ) → all small s ≡ true → all (except c) s ≡ true
 small-except c n = all-within small (except c) (λ b k. rw (apart small c b n k))
-
-small-solid : (s : List ℕ) → all small s ≡ true → solid s ≡ true
-small-solid = all-within small _ (λ b k. rw (apart small 32 b refl k, apart small 10 b refl k))
 
 -- ---- no row but the last takes letters a to z, whatever that row says
 
@@ -108,6 +105,4 @@ module _ (b : ℕ) (t : List ℕ) (h : all small (b ∷ t) ≡ true) where
 pub word-heeded : {word : List ℕ → List ℕ} (s : List ℕ) → word s ≡ s → 2 ≤ length s → all small s ≡ true → listed s tableWords ≡ false → HeededWith word s
 unfolding hear spelled spell
 word-heeded [] e l h n = absurd (omega arith)
-word-heeded {word} (b ∷ t) e l h n =
-    let r = word-read b t h word in
-    record { heard = rw (r, e, n); words = rw (r, e) (small-solid (b ∷ t) h, tt) }
+word-heeded {word} (b ∷ t) e l h n = record { heard = rw (word-read b t h word, e, n) }

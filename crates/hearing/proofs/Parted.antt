@@ -1,20 +1,18 @@
 -- A call sheet is taken apart at its LFs and spaces into its lines and words, whether or not its names are clear. Assumes nothing.
 use mathlib.Core.Path.{_≡_, refl, sym, ap, _∙_}
 use mathlib.Core.Bool.{Bool, true, false, _&&_, _||_, not, true≢false}
-use mathlib.Core.List.{List, [], _∷_, _++_, map, flatten}
+use mathlib.Core.List.{List, [], _∷_, map, flatten}
 use Prim.Native.Nat.{ℕ, _+_}
-use Prim.Native.Char.{code}
-use native.Mathlib.Omega.{arith}
 use lib.Dec.{eqb}
-use lib.ListN.{length, take, drop, length-append, length-map}
-use Rattle.lists.specs.Bytes.{all, any, span, after, lead, lower, Every}
-use Rattle.lists.specs.Classes.{whitespace, nonWhitespace, leadingMark}
+use lib.ListN.{length, length-append, length-map}
+use Rattle.lists.specs.Bytes.{all, any, span, after, lower, Every}
+use Rattle.lists.specs.Classes.{nonWhitespace, leadingMark}
 use Rattle.lists.proofs.Recursion.{cond-elim}
 use Rattle.lists.proofs.Scan.{all-split, all-within, span-all}
-use Rattle.tokens.specs.Tokens.{Token, nameSize, marked, cut, afterWhite, afterRun, tokens}
+use Rattle.tokens.specs.Tokens.{Token, nameSize, cut, afterWhite, tokens}
 use Rattle.tokens.proofs.Forward.{tokens-none, tokens-more, tokens-induct}
 use Rattle.sentences.specs.Sentences.{starts}
-use Rattle.sheets.specs.Sheet.{SheetEntry, entriesOf, entries, wordsOf, lineOf, callSheet, countWords}
+use Rattle.sheets.specs.Sheet.{SheetEntry, entriesOf, entries, wordsOf, callSheet, countWords}
 use Rattle.sheets.proofs.Entries.{entries-length}
 use Rattle.hearing.specs.Sheets.{linesIn, wordsIn, lineIn, said}
 use Rattle.hearing.proofs.Told.{solid}
@@ -48,7 +46,7 @@ name-solid = all-within nonWhitespace _ (λ b. go (eqb b 32) (eqb b 9) (eqb b 10
     go false false true r h = absurd (true≢false (sym h))
     go false false false r h = refl
 
-entries-solid : (s : List ℕ) → Every SolidEntry (entries s)
+pub entries-solid : (s : List ℕ) → Every SolidEntry (entries s)
 unfolding entriesOf
 entries-solid s = go (starts (tokens s)) (tokens s) (names-black s)
   where

@@ -9,24 +9,21 @@ use lib.Dec.{eqb}
 use lib.ListN.{length, take, drop, length-append}
 use lib.Seq.{take-at, drop-at, take-append-seam, drop-append-seam, drop-append-add}
 use borrow.Author.Tests.{ne-eqb, lt-ltb, le-leb}
-use Rattle.lists.specs.Bytes.{bytes, all, span, has, sameBy, lower, Every, any}
+use Rattle.lists.specs.Bytes.{bytes, span, has, sameBy, lower, any}
 use Rattle.lists.specs.Classes.{digit, digitOrComma, except, colonNorPoint}
 use Rattle.lists.proofs.Scan.{apart}
 use Rattle.shapes.specs.Shapes.{splitOnce, isDottedAbbrev, isCommaInt, isTime}
-use Rattle.lists.proofs.Every.{every-append}
 use Rattle.shapes.specs.Times.{timeOf, separatorAt, isMeridiemTime, timeParts}
-use Rattle.numerals.specs.Words.{spell, spelled}
-use Rattle.numerals.proofs.Digits.{spelled-append}
-use Rattle.readings.specs.Letters.{chars, letterWord, letters}
+use Rattle.readings.specs.Letters.{letters}
 use Rattle.rows.specs.Rows.{by, clock, clockLetters, readStep, readWith}
 use Rattle.rows.specs.declared.Row.the-variants.{Time, Meridiem}
 use Rattle.rows.proofs.Laws.{step-eq}
 use Rattle.rows.proofs.Taken.{outside, dottedByte, timeByte, dotted-bytes, comma-bytes, time-bytes}
 use Rattle.clear.specs.Clear.{isHour, isMinute, HalfDay, am, pm}
-use Rattle.hearing.proofs.Told.{solid, HeededWith}
+use Rattle.hearing.proofs.Told.{HeededWith}
 use Rattle.clear.proofs.Times.{digit-colon, hour-minute, colon-at}
 use Rattle.hearing.proofs.Dispatch.{heeded}
-use Rattle.hearing.proofs.TimeWords.{time-told, meridiem-told, clock-solid}
+use Rattle.hearing.proofs.TimeWords.{time-told, meridiem-told}
 
 has-right : (c : ℕ) (a b : List ℕ) → has c b ≡ true → has c (a ++ b) ≡ true
 unfolding any
@@ -81,11 +78,10 @@ time-row word h m p q =
 
 -- am and pm are lowered already, and end in "m"
 half-day : (x : List ℕ) → HalfDay x
-    → (length x ≡ 2) × ((sameBy lower x (bytes "am") || sameBy lower x (bytes "pm")) ≡ true) × (has (code "m") x ≡ true) × Every
-    (λ w. solid w ≡ true) (spelled (letters x))
-unfolding sameBy any letters letterWord chars spelled spell all
-half-day x am = (refl, refl, refl, (refl, (refl, tt)))
-half-day x pm = (refl, refl, refl, (refl, (refl, tt)))
+    → (length x ≡ 2) × ((sameBy lower x (bytes "am") || sameBy lower x (bytes "pm")) ≡ true) × (has (code "m") x ≡ true)
+unfolding sameBy any
+half-day x am = (refl, refl, refl)
+half-day x pm = (refl, refl, refl)
 
 module _ (h m x : List ℕ) (p : isHour h ≡ true) (q : isMinute m ≡ true) (d : HalfDay x) where
   abbrev time : List ℕ
@@ -137,12 +133,10 @@ module _ (h m x : List ℕ) (p : isHour h ≡ true) (q : isMinute m ≡ true) (d
 -- a time that is not on the hour is heeded
 pub time-heeded : {word : List ℕ → List ℕ} (h m : List ℕ) → isHour h ≡ true → isMinute m ≡ true → (m ≡ bytes "00" → ⊥) → HeededWith word (h ++ (bytes ":" ++ m))
 time-heeded {word} h m p q n =
-    heeded (h ++ (bytes ":" ++ m)) (clock h m) (ap (λ r. r .words) (time-row word h m p q)) (time-told h m q p n) (clock-solid h m q)
+    heeded (h ++ (bytes ":" ++ m)) (clock h m) (ap (λ r. r .words) (time-row word h m p q)) (time-told h m q p n)
 
 -- so is every time with am or pm
 pub meridiem-heeded : {word : List ℕ → List ℕ} (h m x : List ℕ) → isHour h ≡ true → isMinute m ≡ true → HalfDay x
     → HeededWith word (h ++ (bytes ":" ++ (m ++ x)))
 meridiem-heeded {word} h m x p q d =
     heeded (h ++ (bytes ":" ++ (m ++ x))) (clock h m ++ letters x) (ap (λ r. r .words) (meridiem-row h m x p q d word)) (meridiem-told h m q p x d)
-    (rw (spelled-append (clock h m) (letters x))
-    (every-append (λ w. solid w ≡ true) (spelled (clock h m)) (spelled (letters x)) (clock-solid h m q) (half-day x d .3)))

@@ -27,7 +27,6 @@ use Rattle.rows.specs.Rows.{clock}
 use Rattle.clear.specs.Clear.{isHour, isMinute, HalfDay, am, pm}
 use Rattle.clear.proofs.Times.{hour-parts}
 use Rattle.hearing.specs.Hear.{counted, vocabulary, know, knowIn, known, firstWord, lastWord, isLetterWord, timeLike, hearTime, hear, isSmall}
-use Rattle.hearing.proofs.Told.{solid}
 use Rattle.hearing.proofs.Shown.{clean-length}
 use Rattle.hearing.proofs.Numerals.{Numeral, numeral-test, cardinal-numerals, digits-numerals, numeral-known, every-known, plain-some}
 use Rattle.hearing.proofs.Dispatch.{not-lone, but-last}
@@ -122,10 +121,6 @@ module _ (h m : List ℕ) (q : isMinute m ≡ true) where
       every-known (clock h m)
       (every-imply TimeWord (λ w. know (spell w) ≡ w) (λ w. ⊎-elim (numeral-known w) (λ (e : w ≡ oh). ap (λ v. know (spell v)) e ∙ sym e))
       (clock h m) clock-words)
-
-  pub clock-solid : Every (λ w. solid w ≡ true) (spelled (clock h m))
-  unfolding vocabulary counted spell lexicon all
-  clock-solid = clock-test solid refl refl
 
   -- each of them fails a test that the vocabulary fails
   clock-fails : (p : List ℕ → Bool) → all (λ w. not (p (spell w))) vocabulary ≡ true → not (p (bytes "oh")) ≡ true → (i : ℕ)

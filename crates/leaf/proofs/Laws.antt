@@ -9,7 +9,7 @@ use lib.ListN.{length, take, drop, getD}
 use borrow.Author.Tests.{ltb-true, eq-eqb, ne-eqb, not-true}
 use Rattle.lists.specs.Bytes.{keep, all}
 use Rattle.lists.specs.Classes.{except, letter, digitOrComma}
-use Rattle.units.specs.Units.{unitIndex, isUnit, unitWord, wordNumbers, unitAbbreviations}
+use Rattle.units.specs.Units.{unitIndex, isUnit, unitWord, wordNumbers}
 use Rattle.lists.proofs.Recursion.{cond-elim}
 use Rattle.lists.proofs.Scan.{ByParts, keep-append}
 use Rattle.units.proofs.Laws.{word-row, unit-in-table}

@@ -1,7 +1,7 @@
 -- Every set piece holds: the definitions are evaluated. Assumes nothing.
 use mathlib.Core.List.{flatMap}
 use lib.Dec.{T}
-use Rattle.lists.specs.Bytes.{sameBy, split, onto, filled, span, keep, has, all, afterLast, any}
+use Rattle.lists.specs.Bytes.{sameBy, split, onto, filled, span, keep, all, afterLast, any}
 use Rattle.lists.specs.Recur.{recur, recurAt}
 use Rattle.lexicon.proofs.Laws.{lexicon}
 use Rattle.numerals.specs.Words.{spell, spelled}

@@ -1,4 +1,3 @@
-use borrow.Author.Needs.{needs}
 use Rattle.clear.proofs.tests.of_class.Statement.{statement}
 use Rattle.clear.proofs.tests.of_class.Tie as tie
 

@@ -1,6 +1,6 @@
 use native.Mathlib.Omega.{arith}
 use mathlib.Core.Logic.{⊎-elim}
-use Rattle.lists.specs.Bytes.{has, any}
+use Rattle.lists.specs.Bytes.{any}
 use Rattle.readings.specs.Roman.{numeral}
 use Rattle.readings.proofs.RomanLaws.{no-letter}
 use Rattle.readings.proofs.roman.value.Statement.{statement}
