@@ -28,13 +28,13 @@ within-true lo hi b h = rw (le-leb lo b (h .0), le-leb b hi (h .1))
 both : {P : Type 0} (p q : Bool) → (p ≡ true → q ≡ true → P) → (p && q) ≡ true → P
 both p q f h = let k = and-eq-true-iff p q .0 h in f (k .0) (k .1)
 
-bounds : (lo hi b : ℕ) → within lo hi b ≡ true → (lo ≤ b) × (b ≤ hi)
+pub bounds : (lo hi b : ℕ) → within lo hi b ≡ true → (lo ≤ b) × (b ≤ hi)
 bounds lo hi b = both (leb lo b) (leb b hi) (λ h k. (leb-true lo b h, leb-true b hi k))
 
 -- ---- from a scalar value to its bytes
 
 -- six bits after 10 are a tail byte
-tail-true : (n : ℕ) → utf8Tail (low6 n) ≡ true
+pub tail-true : (n : ℕ) → utf8Tail (low6 n) ≡ true
 tail-true n = within-true 0x80 0xBF (low6 n) (omega arith)
 
 -- a test that passes at n numbers from lo on
