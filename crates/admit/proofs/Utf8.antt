@@ -1,5 +1,5 @@
 -- How the test of UTF-8 goes on, a character at a time or over a run of ASCII. Assumes nothing.
-use mathlib.Core.Path.{_≡_, refl, _∙_}
+use mathlib.Core.Path.{_≡_, refl, ap, _∙_}
 use mathlib.Core.Bool.{Bool, true, false, cond, _&&_, and-assoc, and-true}
 use mathlib.Core.List.{List, [], _∷_}
 use Prim.Native.Nat.{ℕ, zero, suc, _+_, _≤_, _<_}
@@ -12,18 +12,23 @@ use Rattle.lists.specs.Bytes.{all}
 use Rattle.lists.proofs.Recursion.{Local, recur-eq, cond-cong}
 use Rattle.lists.proofs.Scan.{all-more, all-append}
 use Rattle.lists.specs.Classes.{ascii}
-use Rattle.admit.specs.Utf8.{charBytes, charLen, utf8Step, utf8, Passed}
+use Rattle.admit.specs.Utf8.{charBytes, charLen, utf8Step, utf8, utf8CharsStep, utf8Chars, Passed}
 
-utf8-local : Local utf8Step
-unfolding utf8Step
-utf8-local f g s h =
+-- a reading that goes on after the character at the front
+local : {A : Type 0} (x y : A) (f : List ℕ → A → A)
+    → Local (λ rest s. cond (eqb (length s) 0) x (cond (eqb (charLen s) 0) y (f (take (charLen s) s) (rest (drop (charLen s) s)))))
+local x y f g h s i =
     cond-cong (eqb (length s) 0) (λ e. refl) (λ n.
     cond-cong (eqb (charLen s) 0) (λ e. refl) (λ m.
-    h (drop (charLen s) s) (simp length-drop (omega (arith, eqb-false (length s) 0 n, eqb-false (charLen s) 0 m)))))
+    ap (f (take (charLen s) s)) (i (drop (charLen s) s) (simp length-drop (omega (arith, eqb-false (length s) 0 n, eqb-false (charLen s) 0 m))))))
 
 utf8-eq : (s : List ℕ) → utf8 s ≡ utf8Step utf8 s
-unfolding utf8
-utf8-eq s = recur-eq false utf8Step utf8-local s
+unfolding utf8 utf8Step
+utf8-eq s = recur-eq false utf8Step (local true false (λ c t. t)) s
+
+chars-eq : (s : List ℕ) → utf8Chars s ≡ utf8CharsStep utf8Chars s
+unfolding utf8Chars utf8CharsStep
+chars-eq s = recur-eq [] utf8CharsStep (local [] [] (λ c t. c ∷ t)) s
 
 pub utf8-end : (s : List ℕ) (i : ℕ) → length s ≤ i → utf8 (drop i s) ≡ true
 unfolding utf8Step
@@ -37,6 +42,16 @@ unfolding utf8Step
 utf8-char s n e h =
     let k : length s ≡ 0 → ⊥ = λ z. omega arith in
     utf8-eq s ∙ rw (ne-eqb (length s) 0 k, ← e)
+
+pub chars-end : utf8Chars [] ≡ []
+unfolding utf8CharsStep
+chars-end = chars-eq []
+
+pub chars-char : (s : List ℕ) (n : ℕ) → n ≡ charLen s → 0 < length s → utf8Chars s ≡ cond (eqb n 0) [] (take n s ∷ utf8Chars (drop n s))
+unfolding utf8CharsStep
+chars-char s n e h =
+    let k : length s ≡ 0 → ⊥ = λ z. omega arith in
+    chars-eq s ∙ rw (ne-eqb (length s) 0 k, ← e)
 
 utf8-ascii : (a : ℕ) (s : List ℕ) → ascii a ≡ true → utf8 (a ∷ s) ≡ utf8 s
 unfolding charBytes

@@ -42,7 +42,7 @@ cond-le true h l = h
 cond-le false h l = l
 
 -- and the character is within its part
-char-within : (x : List ℕ) → 0 < length x → charLen x ≤ length x
+pub char-within : (x : List ℕ) → 0 < length x → charLen x ≤ length x
 unfolding charBytes
 char-within [] k = absurd (omega arith)
 char-within (a ∷ []) k = rw (char-1 0 refl a 0 0) (cond-le (ascii a) (omega arith) (omega arith))

@@ -2,10 +2,10 @@
 -- A byte past the end reads as 0, which is no tail byte, so a character that is cut needs no case of its own.
 use mathlib.Core.Path.{_≡_}
 use mathlib.Core.Bool.{Bool, true, false, cond, _&&_, _||_}
-use mathlib.Core.List.{List}
+use mathlib.Core.List.{List, [], _∷_}
 use Prim.Native.Nat.{ℕ, _+_, _≤_, _<_}
 use lib.Dec.{leb, eqb}
-use lib.ListN.{length, drop, getD}
+use lib.ListN.{length, take, drop, getD}
 use Rattle.lists.specs.Classes.{ascii}
 use Rattle.lists.specs.Recur.{recur}
 
@@ -48,6 +48,15 @@ utf8Step rest s = cond (eqb (length s) 0) true (cond (eqb (charLen s) 0) false (
 
 unfoldable pub utf8 : List ℕ → Bool
 utf8 = recur false utf8Step
+
+-- the UTF8-char of a text in their order, each a list of its bytes; they end where none stands
+unfoldable pub utf8CharsStep : (List ℕ → List (List ℕ)) → List ℕ → List (List ℕ)
+utf8CharsStep rest s = cond (eqb (length s) 0) [] (cond (eqb (charLen s) 0) [] (take (charLen s) s ∷ rest (drop (charLen s) s)))
+
+unfoldable pub utf8Chars : List ℕ → List (List ℕ)
+utf8Chars = recur [] utf8CharsStep
+
+-- ---- no public promise is made of these
 
 -- what a step at the front of s answers: n bytes that the test of the rest decides for, or 0 where s is not UTF-8; and
 -- that they are few enough for a sum of places

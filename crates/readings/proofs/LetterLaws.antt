@@ -14,7 +14,7 @@ use Rattle.lists.specs.Classes.{continuation}
 use Rattle.lists.proofs.Scan.{span-le}
 use Rattle.numerals.specs.Words.{other, spell, spelled}
 use Rattle.readings.specs.Letters.{chars, letterWord, letters}
-use Rattle.readings.specs.Walk.{charBytes}
+use Rattle.readings.specs.Walk.{charSpan}
 
 -- the first character
 chars-cons : (b : ℕ) (s : List ℕ) → chars (b ∷ s) ≡ (b ∷ take (span continuation s) s) ∷ chars (drop (span continuation s) s)
@@ -46,29 +46,29 @@ unfolding letters chars spelled
 letters-none = refl
 
 -- the word of the first character, and those of what is left
-letters-cons : (s : List ℕ) → 0 < length s → letters s ≡ other (letterWord (take (charBytes s) s)) ∷ letters (drop (charBytes s) s)
+letters-cons : (s : List ℕ) → 0 < length s → letters s ≡ other (letterWord (take (charSpan s) s)) ∷ letters (drop (charSpan s) s)
 unfolding letters
 letters-cons [] h = absurd (omega arith)
 letters-cons (b ∷ s) h = ap (map (λ (c : List ℕ). other (letterWord c))) (chars-cons b s)
 
-char-length : (s : List ℕ) → 0 < length s → length (take (charBytes s) s) ≡ charBytes s
+char-length : (s : List ℕ) → 0 < length s → length (take (charSpan s) s) ≡ charSpan s
 char-length [] h = absurd (omega arith)
-char-length (b ∷ s) h = length-take-le (charBytes (b ∷ s)) (b ∷ s) (omega (arith, span-le continuation s))
+char-length (b ∷ s) h = length-take-le (charSpan (b ∷ s)) (b ∷ s) (omega (arith, span-le continuation s))
 
 -- n bytes of it follow its first
-pub first-char : (s : List ℕ) {t : List ℕ} {n : ℕ} → t ≡ drop 1 s → n ≡ span continuation t → take (n + 1) s ≡ take (charBytes s) s
+pub first-char : (s : List ℕ) {t : List ℕ} {n : ℕ} → t ≡ drop 1 s → n ≡ span continuation t → take (n + 1) s ≡ take (charSpan s) s
 first-char s {t} {n} g e = ap (λ (k : ℕ). take k s) (add-one n ∙ ap suc (e ∙ ap (span continuation) g))
 
 -- c is the character at i, where the text t starts
-module _ (s : List ℕ) (i : ℕ) (h : i < length s) {t c : List ℕ} (g : t ≡ drop i s) (e : c ≡ take (charBytes t) t) where
+module _ (s : List ℕ) (i : ℕ) (h : i < length s) {t c : List ℕ} (g : t ≡ drop i s) (e : c ≡ take (charSpan t) t) where
   long : length t ≡ length s - i
   long = ap length g ∙ length-drop i s
 
-  size : length c ≡ charBytes t
+  size : length c ≡ charSpan t
   size = ap length e ∙ char-length t (omega (arith, long))
 
   pub char-more : (0 < length c) × (i + length c ≤ length s)
-  char-more = (omega (arith, size), omega (arith, long, ap length e, length-take (charBytes t) t))
+  char-more = (omega (arith, size), omega (arith, long, ap length e, length-take (charSpan t) t))
 
   pub letters-at : spelled (letters (drop i s)) ≡ (letterWord c ∷ []) ++ spelled (letters (drop (i + length c) s))
   unfolding spelled spell

@@ -1,3 +1,5 @@
 pub mod LetterLaws
 pub mod RomanLaws
 pub mod Room
+pub mod Characters
+pub mod Standard

@@ -9,7 +9,8 @@ use Rattle.lists.specs.Bytes.{bytes, lower, onto}
 use Rattle.lists.specs.Classes.{continuation}
 use Rattle.numerals.specs.Words.{Word, other}
 
--- the characters of a text, each a list of its bytes: a byte that no continuation follows is a character's last
+-- the characters of a text, each a list of its bytes: a byte that no continuation follows is a character's last. In a UTF-8
+-- text they are those of RFC 3629's table (`chars-utf8` of proofs/Characters.antt)
 unfoldable pub chars : List ℕ → List (List ℕ)
 chars [] = []
 chars (b ∷ s) = cond (continuation (getD s 0 0)) (onto b (chars s)) ((b ∷ []) ∷ chars s)

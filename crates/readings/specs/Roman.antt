@@ -1,8 +1,10 @@
 -- Document 01, "Number words": `roman_value`. Definitions only.
 use mathlib.Core.Bool.{Bool, cond}
-use mathlib.Core.List.{List, [], _∷_, map}
-use Prim.Native.Nat.{ℕ, _+_, _-_}
+use mathlib.Core.List.{List, [], _∷_, map, _++_}
+use Prim.Native.Nat.{ℕ, _+_, _-_, _/_, _%_}
+use Prim.Native.String.{String}
 use lib.Dec.{ltb}
+use lib.ListN.{getD}
 use Rattle.lists.specs.Bytes.{bytes, any, has}
 
 -- the value of a character, in either case; 0 for a foreign one, each byte of a longer character among them
@@ -27,3 +29,24 @@ taken (v ∷ vs) = cond (larger v vs) v 0 + taken vs
 -- "below 0 gives 0; one foreign character gives 0": `-` of numbers stays at 0
 unfoldable pub romanValue : List ℕ → ℕ
 romanValue s = cond (has 0 (map numeral s)) 0 (added (map numeral s) - taken (map numeral s))
+
+-- ---- the standard numerals: proofs/Standard.antt has that each is read as its number
+
+abbrev pub romanThousands : List String
+romanThousands = "" ∷ "M" ∷ "MM" ∷ "MMM" ∷ []
+
+abbrev pub romanHundreds : List String
+romanHundreds = "" ∷ "C" ∷ "CC" ∷ "CCC" ∷ "CD" ∷ "D" ∷ "DC" ∷ "DCC" ∷ "DCCC" ∷ "CM" ∷ []
+
+abbrev pub romanTens : List String
+romanTens = "" ∷ "X" ∷ "XX" ∷ "XXX" ∷ "XL" ∷ "L" ∷ "LX" ∷ "LXX" ∷ "LXXX" ∷ "XC" ∷ []
+
+abbrev pub romanOnes : List String
+romanOnes = "" ∷ "I" ∷ "II" ∷ "III" ∷ "IV" ∷ "V" ∷ "VI" ∷ "VII" ∷ "VIII" ∷ "IX" ∷ []
+
+abbrev pub romanDigit : List String → ℕ → List ℕ
+romanDigit letters d = bytes (getD letters d "")
+
+-- the numeral of a number below 4,000, digit by digit
+abbrev pub standardNumeral : ℕ → List ℕ
+standardNumeral n = romanDigit romanThousands (n / 1000) ++ romanDigit romanHundreds (n / 100 % 10) ++ romanDigit romanTens (n / 10 % 10) ++ romanDigit romanOnes (n % 10)

@@ -6,5 +6,5 @@ use Rattle.lists.specs.Bytes.{span}
 use Rattle.lists.specs.Classes.{continuation}
 
 -- letters: the bytes of the first character
-abbrev pub charBytes : List ℕ → ℕ
-charBytes s = suc (span continuation (drop 1 s))
+abbrev pub charSpan : List ℕ → ℕ
+charSpan s = suc (span continuation (drop 1 s))

@@ -12,11 +12,11 @@ ghost use lib.ListN.{take};
 ghost use Rattle.sink.specs.Sink.{sink, emit, emitAll};
 ghost use Rattle.numerals.specs.Words.{spelled};
 ghost use Rattle.readings.specs.Letters.{letterWord, letters};
-ghost use Rattle.readings.specs.Walk.{charBytes};
+ghost use Rattle.readings.specs.Walk.{charSpan};
 
 // The first character of s, nothing where there is none.
 fn first_char(s: &[u8]) -> &[u8]
-    ensures { λ r. ⌜ now r ≡ take (charBytes (now (s .entry))) (now (s .entry)) ⌝ }
+    ensures { λ r. ⌜ now r ≡ take (charSpan (now (s .entry))) (now (s .entry)) ⌝ }
 {
     front(s, span_of(CONTINUATION, 0, tail(s, 1)) + 1)
 }
