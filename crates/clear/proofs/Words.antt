@@ -1,8 +1,8 @@
 -- Words of two or more letters a to z: a word that alone is an answer of `cardinal` or `ordinal` stands in the tables. Assumes nothing.
-use mathlib.Core.Path.{_≡_, refl, sym, ap, _∙_}
+use mathlib.Core.Path.{_≡_, refl, sym, _∙_}
 use mathlib.Core.Bool.{Bool, true, false, not, _&&_, true≢false, and-eq-true-iff}
 use mathlib.Core.List.{List, [], _∷_, map, cons-eq-cons, nil≢cons, cons≢nil}
-use Prim.Native.Nat.{ℕ, zero, suc, _+_, _≤_, _<_}
+use Prim.Native.Nat.{ℕ, zero, suc, _≤_, _<_}
 use Prim.Native.Char.{code}
 use native.Mathlib.Omega.{arith}
 use lib.Dec.{leb}
@@ -11,13 +11,13 @@ use borrow.Author.Tests.{leb-true, le-leb, not-true}
 use Rattle.lists.specs.Bytes.{all, small, keep, listed, any}
 use Rattle.lists.specs.Classes.{except}
 use Rattle.lists.proofs.Table.{below}
-use Rattle.lexicon.specs.Lexicon.{wordOf, onesAt, teensAt, tensAt, ordinalStep}
 use Rattle.lexicon.proofs.Laws.{lexicon}
 use Rattle.numerals.specs.Words.{Word, one, teen, ten, scale, other, spell, spelled}
 use Rattle.numerals.specs.Cardinal.{clean, pair, scaleFor, join, cardinalFew, cardinal}
-use Rattle.numerals.specs.Ordinal.{ordinalForm, orZero, onLast, ordinal}
+use Rattle.numerals.specs.Ordinal.{formIn, ordinalForm, orZero, onLast, ordinal}
 use Rattle.numerals.proofs.Cardinal.{few-induct, cardinalOf-elim}
-use Rattle.numerals.proofs.Forms.{Digits, clean-digits, form-number}
+use Rattle.numerals.specs.Walk.{Digits}
+use Rattle.numerals.proofs.Vocabulary.{clean-digits}
 use Rattle.clear.specs.Clear.{tableWords, Alone, Clear, is-word}
 use Rattle.clear.specs.Test.{isWordClear}
 
@@ -29,23 +29,25 @@ Lone P [] = Unit
 Lone P (w ∷ []) = P w
 Lone P (w ∷ v ∷ ws) = Unit
 
--- a word of ONES, TEENS or TENS
-record Small (w : Word) : Type 0 where
-  place : ℕ
-  within : place < 30
-  word : spell w ≡ wordOf (onesAt + place)
+-- a word that stands in the tables, with its ordinal form
+abbrev tabled : Word → Bool
+tabled w = listed (spell w) tableWords && listed (ordinalForm (spell w)) tableWords
 
+abbrev Small : Word → Type 0
+Small w = tabled w ≡ true
+
+-- those of ONES, TEENS and TENS do
 small-one : (d : ℕ) → d < 10 → Small (one d)
-unfolding spell
-small-one d h = record { place = d; within = omega arith; word = refl }
+unfolding spell ordinalForm formIn tableWords any lexicon
+small-one = below (λ d. tabled (one d)) 10 refl
 
 small-teen : (d : ℕ) → d < 10 → Small (teen d)
-unfolding spell
-small-teen d h = let e : teensAt + d ≡ onesAt + (10 + d) = omega arith in record { place = 10 + d; within = omega arith; word = ap wordOf e }
+unfolding spell ordinalForm formIn tableWords any lexicon
+small-teen = below (λ d. tabled (teen d)) 10 refl
 
 small-ten : (d : ℕ) → d < 10 → Small (ten d)
-unfolding spell
-small-ten d h = let e : tensAt + d ≡ onesAt + (20 + d) = omega arith in record { place = 20 + d; within = omega arith; word = ap wordOf e }
+unfolding spell ordinalForm formIn tableWords any lexicon
+small-ten = below (λ d. tabled (ten d)) 10 refl
 
 pair-lone : (a b : ℕ) → a < 10 → b < 10 → Lone Small (pair a b)
 unfolding pair
@@ -86,21 +88,12 @@ cardinal-lone t = let d = clean-digits t in cardinalOf-elim (Lone Small) (clean 
 abbrev Barred : Word → Type 0
 Barred w = listed (spell w) tableWords ≡ true
 
-barredb : ℕ → Bool
-barredb k = listed (wordOf (onesAt + k)) tableWords && listed (wordOf (onesAt + ordinalStep + k)) tableWords
-
-barred : (k : ℕ) → k < 30 → (listed (wordOf (onesAt + k)) tableWords ≡ true) × (listed (wordOf (onesAt + ordinalStep + k)) tableWords ≡ true)
-unfolding barredb tableWords any lexicon
-barred k h =
-    and-eq-true-iff (listed (wordOf (onesAt + k)) tableWords) (listed (wordOf (onesAt + ordinalStep + k)) tableWords) .0
-    (below barredb 30 refl k h)
-
 small-barred : (w : Word) → Small w → Barred w
-small-barred w f = rw (f .word) (barred (f .place) (f .within) .0)
+small-barred w f = and-eq-true-iff (listed (spell w) tableWords) (listed (ordinalForm (spell w)) tableWords) .0 f .0
 
 form-barred : (w : Word) → Small w → Barred (other (ordinalForm (spell w)))
 unfolding spell
-form-barred w f = let h = f .within in rw (f .word, form-number (f .place) (omega arith)) (barred (f .place) h .1)
+form-barred w f = and-eq-true-iff (listed (spell w) tableWords) (listed (ordinalForm (spell w)) tableWords) .0 f .1
 
 lone-imply : (ws : List Word) → Lone Small ws → Lone Barred ws
 lone-imply [] h = tt

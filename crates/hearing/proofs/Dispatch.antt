@@ -12,14 +12,15 @@ use Rattle.lists.proofs.Every.{every-imply}
 use Rattle.lexicon.specs.Lexicon.{ordinals}
 use Rattle.lexicon.proofs.Laws.{lexicon}
 use Rattle.units.specs.Units.{abbreviations, unitWords, before}
-use Rattle.numerals.specs.Words.{Word, other, spell, spelled}
+use Rattle.numerals.specs.Words.{Word, other, spell, spelled, counted, vocabulary}
 use Rattle.numerals.specs.Cardinal.{cardinal}
 use Rattle.numerals.proofs.Digits.{spelled-append}
 use Rattle.rows.specs.Rows.{readWith}
 use Rattle.clear.specs.Clear.{plain}
-use Rattle.hearing.specs.Hear.{counted, vocabulary, know, known, firstWord, lastWord, butLast, hearDigits, isLetterWord, isLone, cardinalWord, withSuffix, hear}
+use Rattle.hearing.specs.Hear.{know, known, firstWord, lastWord, butLast, hearDigits, isLetterWord, isLone, cardinalWord, withSuffix, hear}
 use Rattle.hearing.proofs.Told.{HeededWith}
-use Rattle.hearing.proofs.Numerals.{Numeral, numeral-test, numeral-known, every-known, plain-some}
+use Rattle.hearing.proofs.Numerals.{numeral-known, every-known, plain-some}
+use Rattle.numerals.proofs.Vocabulary.{Numeral, numeral-test}
 
 -- ---- the words of a line
 

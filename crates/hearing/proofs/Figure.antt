@@ -11,12 +11,13 @@ use Rattle.lexicon.specs.Lexicon.{ordinals}
 use Rattle.lexicon.proofs.Laws.{lexicon}
 use Rattle.units.specs.Units.{unitAbbreviations, unitWords, before}
 use Rattle.shapes.specs.Shapes.{isDigits}
-use Rattle.numerals.specs.Words.{Word, other, spell}
+use Rattle.numerals.specs.Words.{Word, other, spell, counted, vocabulary}
 use Rattle.numerals.specs.Cardinal.{clean, cardinal, digits}
 use Rattle.clear.specs.Clear.{plain, tableWords, Fraction, no-point, a-point, no-sign, plus-sign, minus-sign, Exponent, no-exponent, an-exponent}
-use Rattle.hearing.specs.Hear.{counted, vocabulary, knowIn, know, inked, digitOf, signByte, smallValue, hearAfter, hears, hearFigure}
+use Rattle.hearing.specs.Hear.{knowIn, know, inked, digitOf, signByte, smallValue, hearAfter, hears, hearFigure}
 use Rattle.hearing.proofs.Shown.{inked-clean}
-use Rattle.hearing.proofs.Numerals.{Numeral, numeral-test, cardinal-numerals, digits-numerals, numeral-known, digits-back, plain-some, hear-plain}
+use Rattle.numerals.proofs.Vocabulary.{Numeral, numeral-test, cardinal-numerals, digits-numerals}
+use Rattle.hearing.proofs.Numerals.{numeral-known, digits-back, plain-some, hear-plain}
 use Rattle.hearing.proofs.Real.{fractionWords, exponentWords}
 
 -- ---- words that a figure may have

@@ -25,7 +25,8 @@ use Rattle.clear.specs.Clear.{plain, tableWords, Minus, no-minus, a-minus, Frac
 use Rattle.hearing.specs.Hear.{know, known, firstWord, lastWord, smallValue, timeLike, hearDigits, hearAfter, hearFigure, isLetterWord, isLone, hear, isSmall}
 use Rattle.hearing.proofs.Told.{HeededWith}
 use Rattle.hearing.proofs.Shown.{clean-length}
-use Rattle.hearing.proofs.Numerals.{Numeral, numeral-test, cardinal-numerals, digits-numerals, every-known, plain-some, hear-plain, hear-leading}
+use Rattle.numerals.proofs.Vocabulary.{Numeral, numeral-test, cardinal-numerals, digits-numerals}
+use Rattle.hearing.proofs.Numerals.{every-known, plain-some, hear-plain, hear-leading}
 use Rattle.hearing.proofs.Dispatch.{last-word, but-last, not-lone, numeral-no-letter, heeded}
 use Rattle.hearing.proofs.Real.{minusWords}
 use Rattle.hearing.proofs.Figure.{Fine, plainEnd, dictionary, numeral-fine, minus-is, Tail, none, part, front-heard, tail-fine, plain-part, figure-tail}

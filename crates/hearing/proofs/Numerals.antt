@@ -2,101 +2,30 @@
 use mathlib.Core.Path.{_≡_, refl, sym, ap, _∙_}
 use mathlib.Core.Bool.{Bool, true, false, cond, _&&_, and-false, and-eq-true-iff}
 use mathlib.Core.Logic.{⊎-elim}
-use mathlib.Core.List.{List, [], _∷_, _++_, map, nil≢cons}
-use Prim.Native.Nat.{ℕ, zero, suc, _+_, _≤_, _<_}
+use mathlib.Core.List.{List, [], _∷_, map, nil≢cons}
+use Prim.Native.Nat.{ℕ, zero, suc, _≤_, _<_}
 use Prim.Native.Char.{code}
-use native.Mathlib.Nat.{suc-add, zero-add}
 use native.Mathlib.Omega.{arith}
 use lib.Dec.{ltb, eqb}
 use lib.ListN.{length, getD, length-map}
 use borrow.Author.Tests.{lt-ltb, le-leb, lt-leb, ltb-true, eqb-true}
-use Rattle.lists.specs.Bytes.{same, starts, Every, all, any}
-use Rattle.lists.proofs.Recursion.{cond-elim}
+use Rattle.lists.specs.Bytes.{same, starts, Every, any}
 use Rattle.lists.proofs.Sets.{le-or-lt}
 use Rattle.lists.proofs.Table.{below}
-use Rattle.lists.proofs.Scan.{all-at}
 use Rattle.lexicon.proofs.Laws.{lexicon}
 use Rattle.units.specs.Units.{before}
 use Rattle.shapes.specs.Shapes.{isDigits, isLeadingZeroDigits}
-use Rattle.numerals.specs.Words.{Word, one, teen, ten, hundred, scale, spell, spelled}
+use Rattle.numerals.specs.Words.{Word, one, hundred, scale, spell, spelled, counted, vocabulary}
 use Rattle.numerals.specs.Cardinal.{clean, pair, scaleFor, join, cardinalFew, cardinalOf, cardinal, digits}
 use Rattle.numerals.specs.Value.{value, valueFrom}
 use Rattle.numerals.proofs.Cardinal.{few-induct, cardinal-1}
-use Rattle.numerals.proofs.Forms.{Says, ones-every, cardinal-every, Digits, clean-digits}
-use Rattle.numerals.proofs.Value.{cardinal-names}
+use Rattle.numerals.specs.Walk.{Digits}
+use Rattle.numerals.proofs.Vocabulary.{Numeral, clean-digits}
+use Rattle.numerals.proofs.Value.{cardinal-value}
 use Rattle.clear.specs.Clear.{plain}
-use Rattle.hearing.specs.Hear.{counted, vocabulary, knowIn, know, known, shown, digitOf, isOne, twoOnes, hearDigits}
+use Rattle.hearing.specs.Hear.{knowIn, know, known, shown, digitOf, isOne, twoOnes, hearDigits}
 use Rattle.clear.proofs.Figures.{plain-digits}
 use Rattle.hearing.proofs.Shown.{plain-values, shown-plain, clean-length, inked-clean}
-
--- a word that numbers are read with
-abbrev pub Numeral : Word → Type 0
-Numeral w = (k : ℕ) × (k < length vocabulary) × (w ≡ getD vocabulary k hundred)
-
--- what the vocabulary passes, each of its words passes: a computed test is a rule
-pub numeral-test : (p : Word → Bool) → all p vocabulary ≡ true → (w : Word) → Numeral w → p w ≡ true
-numeral-test p h w n = rw (n .2) (all-at p hundred vocabulary (n .0) h (n .1))
-
--- ---- the words of a cardinal number
-
--- counted words, in front of others
-counted-in : (f : ℕ → Word) (n k i : ℕ) (r : List Word) → i < k → getD (counted f n k ++ r) i hundred ≡ f (n + i)
-unfolding counted
-counted-in f n zero i r h = absurd (omega arith)
-counted-in f n (suc k) zero r h = ap f (omega arith)
-counted-in f n (suc k) (suc i) r h = counted-in f (suc n) k i r (omega arith) ∙ ap f (omega arith)
-
-counted-past : (f : ℕ → Word) (n k i : ℕ) (r : List Word) → getD (counted f n k ++ r) (k + i) hundred ≡ getD r i hundred
-unfolding counted
-counted-past f n zero i r = rw zero-add
-counted-past f n (suc k) i r = rw suc-add (counted-past f (suc n) k i r)
-
-abbrev fromTens : List Word
-fromTens = counted ten 1 9 ++ (hundred ∷ counted scale 1 3)
-
-abbrev fromTeens : List Word
-fromTeens = counted teen 1 9 ++ fromTens
-
-one-in : (d : ℕ) → d < 10 → Numeral (one d)
-unfolding vocabulary counted
-one-in d h = (d, omega arith, sym (counted-in one 0 10 d fromTeens h ∙ ap one (zero-add d)))
-
-teen-in : (d : ℕ) → suc d < 10 → Numeral (teen (suc d))
-unfolding vocabulary counted
-teen-in d h = (10 + d, omega arith, sym (counted-past one 0 10 d fromTeens ∙ counted-in teen 1 9 d fromTens (omega arith) ∙ ap teen (omega arith)))
-
-ten-in : (d : ℕ) → suc d < 10 → Numeral (ten (suc d))
-unfolding vocabulary counted
-ten-in d h =
-    let e : 10 + (9 + d) ≡ 19 + d = omega arith in (
-      19 + d,
-      omega arith,
-      sym
-          (rw e at (counted-past one 0 10 (9 + d) fromTeens) ∙ counted-past teen 1 9 d fromTens
-          ∙ counted-in ten 1 9 d (hundred ∷ counted scale 1 3) (omega arith) ∙ ap ten (omega arith)),
-    )
-
-hundred-in : Numeral hundred
-unfolding vocabulary counted
-hundred-in = (28, omega arith, refl)
-
-scale-in : (n : ℕ) → Numeral (scale (scaleFor n))
-unfolding vocabulary counted
-scale-in n =
-    cond-elim (λ k. Numeral (scale k)) (ltb 9 n) (λ e. (31, omega arith, refl))
-    (λ e. cond-elim (λ k. Numeral (scale k)) (ltb 6 n) (λ f. (30, omega arith, refl)) (λ f. (29, omega arith, refl)))
-
-numerals-said : Says (λ d. d < 10) Numeral
-numerals-said = record { ones = one-in; teens = teen-in; tens = ten-in; hundreds = hundred-in; scales = scale-in }
-
--- a cardinal number has no other words, nor have digits
-pub cardinal-numerals : (s : List ℕ) → Every Numeral (cardinal s)
-unfolding cardinal
-cardinal-numerals s = cardinal-every (λ d. d < 10) Numeral numerals-said (clean s) (clean-digits s)
-
-pub digits-numerals : (s : List ℕ) → Every Numeral (digits s)
-unfolding digits
-digits-numerals s = ones-every (λ d. d < 10) Numeral numerals-said (clean s) (clean-digits s)
 
 -- ---- words that are known
 
@@ -183,7 +112,7 @@ many s h = rw (lt-leb (length (clean s)) 12 h)
 
 -- the digits of the value of a number's words
 shown-value : (s : List ℕ) → plain s ≡ true → length (clean s) ≤ 12 → shown 11 (value (cardinal s)) [] ≡ clean s
-shown-value s h l = rw (cardinal-names s l) (shown-plain (clean s) 11 (clean-digits s) (plain-values s h) l)
+shown-value s h l = rw (cardinal-value s l) (shown-plain (clean s) 11 (clean-digits s) (plain-values s h) l)
 
 -- 0 is named by its own word alone
 pub zero-named : (s : List ℕ) → plain s ≡ true → length (clean s) ≤ 12 → value (cardinal s) ≡ 0 → cardinal s ≡ one 0 ∷ []

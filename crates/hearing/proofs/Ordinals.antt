@@ -20,7 +20,7 @@ use Rattle.lexicon.proofs.Laws.{lexicon}
 use Rattle.shapes.specs.Shapes.{startsChar, isOrdinal, isOrdinalSuffix}
 use Rattle.shapes.proofs.Laws.{digits-all, digits-some}
 use Rattle.units.specs.Units.{unitAbbreviations, unitWords, before}
-use Rattle.numerals.specs.Words.{Word, one, hundred, other, spell, spelled}
+use Rattle.numerals.specs.Words.{Word, one, hundred, other, spell, spelled, counted, vocabulary}
 use Rattle.numerals.specs.Cardinal.{clean, cardinal}
 use Rattle.numerals.specs.Ordinal.{formIn, ordinalForm, ordinal}
 use Rattle.numerals.specs.Value.{valueFrom, value}
@@ -28,12 +28,13 @@ use Rattle.numerals.proofs.Digits.{clean-commas, spelled-append}
 use Rattle.numerals.proofs.Flushing.{onLast-snoc}
 use Rattle.rows.specs.Rows.{readWith}
 use Rattle.clear.specs.Clear.{plain, suffix, tableWords}
-use Rattle.hearing.specs.Hear.{counted, vocabulary, isLone, cardinalWord}
+use Rattle.hearing.specs.Hear.{isLone, cardinalWord}
 use Rattle.hearing.proofs.Told.{HeededWith}
 use Rattle.rows.proofs.Taken.{doubleByte}
 use Rattle.clear.proofs.Figures.{plain-digits}
 use Rattle.clear.proofs.Suffixes.{suffix-elim, suffix-two}
-use Rattle.hearing.proofs.Numerals.{Numeral, numeral-test, cardinal-numerals, plain-some, zero-named, many-length, hear-plain}
+use Rattle.numerals.proofs.Vocabulary.{Numeral, numeral-test, cardinal-numerals}
+use Rattle.hearing.proofs.Numerals.{plain-some, zero-named, many-length, hear-plain}
 use Rattle.hearing.proofs.Suffixed.{read-ordinal}
 use Rattle.hearing.proofs.Dispatch.{lateWord, not-lone, numerals-known, hear-ordinal, heeded-late}
 

@@ -15,7 +15,7 @@ use Rattle.shapes.specs.Shapes.{isDigits, isLeadingZeroDigits}
 use Rattle.shapes.proofs.Laws.{digits-all, digits-some}
 use Rattle.numerals.specs.Cardinal.{clean, digitValue}
 use Rattle.numerals.specs.Value.{decimalFrom, decimal}
-use Rattle.numerals.proofs.Forms.{Digits}
+use Rattle.numerals.specs.Walk.{Digits}
 use Rattle.clear.specs.Clear.{plain}
 use Rattle.clear.proofs.Figures.{plain-digits}
 use Rattle.hearing.specs.Hear.{inked, shown}

@@ -16,7 +16,7 @@ use Rattle.lists.proofs.Every.{every-append, every-map, every-imply, every-at}
 use Rattle.lexicon.specs.Lexicon.{ordinals}
 use Rattle.lexicon.proofs.Laws.{lexicon}
 use Rattle.units.specs.Units.{unitAbbreviations, unitWords, before}
-use Rattle.numerals.specs.Words.{Word, one, other, spell, spelled}
+use Rattle.numerals.specs.Words.{Word, one, other, spell, spelled, counted, vocabulary}
 use Rattle.numerals.specs.Cardinal.{clean, pair, cardinalOf, cardinal, digits}
 use Rattle.numerals.proofs.Digits.{spelled-append}
 use Rattle.numerals.proofs.Cardinal.{cardinal-2}
@@ -26,9 +26,10 @@ use Rattle.years.proofs.YearLaws.{year-two}
 use Rattle.rows.specs.Rows.{clock}
 use Rattle.clear.specs.Clear.{isHour, isMinute, HalfDay, am, pm}
 use Rattle.clear.proofs.Times.{hour-parts}
-use Rattle.hearing.specs.Hear.{counted, vocabulary, know, knowIn, known, firstWord, lastWord, isLetterWord, timeLike, hearTime, hear, isSmall}
+use Rattle.hearing.specs.Hear.{know, knowIn, known, firstWord, lastWord, isLetterWord, timeLike, hearTime, hear, isSmall}
 use Rattle.hearing.proofs.Shown.{clean-length}
-use Rattle.hearing.proofs.Numerals.{Numeral, numeral-test, cardinal-numerals, digits-numerals, numeral-known, every-known, plain-some}
+use Rattle.numerals.proofs.Vocabulary.{Numeral, numeral-test, cardinal-numerals, digits-numerals}
+use Rattle.hearing.proofs.Numerals.{numeral-known, every-known, plain-some}
 use Rattle.hearing.proofs.Dispatch.{not-lone, but-last}
 use Rattle.hearing.proofs.Times.{minute-parts, time-like, time-heard}
 

@@ -19,7 +19,8 @@ use Rattle.numerals.specs.Value.{decimalFrom, decimal}
 use Rattle.years.specs.Year.{yearStep, yearOf, year}
 use Rattle.rows.specs.Rows.{clock}
 use Rattle.clear.specs.Clear.{isHour, isMinute}
-use Rattle.numerals.proofs.Forms.{Digits, clean-digits}
+use Rattle.numerals.specs.Walk.{Digits}
+use Rattle.numerals.proofs.Vocabulary.{clean-digits}
 use Rattle.hearing.specs.Hear.{inked, shown, digitOf, isOne, smallValue, isLate, timeLike, hearMinute, hearTime, timeText, isSmall}
 use Rattle.clear.proofs.Figures.{plain-digits}
 use Rattle.clear.proofs.Times.{hour-parts}

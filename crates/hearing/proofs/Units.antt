@@ -24,7 +24,8 @@ use Rattle.hearing.proofs.Told.{HeededWith}
 use Rattle.rows.proofs.Taken.{doubleByte}
 use Rattle.clear.proofs.Figures.{plain-digits}
 use Rattle.clear.proofs.Suffixes.{unit-row, unit-at}
-use Rattle.hearing.proofs.Numerals.{cardinal-numerals, hear-plain}
+use Rattle.numerals.proofs.Vocabulary.{cardinal-numerals}
+use Rattle.hearing.proofs.Numerals.{hear-plain}
 use Rattle.hearing.proofs.Suffixed.{read-unit}
 use Rattle.hearing.proofs.Dispatch.{lateWord, plain-not-lone, hear-unit, heeded-late}
 

@@ -12,7 +12,8 @@ use Rattle.lists.proofs.Scan.{all-append}
 use Rattle.numerals.specs.Words.{Word, one, teen, ten, hundred, scale}
 use Rattle.numerals.specs.Cardinal.{clean, pair, scaleFor, join, cardinalFew, cardinal, digits}
 use Rattle.numerals.proofs.Cardinal.{few-induct, cardinalOf-elim}
-use Rattle.numerals.proofs.Forms.{Digits, clean-digits}
+use Rattle.numerals.specs.Walk.{Digits}
+use Rattle.numerals.proofs.Vocabulary.{clean-digits}
 use Rattle.hearing.specs.Hear.{digitOf, smallValue, isSmall, isLate, timeLike}
 
 -- the words sound like no time, and a word that is alone is small

@@ -8,20 +8,11 @@ use lib.ListN.{length, take, drop, getD}
 use Rattle.lists.specs.Bytes.{bytes, all, any, same, small, listed}
 use Rattle.lexicon.specs.Lexicon.{cardinals, ordinals}
 use Rattle.units.specs.Units.{abbreviations, unitWords, before}
-use Rattle.numerals.specs.Words.{Word, one, teen, ten, hundred, scale, other, spell}
+use Rattle.numerals.specs.Words.{Word, one, teen, ten, hundred, scale, other, spell, vocabulary}
 use Rattle.numerals.specs.Value.{value}
 use Rattle.clear.specs.Clear.{suffix, dotted, tableWords}
 
 -- ---- words
-
--- the words f n, f (n + 1), .. of which there are k
-unfoldable pub counted : (ℕ → Word) → ℕ → ℕ → List Word
-counted f n zero = []
-counted f n (suc k) = f n ∷ counted f (suc n) k
-
--- the words that a cardinal number is read with
-unfoldable pub vocabulary : List Word
-vocabulary = counted one 0 10 ++ (counted teen 1 9 ++ (counted ten 1 9 ++ (hundred ∷ counted scale 1 3)))
 
 -- the word that is spelled so
 unfoldable pub knowIn : List Word → List ℕ → Word

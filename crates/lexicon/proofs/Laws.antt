@@ -1,20 +1,20 @@
--- The rows are the words', and where the tables stand: each one test at every number, which antt computes. Assumes nothing.
+-- The rows are the words': each law is one test at every number, which antt computes. Assumes nothing.
 use mathlib.Core.Path.{_≡_, refl}
 use mathlib.Core.Bool.{Bool}
 use mathlib.Core.List.{List, [], _++_}
 use mathlib.Core.Logic.{⊎-elim}
-use Prim.Native.Nat.{ℕ, _+_, _<_, _≤_, _/_}
+use Prim.Native.Nat.{ℕ, _<_, _≤_, _/_}
 use native.Mathlib.Omega.{arith}
 use lib.Dec.{eqb, leb}
-use lib.ListN.{length, getD, List·getD-eq-default}
+use lib.ListN.{length, List·getD-eq-default}
 use borrow.Author.Tests.{eqb-true, leb-true}
-use Rattle.lists.specs.Bytes.{bytes, same, sameBy}
+use Rattle.lists.specs.Bytes.{same, sameBy}
 use Rattle.lists.specs.LittleEndian.{leValue, leBytes}
 use Rattle.lists.specs.Packed.{pack, unpack}
 use Rattle.lists.proofs.Sets.{le-or-lt}
 use Rattle.lists.proofs.Rows.{unpack-pack}
 use Rattle.lists.proofs.Table.{below, same-true}
-use Rattle.lexicon.specs.Lexicon.{units, ones, teens, tens, scales, ordinalOnes, ordinalTeens, ordinalTens, ordinalScales, others, cardinals, ordinals, words, wordOf, lowOf, highOf, onesAt, ordinalStep}
+use Rattle.lexicon.specs.Lexicon.{units, ones, teens, tens, scales, ordinalOnes, ordinalTeens, ordinalTens, ordinalScales, others, cardinals, ordinals, words, wordOf, lowOf, highOf}
 
 -- to compute all words
 unfoldable pub lexicon : Unit {0}
@@ -36,22 +36,6 @@ holds k = same (halves k) (pack (wordOf k))
 pub row-halves : (k : ℕ) → halves k ≡ pack (wordOf k)
 unfolding holds lexicon
 row-halves k = ⊎-elim (λ (h : 91 ≤ k). rw (no-word k h)) (λ (h : k < 91). same-true _ _ (below holds 91 refl k h)) (le-or-lt 91 k)
-
-cardinal : ℕ → Bool
-cardinal k = same (wordOf (onesAt + k)) (bytes (getD cardinals k ""))
-
--- the words with ordinal forms stand from `onesAt` on
-pub cardinal-word : (k : ℕ) → k < 34 → wordOf (onesAt + k) ≡ bytes (getD cardinals k "")
-unfolding cardinal lexicon
-cardinal-word k h = same-true _ _ (below cardinal 34 refl k h)
-
-ordinal : ℕ → Bool
-ordinal k = same (wordOf (onesAt + ordinalStep + k)) (bytes (getD ordinals k ""))
-
--- and their ordinal forms after them, in the same order
-pub ordinal-word : (k : ℕ) → k < 34 → wordOf (onesAt + ordinalStep + k) ≡ bytes (getD ordinals k "")
-unfolding ordinal lexicon
-ordinal-word k h = same-true _ _ (below ordinal 34 refl k h)
 
 abbrev lastByte : ℕ → ℕ
 lastByte k = highOf k / 0x0100_0000_0000_0000

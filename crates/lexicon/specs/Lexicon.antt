@@ -1,4 +1,4 @@
--- The words that are called, by number. Definitions only.
+-- The words that are called. Definitions only.
 use mathlib.Core.List.{List, [], _∷_, _++_, map}
 use Prim.Native.Nat.{ℕ}
 use Prim.Native.String.{String}
@@ -6,12 +6,6 @@ use lib.ListN.{take, drop, getD}
 use Rattle.lists.specs.Bytes.{bytes}
 use Rattle.lists.specs.LittleEndian.{leValue}
 use Rattle.lists.specs.Packed.{pack}
-
--- the words of the unit abbreviations
-unfoldable pub units : List String
-units =
-    "pounds" ∷ "feet" ∷ "kilograms" ∷ "kilometers" ∷ "centimeters" ∷ "millimeters" ∷ "milliliters" ∷ "ounces"
-    ∷ "hertz" ∷ "kilohertz" ∷ "megahertz" ∷ "gigahertz" ∷ "kilobytes" ∷ "gigabytes" ∷ "megabytes" ∷ "terabytes" ∷ []
 
 -- the tables of numbers.rs: ONES, TEENS, TENS, and with "hundred" its scales, smallest first
 unfoldable pub ones : List String
@@ -45,10 +39,6 @@ ordinalTens =
 unfoldable pub ordinalScales : List String
 ordinalScales = "hundredth" ∷ "thousandth" ∷ "millionth" ∷ "billionth" ∷ []
 
--- the other words of numbers.rs, and the two words of row 10
-unfoldable pub others : List String
-others = "oh" ∷ "point" ∷ "minus" ∷ "plus" ∷ "e" ∷ "per" ∷ "cent" ∷ []
-
 -- the words that have ordinal forms, and those forms
 unfoldable pub cardinals : List String
 cardinals = ones ++ (teens ++ (tens ++ scales))
@@ -56,6 +46,19 @@ cardinals = ones ++ (teens ++ (tens ++ scales))
 unfoldable pub ordinals : List String
 ordinals = ordinalOnes ++ (ordinalTeens ++ (ordinalTens ++ ordinalScales))
 
+-- ---- no public promise is made of these
+
+-- the words of the unit abbreviations
+unfoldable pub units : List String
+units =
+    "pounds" ∷ "feet" ∷ "kilograms" ∷ "kilometers" ∷ "centimeters" ∷ "millimeters" ∷ "milliliters" ∷ "ounces"
+    ∷ "hertz" ∷ "kilohertz" ∷ "megahertz" ∷ "gigahertz" ∷ "kilobytes" ∷ "gigabytes" ∷ "megabytes" ∷ "terabytes" ∷ []
+
+-- the other words of numbers.rs, and the two words of row 10
+unfoldable pub others : List String
+others = "oh" ∷ "point" ∷ "minus" ∷ "plus" ∷ "e" ∷ "per" ∷ "cent" ∷ []
+
+-- every word, by number
 unfoldable pub words : List (List ℕ)
 words = map bytes (units ++ (cardinals ++ (ordinals ++ others)))
 

@@ -1,13 +1,11 @@
 -- The digits of a text, byte by byte. Assumes nothing.
 use mathlib.Core.Path.{_≡_, refl, sym, ap, _∙_}
 use mathlib.Core.Bool.{Bool, true, false, cond, not}
-use mathlib.Core.List.{List, [], _∷_, _++_, map, map-append, append-assoc, append-nil}
+use mathlib.Core.List.{List, [], _∷_, _++_, map, map-append, append-assoc}
 use Prim.Native.Nat.{ℕ, suc, _+_, _-_, _≤_, _<_}
-use native.Mathlib.Numerals.{add-one}
 use native.Mathlib.Omega.{arith}
 use lib.Dec.{eqb}
-use lib.ListN.{length, getD, take, drop, set, length-append, drop-of-length-le}
-use lib.Seq.{take-suc-set, length-take-le}
+use lib.ListN.{length, getD, take, drop}
 use borrow.Author.Tests.{le-leb, lt-leb, eqb-true, eqb-false}
 use Rattle.lists.specs.Bytes.{keep, afterLast}
 use Rattle.lists.specs.Classes.{digit, except}
@@ -79,27 +77,6 @@ clean-commas (b ∷ s) = go (eqb b 44) refl (clean-commas s) ∙ sym (clean-cons
         → clean (cond (not t) (b ∷ keep (except 44) s) (keep (except 44) s)) ≡ cond (digit b) (digitValue b ∷ clean s) (clean s)
     go true e r = r ∙ rw (eqb-true b 44 e)
     go false e r = clean-cons b (keep (except 44) s) ∙ rw r
-
--- a loop that picks digits has those before i in d
-module _ (s d : List ℕ) (n i : ℕ) (h : i < length s) (e : clean s ≡ take n d ++ clean (drop i s)) where
-  -- a byte that is no digit is passed over
-  pub pick-none : clean (getD s i 0 ∷ []) ≡ [] → clean s ≡ take n d ++ clean (drop (i + 1) s)
-  pick-none z = e ∙ rw (clean-at s i h, z)
-
-  module _ (v : 48 ≤ getD s i 0) (u : getD s i 0 ≤ 57) where
-    at-digit : clean s ≡ take n d ++ (digitValue (getD s i 0) ∷ clean (drop (i + 1) s))
-    at-digit = e ∙ rw (clean-at s i h, clean-digit (getD s i 0) v u)
-
-    pub pick-digit : n < length d → clean s ≡ take (n + 1) (set d n (digitValue (getD s i 0))) ++ clean (drop (i + 1) s)
-    pick-digit k = rw (add-one n, take-suc-set d n (digitValue (getD s i 0)) k, append-assoc) at-digit
-
-    pub pick-over : n ≤ length d → n < length (clean s)
-    pick-over l = omega (arith, ap length at-digit, length-append (take n d) (digitValue (getD s i 0) ∷ clean (drop (i + 1) s)), length-take-le n d l)
-
--- at the end all digits are picked
-pub pick-end : (s d : List ℕ) (n i : ℕ) → length s ≤ i → clean s ≡ take n d ++ clean (drop i s) → take n d ≡ clean s
-unfolding clean keep
-pick-end s d n i h e = sym (e ∙ rw (drop-of-length-le s h) (append-nil (take n d)))
 
 -- ---- the last digit
 

@@ -12,10 +12,11 @@ use Rattle.sink.specs.Sink.{Sink, emit, emitAll}
 use Rattle.numerals.specs.Words.{Word, one, other, spell, spelled}
 use Rattle.numerals.specs.Cardinal.{clean, cardinalFew, cardinalOf, cardinal, digits}
 use Rattle.numerals.specs.Ordinal.{ordinalForm, orZero, onLast, ordinal}
-use Rattle.numerals.specs.Walk.{numberOf, HeldSink, flushed, holds, holdAll, ordinalNumber}
+use Rattle.numerals.specs.Walk.{Digits, numberOf, HeldSink, flushed, holds, holdAll, ordinalNumber}
 use Rattle.sink.proofs.Finish.{emitAll-append}
 use Rattle.numerals.proofs.Digits.{clean-commas, spelled-append}
-use Rattle.numerals.proofs.Forms.{Numbered, spell-number, number-some, few-numbered, Formed, formed-form, formed-numbered, zero-formed, form-number, few-formed, clean-digits}
+use Rattle.numerals.proofs.Vocabulary.{Numeral, one-in, few-numerals, clean-digits}
+use Rattle.numerals.proofs.Forms.{spell-number, number-some, form-number, digit-form}
 
 -- a writer that holds no word
 abbrev pub free : Sink → HeldSink
@@ -26,37 +27,37 @@ unfolding flushed
 flushed-some h z = rw (ne-eqb (h .last) 0 (omega arith))
 
 -- the next word is held, and then written
-flush-next : (w : Word) (h : HeldSink) → Numbered w → flushed (holds (numberOf w) h) ≡ emit (spell w) (flushed h)
+flush-next : (w : Word) (h : HeldSink) → Numeral w → flushed (holds (numberOf w) h) ≡ emit (spell w) (flushed h)
 unfolding holds
 flush-next w h n = flushed-some (holds (numberOf w) h) (number-some w n) ∙ rw (spell-number w n)
 
 -- all words are written in the end
-flush-all : (ws : List Word) (h : HeldSink) → Every Numbered ws → flushed (holdAll (map numberOf ws) h) ≡ emitAll (spelled ws) (flushed h)
+flush-all : (ws : List Word) (h : HeldSink) → Every Numeral ws → flushed (holdAll (map numberOf ws) h) ≡ emitAll (spelled ws) (flushed h)
 unfolding holdAll emitAll spelled
 flush-all [] h n = refl
 flush-all (w ∷ ws) h n = flush-all ws (holds (numberOf w) h) (n .1) ∙ ap (emitAll (spelled ws)) (flush-next w h (n .0))
 
 -- the words of up to twelve digits are all written in the end
-pub few-said : (s : List ℕ) (σ : Sink) {h : HeldSink} {τ : Sink} → h ≡ holdAll (map numberOf (cardinalFew s)) (free σ) → τ ≡ flushed h
-    → τ ≡ emitAll (spelled (cardinalFew s)) σ
+pub few-said : (s : List ℕ) (σ : Sink) {h : HeldSink} {τ : Sink} → Digits s → h ≡ holdAll (map numberOf (cardinalFew s)) (free σ)
+    → τ ≡ flushed h → τ ≡ emitAll (spelled (cardinalFew s)) σ
 unfolding flushed
-few-said s σ e f = f ∙ ap flushed e ∙ flush-all (cardinalFew s) (free σ) (few-numbered s)
+few-said s σ d e f = f ∙ ap flushed e ∙ flush-all (cardinalFew s) (free σ) (few-numerals s d)
 
 -- the last word is written in its ordinal form
 abbrev ordinally : HeldSink → Sink
 ordinally h = emit (wordOf (ordinalNumber (h .last))) (h .sink)
 
-last-formed : (w : Word) (ws : List Word) (h : HeldSink) → Every Formed (w ∷ ws)
+last-formed : (w : Word) (ws : List Word) (h : HeldSink) → Every Numeral (w ∷ ws)
     → ordinally (holdAll (map numberOf (w ∷ ws)) h) ≡ emitAll (spelled (onLast (w ∷ ws))) (flushed h)
 unfolding holdAll holds emitAll spelled spell onLast
-last-formed w [] h f = rw (formed-form w (f .0))
+last-formed w [] h f = rw (form-number w (f .0))
 last-formed w (v ∷ ws) h f =
     last-formed v ws (holds (numberOf w) h) (f .1)
-    ∙ ap (emitAll (spelled (onLast (v ∷ ws)))) (flush-next w h (formed-numbered w (f .0)))
+    ∙ ap (emitAll (spelled (onLast (v ∷ ws)))) (flush-next w h (f .0))
 
-or-zero-formed : (ws : List Word) (σ : Sink) → Every Formed ws → ordinally (holdAll (map numberOf ws) (free σ)) ≡ emitAll (spelled (onLast (orZero ws))) σ
+or-zero-formed : (ws : List Word) (σ : Sink) → Every Numeral ws → ordinally (holdAll (map numberOf ws) (free σ)) ≡ emitAll (spelled (onLast (orZero ws))) σ
 unfolding holdAll orZero flushed emitAll spelled spell onLast ordinalNumber numberOf
-or-zero-formed [] σ f = rw (formed-form (one 0) zero-formed)
+or-zero-formed [] σ f = rw (form-number (one 0) (one-in 0 (omega arith)))
 or-zero-formed (w ∷ ws) σ f = last-formed w ws (free σ) f
 
 -- commas are no digits, so `ordinal` reads the same digits as `cardinal`
@@ -69,7 +70,7 @@ pub ordinal-said : (s ds : List ℕ) (σ : Sink) {h : HeldSink} {τ : Sink} → 
     → h ≡ holdAll (map numberOf (cardinalFew ds)) (free σ) → (k : ℕ) → k ≡ ordinalNumber (h .last) → τ ≡ emit (wordOf k) (h .sink)
     → τ ≡ emitAll (spelled (ordinal s)) σ
 ordinal-said s ds σ d m e k q f =
-    f ∙ rw (q, e, d, ordinal-few s m) (or-zero-formed (cardinalFew (clean s)) σ (few-formed (clean s) (clean-digits s)))
+    f ∙ rw (q, e, d, ordinal-few s m) (or-zero-formed (cardinalFew (clean s)) σ (few-numerals (clean s) (clean-digits s)))
 
 -- ---- more digits than are few
 
@@ -96,5 +97,5 @@ long-said s t d σ h e p q =
       onLast-snoc (map one (clean t)) (one d),
       spelled-append (map one (clean t)) (other (ordinalForm (spell (one d))) ∷ []),
       emitAll-append (spelled (map one (clean t))) (ordinalForm (spell (one d)) ∷ []) σ,
-      form-number d (omega arith),
+      digit-form d z,
     )

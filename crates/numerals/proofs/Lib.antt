@@ -1,6 +1,8 @@
 pub mod Digits
+pub mod Picking
 pub mod Holding
 pub mod Cardinal
+pub mod Vocabulary
 pub mod Forms
 pub mod Flushing
 pub mod Value

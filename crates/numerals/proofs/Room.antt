@@ -8,17 +8,17 @@ use native.Mathlib.Omega.{arith}
 use lib.Dec.{leb}
 use lib.ListN.{length, getD, length-append, length-map}
 use borrow.Author.Tests.{leb-true, lt-leb}
-use Rattle.lists.specs.Bytes.{keep, Every}
+use Rattle.lists.specs.Bytes.{keep, all, Every}
 use Rattle.lists.specs.Classes.{digit, except}
 use Rattle.lists.proofs.Scan.{keep-le}
 use Rattle.lists.proofs.Table.{upto, below}
-use Rattle.lexicon.specs.Lexicon.{wordOf, onesAt, ordinalStep}
 use Rattle.lexicon.proofs.Laws.{lexicon}
-use Rattle.numerals.specs.Words.{Word, one, hundred, scale, spell, spelled}
+use Rattle.numerals.specs.Words.{Word, one, hundred, scale, spell, spelled, counted, vocabulary}
 use Rattle.numerals.specs.Cardinal.{digitValue, clean, pair, scaleFor, join, splitAt, cardinalFew, cardinalOf, cardinal, digits}
 use Rattle.numerals.specs.Ordinal.{formIn, ordinalForm, orZero, onLast, ordinal}
+use Rattle.numerals.specs.Walk.{Digits}
 use Rattle.numerals.proofs.Cardinal.{split-parts, few-induct, cardinalOf-elim, cardinal-2}
-use Rattle.numerals.proofs.Forms.{Digits, Formed, formed-spell, cardinal-formed, clean-digits}
+use Rattle.numerals.proofs.Vocabulary.{Numeral, numeral-test, cardinal-numerals, clean-digits}
 
 -- the bytes that the words take of a line, where a space stands before each
 abbrev pub width : List Word → ℕ
@@ -144,28 +144,24 @@ unfolding digits
 digits-room s = omega (arith, ones-room (clean s) (clean-digits s), clean-le s)
 
 -- an ordinal form has at most three bytes more than its word
-form-small : (w : Word) → Formed w → length (ordinalForm (spell w)) ≤ length (spell w) + 3
-unfolding ordinalForm formIn lexicon
-form-small w f =
-    rw (formed-spell w f)
-    (leb-true _ _
-    (below (λ k. leb (length (ordinalForm (wordOf (onesAt + k)))) (length (wordOf (onesAt + k)) + 3)) ordinalStep refl (f .place)
-    (f .within)))
+form-small : (w : Word) → Numeral w → length (ordinalForm (spell w)) ≤ length (spell w) + 3
+unfolding vocabulary counted spell lexicon ordinalForm formIn all
+form-small w n = leb-true _ _ (numeral-test (λ w. leb (length (ordinalForm (spell w))) (length (spell w) + 3)) refl w n)
 
-last-room : (ws : List Word) → Every Formed ws → Room (length ws) (width ws + 3) (onLast ws)
+last-room : (ws : List Word) → Every Numeral ws → Room (length ws) (width ws + 3) (onLast ws)
 unfolding onLast spell
 last-room [] h = omega arith
 last-room (w ∷ []) h = omega (arith, form-small w (h .0))
 last-room (w ∷ v ∷ ws) h = omega (arith, last-room (v ∷ ws) (h .1))
 
-zero-room : (n : ℕ) (ws : List Word) → Every Formed ws → Number n ws → RoomFor n (onLast (orZero ws))
+zero-room : (n : ℕ) (ws : List Word) → Every Numeral ws → Number n ws → RoomFor n (onLast (orZero ws))
 unfolding orZero onLast spell ordinalForm formIn lexicon
 zero-room n [] h r = omega arith
 zero-room n (w ∷ ws) h r = omega (arith, last-room (w ∷ ws) h)
 
 -- the words of its ordinal number
 pub ordinal-room : (s : List ℕ) → RoomFor (length s) (ordinal s)
-unfolding ordinal cardinal
+unfolding ordinal
 ordinal-room s =
     let t = keep (except (code ",")) s in
-    omega (arith, zero-room (length t) (cardinalOf (clean t)) (cardinal-formed (clean t) (clean-digits t)) (cardinal-room t), keep-le (except (code ",")) s)
+    omega (arith, zero-room (length t) (cardinal t) (cardinal-numerals t) (cardinal-room t), keep-le (except (code ",")) s)

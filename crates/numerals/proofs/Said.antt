@@ -1,14 +1,24 @@
 -- Words said one after the other. Assumes nothing.
 use mathlib.Core.Path.{_≡_, sym, _∙_}
 use mathlib.Core.List.{List, [], _∷_, _++_, map, map-append}
+use Prim.Native.Nat.{ℕ, _+_, _<_}
+use Rattle.lexicon.specs.Lexicon.{wordOf, onesAt, scalesAt}
 use Rattle.sink.specs.Sink.{Sink, emit, emitAll}
 use Rattle.sink.proofs.Finish.{emitAll-append}
-use Rattle.numerals.specs.Words.{Word, spell, spelled}
+use Rattle.numerals.specs.Words.{Word, one, hundred, spell, spelled}
+use Rattle.numerals.proofs.Forms.{digit-number, hundred-number}
 
 -- one word
 pub said-word : (w : Word) (σ : Sink) {τ : Sink} → τ ≡ emit (spell w) σ → τ ≡ emitAll (spelled (w ∷ [])) σ
 unfolding emitAll spelled
 said-word w σ d = d
+
+-- the word of a digit, and "hundred", by their numbers
+pub said-digit : (d : ℕ) → d < 10 → (σ : Sink) {τ : Sink} → τ ≡ emit (wordOf (onesAt + d)) σ → τ ≡ emitAll (spelled (one d ∷ [])) σ
+said-digit d h σ e = said-word (one d) σ (rw (digit-number d h) e)
+
+pub said-hundred : (σ : Sink) {τ : Sink} → τ ≡ emit (wordOf scalesAt) σ → τ ≡ emitAll (spelled (hundred ∷ [])) σ
+said-hundred σ e = said-word hundred σ (rw hundred-number e)
 
 -- one run of words after another
 pub says-more : (ws vs : List Word) {us : List Word} → us ≡ ws ++ vs → (σ : Sink) {ρ τ : Sink} → ρ ≡ emitAll (spelled ws) σ

@@ -1,44 +1,56 @@
 -- The words of a number of up to twelve digits name its decimal value. Assumes nothing.
 use mathlib.Core.Path.{_≡_, refl, sym, ap, _∙_}
 use mathlib.Core.Bool.{Bool, true, false, cond}
-use mathlib.Core.List.{List, [], _∷_, _++_, append-nil}
+use mathlib.Core.List.{List, [], _∷_, _++_, map, append-nil}
+use mathlib.Core.Option.{Option, some}
 use Prim.Native.Nat.{ℕ, zero, suc, _+_, _*_, _^_, _≤_, _<_}
+use Prim.Native.Char.{code}
 use native.Mathlib.Nat.{pow-suc, zero-add}
 use native.Mathlib.Omega.{arith}
 use lib.Dec.{eqb}
 use lib.ListN.{length, take, drop, length-take, length-drop, take-append-drop}
 use lib.Pow.{pow-add}
 use borrow.Author.Tests.{eqb-true, le-leb}
-use Rattle.numerals.specs.Words.{Word, one, hundred, scale}
-use Rattle.numerals.specs.Cardinal.{clean, pair, scaleFor, join, splitAt, byScale, cardinalStep, cardinalFew, cardinalOf, cardinal}
-use Rattle.numerals.specs.Value.{valueFrom, value, decimalFrom, decimal}
+use Rattle.lists.specs.Bytes.{keep, sameBy, Every}
+use Rattle.lists.specs.Classes.{except}
+use Rattle.lexicon.proofs.Laws.{lexicon}
+use Rattle.numerals.specs.Words.{Word, one, hundred, scale, spell, spelled, counted, vocabulary}
+use Rattle.numerals.specs.Cardinal.{clean, pair, scaleFor, join, splitAt, byScale, cardinalStep, cardinalFew, cardinalOf, cardinal, digits}
+use Rattle.numerals.specs.Ordinal.{formIn, ordinalForm, orZero, onLast, ordinal}
+use Rattle.numerals.specs.Value.{Meaning, adds, cardinalMeanings, ordinalMeanings, meaningIn, prepend, meaningsOf, ordinalMeaningsOf, valueFrom, valueOf, ordinalValueOf, decimalFrom, decimal, meant, value}
+use Rattle.numerals.proofs.Digits.{clean-commas}
 use Rattle.numerals.proofs.Cardinal.{split-parts, cardinal-eq}
+use Rattle.numerals.proofs.Vocabulary.{Numeral, numeral-same, one-in, cardinal-numerals, digits-numerals}
 
-pair-value : (t c a b : ℕ) (ws : List Word) → valueFrom t c (pair a b ++ ws) ≡ valueFrom t (c + (a * 10 + b)) ws
+-- the value of words that follow others, by what each stands for
+abbrev wordsFrom : ℕ → ℕ → List Word → ℕ
+wordsFrom t c ws = valueFrom t c (map meant ws)
+
+pair-value : (t c a b : ℕ) (ws : List Word) → wordsFrom t c (pair a b ++ ws) ≡ wordsFrom t (c + (a * 10 + b)) ws
 unfolding valueFrom pair
-pair-value t c zero zero ws = ap (λ (x : ℕ). valueFrom t x ws) (omega arith)
-pair-value t c zero (suc b) ws = ap (λ (x : ℕ). valueFrom t x ws) (omega arith)
-pair-value t c (suc a) zero ws = ap (λ (x : ℕ). valueFrom t x ws) (omega arith)
-pair-value t c (suc zero) (suc b) ws = ap (λ (x : ℕ). valueFrom t x ws) (omega arith)
-pair-value t c (suc (suc a)) (suc b) ws = ap (λ (x : ℕ). valueFrom t x ws) (omega arith)
+pair-value t c zero zero ws = ap (λ (x : ℕ). wordsFrom t x ws) (omega arith)
+pair-value t c zero (suc b) ws = ap (λ (x : ℕ). wordsFrom t x ws) (omega arith)
+pair-value t c (suc a) zero ws = ap (λ (x : ℕ). wordsFrom t x ws) (omega arith)
+pair-value t c (suc zero) (suc b) ws = ap (λ (x : ℕ). wordsFrom t x ws) (omega arith)
+pair-value t c (suc (suc a)) (suc b) ws = ap (λ (x : ℕ). wordsFrom t x ws) (omega arith)
 
-two-value : (t a b : ℕ) (ws : List Word) → valueFrom t 0 (cardinalFew (a ∷ b ∷ []) ++ ws) ≡ valueFrom t (a * 10 + b) ws
+two-value : (t a b : ℕ) (ws : List Word) → wordsFrom t 0 (cardinalFew (a ∷ b ∷ []) ++ ws) ≡ wordsFrom t (a * 10 + b) ws
 unfolding cardinalStep
-two-value t a b ws = rw (cardinal-eq (a ∷ b ∷ [])) (pair-value t 0 a b ws ∙ ap (λ (x : ℕ). valueFrom t x ws) (omega arith))
+two-value t a b ws = rw (cardinal-eq (a ∷ b ∷ [])) (pair-value t 0 a b ws ∙ ap (λ (x : ℕ). wordsFrom t x ws) (omega arith))
 
 -- up to three digits add to what a scale word then closes
-group-value : (t : ℕ) (s : List ℕ) (ws : List Word) → length s ≤ 3 → valueFrom t 0 (cardinalFew s ++ ws) ≡ valueFrom t (decimal s) ws
+group-value : (t : ℕ) (s : List ℕ) (ws : List Word) → length s ≤ 3 → wordsFrom t 0 (cardinalFew s ++ ws) ≡ wordsFrom t (decimal s) ws
 unfolding valueFrom cardinalStep decimal decimalFrom
 group-value t [] ws h = rw (cardinal-eq [])
-group-value t (a ∷ []) ws h = rw (cardinal-eq (a ∷ [])) (ap (λ (x : ℕ). valueFrom t x ws) (omega arith))
-group-value t (a ∷ b ∷ []) ws h = two-value t a b ws ∙ ap (λ (x : ℕ). valueFrom t x ws) (omega arith)
+group-value t (a ∷ []) ws h = rw (cardinal-eq (a ∷ [])) (ap (λ (x : ℕ). wordsFrom t x ws) (omega arith))
+group-value t (a ∷ b ∷ []) ws h = two-value t a b ws ∙ ap (λ (x : ℕ). wordsFrom t x ws) (omega arith)
 group-value t (a ∷ b ∷ c ∷ []) ws h = rw (cardinal-eq (a ∷ b ∷ c ∷ [])) (go (eqb a 0) refl)
   where
     go : (z : Bool) → eqb a 0 ≡ z
-        → valueFrom t 0 (cond z (cardinalFew (b ∷ c ∷ [])) (one a ∷ hundred ∷ pair b c) ++ ws) ≡ valueFrom t
+        → wordsFrom t 0 (cond z (cardinalFew (b ∷ c ∷ [])) (one a ∷ hundred ∷ pair b c) ++ ws) ≡ wordsFrom t
         (((0 * 10 + a) * 10 + b) * 10 + c) ws
-    go true e = two-value t b c ws ∙ ap (λ (x : ℕ). valueFrom t x ws) (omega (arith, eqb-true a 0 e))
-    go false e = pair-value t ((0 + a) * 100) b c ws ∙ ap (λ (x : ℕ). valueFrom t x ws) (omega arith)
+    go true e = two-value t b c ws ∙ ap (λ (x : ℕ). wordsFrom t x ws) (omega (arith, eqb-true a 0 e))
+    go false e = pair-value t ((0 + a) * 100) b c ws ∙ ap (λ (x : ℕ). wordsFrom t x ws) (omega arith)
 group-value t (a ∷ b ∷ c ∷ d ∷ s) ws h = absurd (omega arith)
 
 decimalFrom-split : (s : List ℕ) (n : ℕ) → decimalFrom n s ≡ n * 10 ^ length s + decimalFrom 0 s
@@ -59,14 +71,14 @@ pub decimal-append : (a b : List ℕ) → decimal (a ++ b) ≡ decimal a * 10 ^ 
 unfolding decimal
 decimal-append a b = decimalFrom-append a b 0 ∙ decimalFrom-split b (decimalFrom 0 a)
 
-join-value : (t k : ℕ) (s : List ℕ) (r : List Word) → length s ≤ 3 → valueFrom t 0 (join (cardinalFew s) (scale k) r) ≡ valueFrom (t + decimal s * 1000 ^ k) 0 r
+join-value : (t k : ℕ) (s : List ℕ) (r : List Word) → length s ≤ 3 → wordsFrom t 0 (join (cardinalFew s) (scale k) r) ≡ wordsFrom (t + decimal s * 1000 ^ k) 0 r
 unfolding valueFrom join
 join-value t k s r h = go (cardinalFew s) refl
   where
-    go : (g : List Word) → cardinalFew s ≡ g → valueFrom t 0 (join g (scale k) r) ≡ valueFrom (t + decimal s * 1000 ^ k) 0 r
+    go : (g : List Word) → cardinalFew s ≡ g → wordsFrom t 0 (join g (scale k) r) ≡ wordsFrom (t + decimal s * 1000 ^ k) 0 r
     go [] e =
         let z : decimal s ≡ 0 = omega (arith, rw e at (group-value 0 s [] h)) in
-        ap (λ (x : ℕ). valueFrom x 0 r) (rw z (omega arith))
+        ap (λ (x : ℕ). wordsFrom x 0 r) (rw z (omega arith))
     go (w ∷ g) e = rw e at (group-value t s (scale k ∷ r) h)
 
 pow-thousand : (k : ℕ) → 1000 ^ k ≡ 10 ^ (3 * k)
@@ -79,12 +91,12 @@ cut-value s i k e =
     let l : length (drop i s) ≡ 3 * k = length-drop i s ∙ omega arith in
     rw (pow-thousand k) (rw l at (sym (decimal-append (take i s) (drop i s))) ∙ ap decimal (take-append-drop i s))
 
-group-end : (t : ℕ) (s : List ℕ) → length s ≤ 3 → valueFrom t 0 (cardinalFew s) ≡ t + decimal s
+group-end : (t : ℕ) (s : List ℕ) → length s ≤ 3 → wordsFrom t 0 (cardinalFew s) ≡ t + decimal s
 unfolding valueFrom
 group-end t s h = rw append-nil at (group-value t s [] h)
 
 -- for strings shorter than m, since the parts of a string are shorter
-shorter-value : (m t : ℕ) (s : List ℕ) → length s < m → length s ≤ 12 → valueFrom t 0 (cardinalFew s) ≡ t + decimal s
+shorter-value : (m t : ℕ) (s : List ℕ) → length s < m → length s ≤ 12 → wordsFrom t 0 (cardinalFew s) ≡ t + decimal s
 unfolding valueFrom cardinalStep byScale
 shorter-value zero t s l h = absurd (omega arith)
 shorter-value (suc m) t [] l h = group-end t [] (omega arith)
@@ -102,13 +114,56 @@ shorter-value (suc m) t (a ∷ b ∷ c ∷ d ∷ r) l h =
     ∙ shorter-value m u (drop i s) (omega (arith, length-drop i s, p .whole, p .right)) (omega (arith, length-drop i s))
     ∙ omega (arith, cut-value s i k (p .whole)))
 
--- the words of up to twelve digits name their decimal value
-pub cardinal-value : (s : List ℕ) → length s ≤ 12 → value (cardinalFew s) ≡ decimal s
-unfolding value
-cardinal-value s h = shorter-value (suc (length s)) 0 s (omega arith) h ∙ zero-add (decimal s)
+-- the words of up to twelve digits stand for their decimal value
+pub cardinal-value : (s : List ℕ) → length (clean s) ≤ 12 → value (cardinal s) ≡ decimal (clean s)
+unfolding value cardinal cardinalOf
+cardinal-value s h =
+    rw (le-leb (length (clean s)) 12 h) (shorter-value (suc (length (clean s))) 0 (clean s) (omega arith) h ∙ zero-add (decimal (clean s)))
+
+-- ---- the words as they are spelled
+
+-- each word of a number, and its ordinal form, means what it stands for
+spell-means : (w : Word) → Numeral w → meaningIn cardinalMeanings (spell w) ≡ some (meant w)
+unfolding vocabulary counted spell lexicon meaningIn cardinalMeanings sameBy
+spell-means = numeral-same (λ w. meaningIn cardinalMeanings (spell w)) (λ w. some (meant w)) refl
+
+form-means : (w : Word) → Numeral w → meaningIn ordinalMeanings (ordinalForm (spell w)) ≡ some (meant w)
+unfolding vocabulary counted spell lexicon ordinalForm formIn meaningIn ordinalMeanings sameBy
+form-means = numeral-same (λ w. meaningIn ordinalMeanings (ordinalForm (spell w))) (λ w. some (meant w)) refl
+
+spelled-mean : (ws : List Word) → Every Numeral ws → meaningsOf (spelled ws) ≡ some (map meant ws)
+unfolding meaningsOf spelled prepend
+spelled-mean [] h = refl
+spelled-mean (w ∷ ws) h = rw (spell-means w (h .0), spelled-mean ws (h .1))
+
+last-means : (w : Word) (ws : List Word) → Every Numeral (w ∷ ws) → ordinalMeaningsOf (spelled (onLast (w ∷ ws))) ≡ some (map meant (w ∷ ws))
+unfolding ordinalMeaningsOf spelled spell prepend onLast
+last-means w [] h = rw (form-means w (h .0))
+last-means w (v ∷ []) h = rw (spell-means w (h .0), form-means v (h .1 .0))
+last-means w (v ∷ u ∷ ws) h = rw (spell-means w (h .0), last-means v (u ∷ ws) (h .1))
 
 -- "For 1 to 12 digits without a leading zero ("0" itself counts as such) the words are proved to name the decimal value": a
 -- leading zero adds nothing, and no words name 0, so neither is left out here
-pub cardinal-names : (s : List ℕ) → length (clean s) ≤ 12 → value (cardinal s) ≡ decimal (clean s)
-unfolding cardinal cardinalOf
-cardinal-names s h = rw (le-leb (length (clean s)) 12 h) (cardinal-value (clean s) h)
+pub cardinal-names : (s : List ℕ) → length (clean s) ≤ 12 → valueOf (spelled (cardinal s)) ≡ some (decimal (clean s))
+unfolding valueOf value
+cardinal-names s h = rw (spelled-mean (cardinal s) (cardinal-numerals s), ← cardinal-value s h)
+
+-- so do those of an ordinal number
+pub ordinal-names : (s : List ℕ) → length (clean s) ≤ 12 → ordinalValueOf (spelled (ordinal s)) ≡ some (decimal (clean s))
+unfolding ordinal ordinalValueOf value valueFrom orZero
+ordinal-names s h =
+    let t = keep (except (code ",")) s in
+    go (cardinal t) (cardinal-numerals t) (cardinal-value t (rw (clean-commas s) h) ∙ ap decimal (clean-commas s))
+  where
+    go : (ws : List Word) → Every Numeral ws → value ws ≡ decimal (clean s) → ordinalValueOf (spelled (onLast (orZero ws))) ≡ some (decimal (clean s))
+    go [] h e = rw (last-means (one 0) [] (one-in 0 (omega arith), tt), ← e)
+    go (w ∷ ws) h e = rw (last-means w ws h, ← e)
+
+-- each word of a text's digits adds its digit
+pub digits-name : (s : List ℕ) → meaningsOf (spelled (digits s)) ≡ some (map adds (clean s))
+unfolding digits
+digits-name s = spelled-mean (digits s) (digits-numerals s) ∙ ap {B = Option (List Meaning)} some (go (clean s))
+  where
+    go : (ds : List ℕ) → map meant (map one ds) ≡ map adds ds
+    go [] = refl
+    go (d ∷ ds) = ap (λ (ms : List Meaning). adds d ∷ ms) (go ds)

@@ -1,10 +1,10 @@
 -- What the walkers of this crate pass on to each other. Definitions only; no public promise is made of them.
-use mathlib.Core.Path.{_≡_}
 use mathlib.Core.Bool.{Bool, cond, _&&_, _||_}
 use mathlib.Core.List.{List, [], _∷_}
-use Prim.Native.Nat.{ℕ, _+_, _≤_, _<_}
+use Prim.Native.Nat.{ℕ, zero, suc, _+_, _<_}
 use lib.Dec.{leb, ltb, eqb}
-use lib.ListN.{length, take, getD}
+use lib.ListN.{length, getD}
+use Rattle.lists.specs.Bytes.{Every}
 use Rattle.lexicon.specs.Lexicon.{wordOf, onesAt, teensAt, tensAt, scalesAt, ordinalStep}
 use Rattle.sink.specs.Sink.{Sink, sink, emit}
 use Rattle.numerals.specs.Words.{Word, one, teen, ten, hundred, scale, other}
@@ -12,11 +12,19 @@ use Rattle.numerals.specs.Cardinal.{clean}
 use Rattle.numerals.specs.declared.few.Few.{Few}
 use Rattle.numerals.specs.declared.held.Held.{Held}
 
--- the values of a text's digits, as far as they are few
-pub record FewOf (s : List ℕ) (r : Few) : Type 0 where
-  pub all : r .n ≤ 12 → take (r .n) (r .d) ≡ clean s
-  pub more : 12 < r .n → 12 < length (clean s)
-  pub size : length (r .d) ≡ 12
+-- values of digits: each is below ten
+abbrev pub Digits : List ℕ → Type 0
+Digits = Every (λ d. d < 10)
+
+-- the first k values, and 0 for each that is missing
+unfoldable pub padded : ℕ → List ℕ → List ℕ
+padded zero ds = []
+padded (suc k) [] = 0 ∷ padded k []
+padded (suc k) (d ∷ ds) = d ∷ padded k ds
+
+-- the values of a text's first twelve digits, and how many digits it has, 13 where they are more
+unfoldable pub fewOf : List ℕ → Few
+fewOf s = record { d = padded 12 (clean s); n = cond (leb (length (clean s)) 12) (length (clean s)) 13 }
 
 -- a word's number in the lexicon
 unfoldable pub numberOf : Word → ℕ

@@ -1,7 +1,9 @@
 -- The words of numbers: what each stands for, and how it is spelled. Definitions only.
-use mathlib.Core.List.{List, map}
-use Prim.Native.Nat.{ℕ, _+_}
-use Rattle.lexicon.specs.Lexicon.{wordOf, onesAt, teensAt, tensAt, scalesAt}
+use mathlib.Core.List.{List, [], _∷_, _++_, map}
+use Prim.Native.Nat.{ℕ, zero, suc}
+use lib.ListN.{getD}
+use Rattle.lists.specs.Bytes.{bytes}
+use Rattle.lexicon.specs.Lexicon.{ones, teens, tens, scales}
 
 -- a word of ONES, TEENS or TENS by its place there; "hundred"; thousand, million and billion as scales 1 to 3; any other word
 pub data Word : Type 0 where
@@ -10,13 +12,25 @@ pub data Word : Type 0 where
   scale : ℕ → Word
   other : List ℕ → Word
 
+-- nothing where the table has no such place
 unfoldable pub spell : Word → List ℕ
-spell (one d) = wordOf (onesAt + d)
-spell (teen d) = wordOf (teensAt + d)
-spell (ten d) = wordOf (tensAt + d)
-spell hundred = wordOf scalesAt
-spell (scale k) = wordOf (scalesAt + k)
+spell (one d) = bytes (getD ones d "")
+spell (teen d) = bytes (getD teens d "")
+spell (ten d) = bytes (getD tens d "")
+spell hundred = bytes "hundred"
+spell (scale k) = bytes (getD scales k "")
 spell (other w) = w
 
 unfoldable pub spelled : List Word → List (List ℕ)
 spelled = map spell
+
+-- ---- no public promise is made of these
+
+-- the words f n, f (n + 1), .. of which there are k
+unfoldable pub counted : (ℕ → Word) → ℕ → ℕ → List Word
+counted f n zero = []
+counted f n (suc k) = f n ∷ counted f (suc n) k
+
+-- the words that a cardinal number is read with
+unfoldable pub vocabulary : List Word
+vocabulary = counted one 0 10 ++ (counted teen 1 9 ++ (counted ten 1 9 ++ (hundred ∷ counted scale 1 3)))

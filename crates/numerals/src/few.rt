@@ -1,5 +1,6 @@
 // The digits of a text, picked from its own bytes, as far as they are few.
-ghost use Rattle.numerals.specs.Walk.{FewOf};
+ghost use mathlib.Core.Path.{_≡_};
+ghost use Rattle.numerals.specs.Walk.{fewOf};
 
 // The most digits of a number that is read by scales.
 pub const FEW: usize = 12;
@@ -12,7 +13,7 @@ pub struct Few {
 
 // The values of the digits of s.
 pub fn find_few(s: &[u8]) -> Few
-    ensures { λ r. ⌜ FewOf (now (s .entry)) r ⌝ }
+    ensures { λ r. ⌜ r ≡ fewOf (now (s .entry)) ⌝ }
 {
     let mut d = [0u8; 12];
     let mut n: usize = 0;

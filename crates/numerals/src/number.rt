@@ -28,7 +28,7 @@ ghost use Rattle.sink.specs.Sink.{sink, emitAll};
 ghost use Rattle.numerals.specs.Words.{spelled};
 ghost use Rattle.numerals.specs.Cardinal.{clean, scaleFor, cardinalFew, cardinal};
 ghost use Rattle.numerals.specs.Ordinal.{ordinal};
-ghost use Rattle.numerals.specs.Walk.{numberOf, held, holdAll, silentOf};
+ghost use Rattle.numerals.specs.Walk.{Digits, numberOf, held, holdAll, silentOf};
 
 // Whether up to three digits have no words.
 fn silent(ds: &[u8]) -> bool
@@ -82,7 +82,7 @@ fn hold_cardinal(ds: &[u8], store: &mut [u8], table: &mut [u8], h: Held) -> Held
 
 // Says the cardinal number of up to twelve digits, given by their values.
 pub fn say_few(ds: &[u8], store: &mut [u8], table: &mut [u8], pen: Pen) -> Pen
-    requires { ⌜ length (now ds) ≤ 12 ⌝ }
+    requires { ⌜ (length (now ds) ≤ 12) × Digits (now ds) ⌝ }
     ensures { λ r. ⌜ sink (now (store .exit)) (now (table .exit)) r ≡ emitAll (spelled (cardinalFew (now (ds .entry)))) (sink (now (store .entry)) (now (table .entry)) pen) ⌝ }
 {
     let start = Held { pen, last: NONE };

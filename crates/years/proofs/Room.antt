@@ -8,7 +8,8 @@ use lib.ListN.{length}
 use Rattle.lists.proofs.Recursion.{recur-induct, cond-elim}
 use Rattle.numerals.specs.Words.{Word, hundred, spell}
 use Rattle.numerals.specs.Cardinal.{clean, cardinalOf}
-use Rattle.numerals.proofs.Forms.{Digits, clean-digits}
+use Rattle.numerals.specs.Walk.{Digits}
+use Rattle.numerals.proofs.Vocabulary.{clean-digits}
 use Rattle.numerals.proofs.Room.{Number, together, one-room, two-room, hundred-room, cardinalOf-room, clean-le, ones-room}
 use Rattle.years.specs.Year.{zeroAt, yearStep, yearOf, year}
 

@@ -1,7 +1,6 @@
 -- The digits of a text one by one, and how the reading of a year goes on. Assumes nothing.
 use mathlib.Core.Path.{_≡_, refl, sym, ap, _∙_}
 use mathlib.Core.Bool.{Bool, true, false, cond, not, _&&_}
-use mathlib.Core.Logic.{⊎-elim}
 use mathlib.Core.List.{List, [], _∷_, _++_, map}
 use Prim.Native.Nat.{ℕ, suc, _+_, _-_, _%_, _≤_, _<_}
 use native.Mathlib.Numerals.{add-one}
@@ -14,15 +13,16 @@ use Rattle.lists.specs.Bytes.{bytes, span, count, keep}
 use Rattle.lists.specs.Classes.{digit, nonDigit}
 use Rattle.lists.proofs.Recursion.{Local, recur-eq}
 use Rattle.lists.proofs.Scan.{span-le}
-use Rattle.lists.proofs.Sets.{le-or-lt}
 use Rattle.lexicon.specs.Lexicon.{wordOf, othersAt}
 use Rattle.lexicon.proofs.Laws.{lexicon}
 use Rattle.numerals.specs.Words.{Word, one, hundred, other, spelled}
 use Rattle.numerals.specs.Cardinal.{digitValue, clean, pair, cardinalFew, cardinalOf}
-use Rattle.numerals.specs.Walk.{FewOf}
+use Rattle.numerals.specs.Walk.{Digits, fewOf}
 use Rattle.numerals.specs.declared.few.Few.{Few}
 use Rattle.numerals.proofs.Digits.{spelled-append}
 use Rattle.numerals.proofs.Cardinal.{cardinal-2}
+use Rattle.numerals.proofs.Vocabulary.{clean-digits, digit-at}
+use Rattle.numerals.proofs.Picking.{few-digits}
 use Rattle.years.specs.Year.{yearStep, yearOf, year}
 use Rattle.years.specs.Walk.{PickedFrom, leadCount, leadWords}
 use Rattle.years.specs.declared.Picked.{Picked}
@@ -171,6 +171,10 @@ pub as-three : (s : List ℕ) → length s ≡ 3 → getD s 0 0 ∷ getD s 1 0 �
 as-three [] h = absurd (omega arith)
 as-three (a ∷ s) h = ap (λ (t : List ℕ). a ∷ t) (as-two s (omega arith))
 
+-- a digit that is picked is below ten
+pub picked-small : (s : List ℕ) (a : Picked) → PickedFrom s a → a .value < 10
+picked-small s a p = digit-at (clean s) 0 (clean-digits s) (p .digit)
+
 -- one digit picked after another
 pub picked-two : (s : List ℕ) (a b : Picked) → PickedFrom s a → PickedFrom (drop (a .next) s) b
     → (b .value ≡ getD (clean s) 1 0) × (clean (drop (a .next + b .next) s) ≡ drop 2 (clean s)) × (a .next + b .next ≤ length s)
@@ -190,8 +194,9 @@ module _ (s : List ℕ) (i n left : ℕ) (e : left ≡ length (clean (drop i s))
   year-at h = ap spelled (year-long (clean (drop i s)) left e h) ∙ rw (spelled-append, after)
 
 -- the last digits, at most four
-pub year-last : (s : List ℕ) (left : ℕ) → left ≡ length (clean s) → left ≤ 4 → (r : Few) → FewOf s r → {t : List ℕ} → t ≡ take (r .n) (r .d) → (length t ≤ 4) × (yearOf t ≡ year s)
+pub year-last : (s : List ℕ) (left : ℕ) → left ≡ length (clean s) → left ≤ 4 → (f : Few) → f ≡ fewOf s → {t : List ℕ} → t ≡ take (f .n) (f .d)
+    → (length t ≤ 4) × Digits t × (yearOf t ≡ year s)
 unfolding year
-year-last s left e h r f q =
-    let all : take (r .n) (r .d) ≡ clean s = ⊎-elim (λ (k : r .n ≤ 12). f .all k) (λ (k : 12 < r .n). absurd (omega (arith, f .more k))) (le-or-lt (r .n) 12) in
-    (omega (arith, ap length (q ∙ all)), ap yearOf (q ∙ all))
+year-last s left e h f q u =
+    let d = u ∙ few-digits s f q (omega arith) in
+    rw d (omega arith, clean-digits s, refl)

@@ -22,6 +22,7 @@ ghost use lib.ListN.{length, drop};
 ghost use Rattle.sink.specs.Sink.{sink, emitAll};
 ghost use Rattle.numerals.specs.Words.{spelled};
 ghost use Rattle.numerals.specs.Cardinal.{clean, pair};
+ghost use Rattle.numerals.specs.Walk.{Digits};
 ghost use Rattle.years.specs.Year.{yearOf, year};
 ghost use Rattle.years.specs.Walk.{PickedFrom, leadCount, leadWords};
 
@@ -45,6 +46,7 @@ fn pick(s: &[u8]) -> Picked
 
 // Says two digits as `cardinal` reads them.
 fn say_pair(a: u8, b: u8, store: &mut [u8], table: &mut [u8], pen: Pen) -> Pen
+    requires { ⌜ Digits (a ∷ b ∷ []) ⌝ }
     ensures { λ r. ⌜ sink (now (store .exit)) (now (table .exit)) r ≡ emitAll (spelled (pair a b)) (sink (now (store .entry)) (now (table .entry)) pen) ⌝ }
 {
     let ds = [a, b];
@@ -72,6 +74,7 @@ fn say_lead(lone: bool, s: &[u8], store: &mut [u8], table: &mut [u8], pen: Pen) 
 
 // Says the last two digits of a year.
 fn say_two(a: u8, b: u8, store: &mut [u8], table: &mut [u8], pen: Pen) -> Pen
+    requires { ⌜ Digits (a ∷ b ∷ []) ⌝ }
     ensures { λ r. ⌜ sink (now (store .exit)) (now (table .exit)) r ≡ emitAll (spelled (yearOf (a ∷ b ∷ []))) (sink (now (store .entry)) (now (table .entry)) pen) ⌝ }
 {
     if a != 0 {
@@ -87,6 +90,7 @@ fn say_two(a: u8, b: u8, store: &mut [u8], table: &mut [u8], pen: Pen) -> Pen
 
 // Says the last three digits of a year.
 fn say_three(a: u8, b: u8, c: u8, store: &mut [u8], table: &mut [u8], pen: Pen) -> Pen
+    requires { ⌜ Digits (a ∷ b ∷ c ∷ []) ⌝ }
     ensures { λ r. ⌜ sink (now (store .exit)) (now (table .exit)) r ≡ emitAll (spelled (yearOf (a ∷ b ∷ c ∷ []))) (sink (now (store .entry)) (now (table .entry)) pen) ⌝ }
 {
     let p = say(ONES + a as usize, store, table, pen);
@@ -98,7 +102,7 @@ fn say_three(a: u8, b: u8, c: u8, store: &mut [u8], table: &mut [u8], pen: Pen) 
 
 // Says the last four digits of a year: "2000" and "2005" as cardinal numbers, "1900" as hundreds.
 fn say_four(ds: &[u8], store: &mut [u8], table: &mut [u8], pen: Pen) -> Pen
-    requires { ⌜ length (now ds) ≡ 4 ⌝ }
+    requires { ⌜ (length (now ds) ≡ 4) × Digits (now ds) ⌝ }
     ensures { λ r. ⌜ sink (now (store .exit)) (now (table .exit)) r ≡ emitAll (spelled (yearOf (now (ds .entry)))) (sink (now (store .entry)) (now (table .entry)) pen) ⌝ }
 {
     let b = byte_at(ds, 1);
@@ -116,7 +120,7 @@ fn say_four(ds: &[u8], store: &mut [u8], table: &mut [u8], pen: Pen) -> Pen
 
 // Says a year of up to four digits, given by their values.
 fn say_last(ds: &[u8], store: &mut [u8], table: &mut [u8], pen: Pen) -> Pen
-    requires { ⌜ length (now ds) ≤ 4 ⌝ }
+    requires { ⌜ (length (now ds) ≤ 4) × Digits (now ds) ⌝ }
     ensures { λ r. ⌜ sink (now (store .exit)) (now (table .exit)) r ≡ emitAll (spelled (yearOf (now (ds .entry)))) (sink (now (store .entry)) (now (table .entry)) pen) ⌝ }
 {
     let n = ds.len();

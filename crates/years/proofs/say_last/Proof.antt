@@ -1,4 +1,5 @@
 use Rattle.years.proofs.YearLaws.{year-few, as-two, as-three}
+use Rattle.numerals.proofs.Vocabulary.{digit-at}
 use borrow.Author.Needs.{needs}
 use Rattle.years.proofs.say_last.Statement.{statement}
 use Rattle.years.proofs.say_last.Tie as tie
@@ -16,7 +17,11 @@ say-last-spec =
     rw (year-few (at-if1 .before .before .before .before .args .ds .now) (at-if1 .if1 .taken)) (at-say-few .say-few .ensures))
     (λ c κs. search needs)
     (λ c κs. search needs)
-    (λ c κs. search needs)
+    (λ c κs.
+    let at-byte-at2 = c .before .before in
+    let start = at-byte-at2 .before .before .before .before .before .before .before in
+    let s = start .args .ds .now in
+    (digit-at s 0 (start .pre .1) (at-byte-at2 .before .byte-at .ensures), (digit-at s 1 (start .pre .1) (at-byte-at2 .byte-at2 .ensures), tt)))
     (λ c. search needs)
     (λ c. search needs)
     (λ c.
@@ -31,7 +36,13 @@ say-last-spec =
     (λ c κs. search needs)
     (λ c κs. search needs)
     (λ c κs. search needs)
-    (λ c κs. search needs)
+    (λ c κs.
+    let at-byte-at5 = c .before .before in
+    let start = at-byte-at5 .before .before .before .before .before .before .before .before .before in
+    let s = start .args .ds .now in (
+      digit-at s 0 (start .pre .1) (at-byte-at5 .before .before .byte-at3 .ensures),
+      (digit-at s 1 (start .pre .1) (at-byte-at5 .before .byte-at4 .ensures), (digit-at s 2 (start .pre .1) (at-byte-at5 .byte-at5 .ensures), tt)),
+    ))
     (λ c. search needs)
     (λ c. search needs)
     (λ c.

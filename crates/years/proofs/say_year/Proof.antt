@@ -60,8 +60,10 @@ say-year-spec =
     let at-front = c .before .before in
     let at-find-few = at-front .before .before .before in
     let l = at-find-few .before .before .before .loop in
+    let q =
     year-last _ (l .left) (l .inv .0) (omega arith) _ (rw (at-find-few .before .tail2 .ensures) at (at-find-few .find-few .ensures))
-    (at-front .front .ensures) .0)
+    (at-front .front .ensures) in
+    (q .0, q .1))
     (λ c. search needs)
     (λ c. search needs)
     (λ c.
@@ -72,4 +74,4 @@ say-year-spec =
     let q =
     year-last _ (l .left) (l .inv .0) (omega arith) _ (rw (at-find-few .before .tail2 .ensures) at (at-find-few .find-few .ensures))
     (at-front .front .ensures) in
-    (rw (q .1) at (at-say-last .say-last .ensures)) ∙ l .inv .1 .left))
+    (rw (q .2) at (at-say-last .say-last .ensures)) ∙ l .inv .1 .left))

@@ -14,4 +14,5 @@ say-few-spec =
     let at-flush = c .before .before .before .before in
     let after-hold-cardinal = at-flush .before .before .before .before in
     let at-hold-cardinal = after-hold-cardinal .before .before .before in
-    few-said (at-hold-cardinal .before .before .before .before .before .before .args .ds .now) _ (at-hold-cardinal .hold-cardinal .ensures) (at-flush .flush .ensures)))
+    let start = at-hold-cardinal .before .before .before .before .before .before in
+    few-said (start .args .ds .now) _ (start .pre .1) (at-hold-cardinal .hold-cardinal .ensures) (at-flush .flush .ensures)))

@@ -1,9 +1,6 @@
-use mathlib.Core.Path.{ap}
-use Prim.Native.Nat.{_≤_}
-use native.Mathlib.Omega.{arith}
-use lib.ListN.{length, take}
-use Rattle.numerals.specs.Cardinal.{clean}
-use lib.Seq.{length-take-le}
+use lib.ListN.{take}
+use Rattle.sink.specs.Sink.{sink}
+use Rattle.numerals.proofs.Picking.{few-digits, few-more, few-all}
 use Rattle.numerals.proofs.Flushing.{ordinal-said}
 use borrow.Author.Needs.{needs}
 use Rattle.numerals.proofs.number.say_ordinal.Statement.{statement}
@@ -14,7 +11,9 @@ say-ordinal-spec =
     tie.close
     (tie.spec
     (λ c κs. search needs)
-    (λ c κs. c .before .before .before .before .find-few .ensures .more (c .before .before .if1 .taken))
+    (λ c κs.
+    let at-find-few = c .before .before .before .before in
+    few-more (at-find-few .before .before .before .before .args .s .now) _ (at-find-few .find-few .ensures) (c .before .before .if1 .taken))
     (λ c. search needs)
     (λ c. search needs)
     (λ c. search needs)
@@ -22,13 +21,12 @@ say-ordinal-spec =
     (λ c κs. search needs)
     (λ c κs.
     let at-front = c .before .before in
-    let at-find-few = at-front .before .before .before .before .before in
-    rw (at-front .front .ensures)
-    (omega (
-      arith,
-      length-take-le (at-find-few .find-few .result .n) (at-find-few .find-few .result .d)
-          (omega (arith, at-find-few .find-few .ensures .size)),
-    )))
+    let at-if1 = at-front .before .before .before in
+    let at-find-few = at-if1 .before .before in
+    let s = at-find-few .before .before .before .before .args .s .now in
+    let e = at-find-few .find-few .ensures in
+    let n = few-all s _ e (at-if1 .if1 .left) in
+    rw (at-front .front .ensures, few-digits s _ e n) n)
     (λ c κs. search needs)
     (λ c κs. search needs)
     (λ c. search needs)
@@ -41,9 +39,8 @@ say-ordinal-spec =
     let at-if1 = at-front .before .before .before in
     let at-find-few = at-if1 .before .before in
     let start = at-find-few .before .before .before .before in
+    let s = start .args .s .now in
     let f = at-find-few .find-few in
-    let e = f .ensures .all (at-if1 .if1 .left) in
-    let n : length (clean (start .args .s .now)) ≤ 12 = omega (arith, ap length e, length-take-le (f .result .n) (f .result .d) (omega (arith, f .ensures .size))) in
-    ordinal-said (start .args .s .now) (take (f .result .n) (f .result .d)) _ e n
-    (rw (at-front .front .ensures) at (at-hold-cardinal .hold-cardinal .ensures)) _ (at-ordinal-number .ordinal-number .ensures)
-    (at-say .say .ensures)))
+    let n = few-all s (f .result) (f .ensures) (at-if1 .if1 .left) in
+    ordinal-said s (take (f .result .n) (f .result .d)) (sink (start .args .store .now) (start .args .table .now) (start .args .pen)) (few-digits s (f .result) (f .ensures) n) n (rw (at-front .front .ensures) at (at-hold-cardinal .hold-cardinal .ensures)) _
+    (at-ordinal-number .ordinal-number .ensures) (at-say .say .ensures)))

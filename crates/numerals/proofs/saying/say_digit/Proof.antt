@@ -1,7 +1,9 @@
+use native.Mathlib.Omega.{arith}
 use Rattle.sink.specs.Sink.{emitAll}
-use Rattle.numerals.specs.Words.{spelled, spell}
-use Rattle.numerals.specs.Cardinal.{digits}
+use Rattle.numerals.specs.Words.{spelled}
+use Rattle.numerals.specs.Cardinal.{digitValue, digits}
 use Rattle.numerals.proofs.Digits.{clean-low, clean-high, clean-digit}
+use Rattle.numerals.proofs.Said.{said-digit}
 use borrow.Author.Needs.{needs}
 use Rattle.numerals.proofs.saying.say_digit.Statement.{statement}
 use Rattle.numerals.proofs.saying.say_digit.Tie as tie
@@ -15,11 +17,12 @@ unfolding digits spelled emitAll
 returns-2 c = rw (clean-high _ (c .before .if1 .left) (c .if2 .taken))
 
 returns-3 : tie.Need-returns-3
-unfolding digits spelled emitAll spell
+unfolding digits
 returns-3 c =
     let at-say = c .before .before .before .before in
     let at-if2 = at-say .before .before .before in
-    rw (clean-digit _ (at-if2 .before .if1 .left) (at-if2 .if2 .left)) (at-say .say .ensures)
+    let b = at-if2 .before .before .before .before .args .b in
+    rw (clean-digit b (at-if2 .before .if1 .left) (at-if2 .if2 .left)) (said-digit (digitValue b) (omega (arith, at-if2 .if2 .left)) _ (at-say .say .ensures))
 
 pub say-digit-spec : {M : Type 1} → statement M
 say-digit-spec =
