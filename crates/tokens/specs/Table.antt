@@ -33,11 +33,6 @@ unfoldable pub records : ℕ → List Token → List ℕ
 records at [] = []
 records at (t ∷ ts) = recordOf at t ++ records (at + size t) ts
 
--- the parts of the tokens, joined
-unfoldable pub joined : List Token → List ℕ
-joined [] = []
-joined (t ∷ ts) = flatten (parts t) ++ joined ts
-
 -- the count of tokens, and the buffer's final bytes
 pub record Filled : Type 0 where
   pub tokens : ℕ
