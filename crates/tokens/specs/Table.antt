@@ -24,10 +24,6 @@ size t = length (flatten (parts t))
 unfoldable pub recordOf : ℕ → Token → List ℕ
 recordOf at t = tableOf at (parts t)
 
--- the bytes of a record
-abbrev pub recordBytes : ℕ
-recordBytes = 32
-
 -- the records of tokens of which the first starts at the offset `at`
 unfoldable pub records : ℕ → List Token → List ℕ
 records at [] = []
@@ -55,6 +51,10 @@ abbrev pub asFilled : Tokens → List ℕ → Call Filled
 asFilled r buffer = record { refusal = r .refusal; value = record { tokens = r .tokens; buffer = buffer } }
 
 -- ---- no public promise is made of these
+
+-- the bytes of a record
+abbrev pub recordBytes : ℕ
+recordBytes = 32
 
 -- where the parts of a token start that starts at the offset `at`, and where the last one ends
 abbrev pub placesOf : ℕ → Token → Places
