@@ -18,7 +18,7 @@ use Rattle.rows.specs.declared.Row.{Row}
 use Rattle.sheets.specs.Sheet.{SheetEntry, entries, lineOf, callSheet}
 use Rattle.sheets.specs.Calls.{nameLimit, isLong, anyLong, sheetCall, entryAt, lineAt, entryCall}
 use Rattle.sheets.proofs.Entries.{line-at}
-use Rattle.entries.specs.Find.{named, FoundAt}
+use Rattle.entries.specs.Find.{named, Sought, sought, asSought}
 use Rattle.entries.specs.declared.Found.{Found}
 use Rattle.calls.specs.Answers.{asSheet, asEntry}
 use Rattle.calls.specs.Walk.{refusedSheet, refusedEntry, lineTo, linesTo, nameCall}
@@ -94,16 +94,19 @@ module _ (s old : List ℕ) {n : ℕ} (due : n ≡ textRefusal textLimit s) wher
     entry-refused z q = rw q (held text here due _ _ z)
 
     -- r is where the code has found it, if it has
-    module _ (z : n ≡ 0) {r : Found} (f : FoundAt s k r) where
+    module _ (z : n ≡ 0) (r : Found) (f : asSought s r ≡ sought s k) where
+      there : r .found ≡ ltb k (length (tokens s))
+      there = ap (λ (x : Sought). x .found) f
+
       -- there is no such entry
       pub entry-none : r .found ≡ false → {a : CalledEntry} → a ≡ refusedEntry 3 → asEntry a old ≡ entryCall s k old
       unfolding entryCall
-      entry-none t q = rw (q, passed text here due z, le-leb (length (tokens s)) k (ltb-false _ _ (sym (f .there) ∙ t)))
+      entry-none t q = rw (q, passed text here due z, le-leb (length (tokens s)) k (ltb-false _ _ (sym there ∙ t)))
 
       -- its call is that of the name which was found
       pub entry-there : r .found ≡ true → {m : List ℕ} → m ≡ take (r .end - r .name) (drop (r .name) s) → nameCall (named (r .starts) m) old ≡ entryCall s k old
       unfolding entryCall nameCall
       entry-there t q =
-          let h : k < length (tokens s) = ltb-true _ _ (sym (f .there) ∙ t) in
-          ap (λ (e : SheetEntry). nameCall e old) (ap (named (r .starts)) q ∙ f .entry t)
+          let h : k < length (tokens s) = ltb-true _ _ (sym there ∙ t) in
+          ap (λ (e : SheetEntry). nameCall e old) (ap (named (r .starts)) q ∙ ap (λ (x : Sought). x .entry) f)
           ∙ rw (passed text here due z, lt-leb (length (tokens s)) k h, line-at s k h)

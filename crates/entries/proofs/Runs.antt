@@ -1,14 +1,13 @@
 -- Where no 4,097 bytes stand together without whitespace, no name is long. Assumes nothing.
-use mathlib.Core.Path.{_≡_, refl, sym, ap, _∙_}
-use mathlib.Core.Bool.{Bool, true, false, cond, not}
+use mathlib.Core.Path.{_≡_, sym, ap, _∙_}
+use mathlib.Core.Bool.{Bool, true, false, not}
 use mathlib.Core.Logic.{⊎-elim}
 use mathlib.Core.List.{List, [], _∷_}
 use Prim.Native.Nat.{ℕ, zero, suc, _+_, _-_, _≤_, _<_}
 use native.Mathlib.Omega.{arith}
-use lib.Dec.{eqb}
 use lib.ListN.{length, take, drop, getD, length-take, length-drop}
 use lib.Seq.{getD-drop, getD-take, drop-drop}
-use borrow.Author.Tests.{le-ltb, ne-eqb}
+use borrow.Author.Tests.{le-ltb}
 use Rattle.lists.specs.Bytes.{any, span, afterLast}
 use Rattle.lists.specs.Classes.{whitespace, nonWhitespace}
 use Rattle.lists.proofs.Recursion.{cond-elim}
@@ -17,6 +16,7 @@ use Rattle.lists.proofs.Sets.{le-or-lt}
 use Rattle.tokens.specs.Tokens.{firstToken, tokens}
 use Rattle.tokens.proofs.Forward.{firstSize, tokens-none, tokens-more, tokens-induct, first-size, size-parts, afterRun-drop}
 use Rattle.tokens.proofs.Walks.{first-white}
+use Rattle.tokens.proofs.Peeled.{last-passes}
 use Rattle.sheets.specs.Sheet.{entries}
 use Rattle.sheets.specs.Calls.{nameLimit, anyLong}
 use Rattle.entries.proofs.Names.{longNames, long-names}
@@ -27,20 +27,6 @@ unfolding span
 span-stops p [] j h e = absurd (omega arith)
 span-stops p (b ∷ s) zero h e = rw e (omega arith)
 span-stops p (b ∷ s) (suc j) h e = cond-elim (λ (n : ℕ). n ≤ suc j) (p b) (λ t. omega (arith, span-stops p s j (omega arith) e)) (λ t. omega arith)
-
--- the last byte that passes
-last-passes : (p : ℕ → Bool) (s : List ℕ) (k : ℕ) → afterLast p s ≡ suc k → p (getD s k 0) ≡ true
-unfolding afterLast
-last-passes p [] k h = absurd (omega arith)
-last-passes p (b ∷ s) k h = go (afterLast p s) (p b) refl (last-passes p s) k h
-  where
-    go : (n : ℕ) (t : Bool) → p b ≡ t → ((j : ℕ) → n ≡ suc j → p (getD s j 0) ≡ true) → (k : ℕ)
-        → cond (eqb n 0) (cond t 1 0) (suc n) ≡ suc k → p (getD (b ∷ s) k 0) ≡ true
-    go zero true e i zero h = e
-    go zero true e i (suc k) h = absurd (omega arith)
-    go zero false e i k h = absurd (omega arith)
-    go (suc n) t e i zero h = absurd (omega (arith, rw (ne-eqb (suc n) 0 (omega arith)) at h))
-    go (suc n) t e i (suc k) h = i k (omega (arith, rw (ne-eqb (suc n) 0 (omega arith)) at h))
 
 -- from i on more bytes than a name may have, none of them whitespace
 abbrev pub LongRun : List ℕ → ℕ → Type 0

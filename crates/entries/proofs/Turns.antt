@@ -1,11 +1,11 @@
 -- The loops over the entries of a sheet keep those of what is left. Assumes nothing.
 use mathlib.Core.Path.{_≡_, sym, ap, ap₂, _∙_}
-use mathlib.Core.Bool.{Bool, true, false, _||_, false≢true}
+use mathlib.Core.Bool.{Bool, true, _||_}
 use mathlib.Core.List.{List, [], _∷_}
 use Prim.Native.Nat.{ℕ, suc, _+_, _-_, _≤_}
 use native.Mathlib.Nat.{sub-zero}
 use native.Mathlib.Omega.{arith}
-use lib.ListN.{length, take, drop, getD}
+use lib.ListN.{length, take, drop, getD, List·getD-eq-default}
 use borrow.Author.Tests.{lt-ltb, le-ltb}
 use Rattle.tokens.specs.Tokens.{Token, tokens}
 use Rattle.tokens.specs.declared.Places.{Places}
@@ -16,7 +16,8 @@ use Rattle.sentences.proofs.Kept.{marksFrom, marks-starts}
 use Rattle.sentences.proofs.Marking.{marks-next}
 use Rattle.sheets.specs.Sheet.{SheetEntry, entriesOf, entries, noEntry}
 use Rattle.sheets.specs.Calls.{entryAt}
-use Rattle.entries.specs.Find.{named, FoundAt}
+use Rattle.sheets.proofs.Entries.{entries-length}
+use Rattle.entries.specs.Find.{named, sought, asSought, nowhere}
 use Rattle.entries.specs.declared.Found.{Found}
 
 -- the entries of tokens after those that the state was fed
@@ -57,16 +58,17 @@ entry-later {n} {k} {e} {fs = fs} o h f q =
 -- where it is the next one, the code has found it
 pub found-here : {s : List ℕ} {n k at : ℕ} {p : Places} {b : Bool} {m : List ℕ} {es fs : List SheetEntry}
     → Left s n at → Next s at p → n ≡ k → m ≡ take (p .punctuation - p .name) (drop (p .name) s) → es ≡ named b m ∷ fs → getD es (k - n) noEntry ≡ entryAt s k
-    → FoundAt s k (record { found = true; starts = b; name = p .name; end = p .punctuation })
+    → asSought s (record { found = true; starts = b; name = p .name; end = p .punctuation }) ≡ sought s k
 found-here {s} {n} {k} {b = b} {es = es} l next e f o q =
     let d : 0 ≡ k - n = omega arith in
     let r = left-on l next .count in
-    record {
-      there = sym (lt-ltb k (length (tokens s)) (omega arith));
-      entry = λ t.
-          ap (named b) (sym f) ∙ ap (λ (xs : List SheetEntry). getD xs 0 noEntry) (sym o) ∙ ap (λ (i : ℕ). getD es i noEntry) d ∙ q;
-    }
+    let t = sym (lt-ltb k (length (tokens s)) (omega arith)) in
+    let h = ap (named b) (sym f) ∙ ap (λ (xs : List SheetEntry). getD xs 0 noEntry) (sym o) ∙ ap (λ (i : ℕ). getD es i noEntry) d ∙ q in
+    λ j. record { found = t j; entry = h j }
 
 -- where all are counted, there is no entry k
-pub found-none : (s : List ℕ) {n k : ℕ} {r : Found} → r .found ≡ false → n ≤ k → n ≡ length (tokens s) → FoundAt s k r
-found-none s {n} {k} e h c = record { there = e ∙ sym (le-ltb k (length (tokens s)) (omega arith)); entry = λ t. absurd (false≢true (sym e ∙ t)) }
+pub found-none : (s : List ℕ) {n k : ℕ} {r : Found} → r ≡ nowhere → n ≤ k → n ≡ length (tokens s) → asSought s r ≡ sought s k
+found-none s {n} {k} e h c =
+    let t = sym (le-ltb k (length (tokens s)) (omega arith)) in
+    let g = sym (List·getD-eq-default (entries s) noEntry {n = k} (omega (arith, entries-length s))) in
+    rw e (λ j. record { found = t j; entry = g j })

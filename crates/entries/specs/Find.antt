@@ -1,6 +1,5 @@
--- Where an entry is in its sheet. Definitions only; no public promise is made of them.
-use mathlib.Core.Path.{_≡_}
-use mathlib.Core.Bool.{Bool, true}
+-- An entry that is looked for in its sheet. Definitions only; no public promise is made of them.
+use mathlib.Core.Bool.{Bool, false}
 use mathlib.Core.List.{List}
 use Prim.Native.Nat.{ℕ, _-_}
 use lib.Dec.{ltb}
@@ -14,7 +13,19 @@ use Rattle.entries.specs.declared.Found.{Found}
 abbrev pub named : Bool → List ℕ → SheetEntry
 named b n = record { starts = b; name = n }
 
--- where entry k of s was found
-pub record FoundAt (s : List ℕ) (k : ℕ) (r : Found) : Type 0 where
-  pub there : r .found ≡ ltb k (length (tokens s))
-  pub entry : r .found ≡ true → named (r .starts) (take (r .end - r .name) (drop (r .name) s)) ≡ entryAt s k
+-- whether it is there, and the entry, an empty one where it is not
+pub record Sought : Type 0 where
+  pub found : Bool
+  pub entry : SheetEntry
+
+-- entry k of s
+abbrev pub sought : List ℕ → ℕ → Sought
+sought s k = record { found = ltb k (length (tokens s)); entry = entryAt s k }
+
+-- an answer, with its name's bytes from the sheet
+abbrev pub asSought : List ℕ → Found → Sought
+asSought s r = record { found = r .found; entry = named (r .starts) (take (r .end - r .name) (drop (r .name) s)) }
+
+-- the answer where there is no such entry
+abbrev pub nowhere : Found
+nowhere = record { found = false; starts = false; name = 0; end = 0 }

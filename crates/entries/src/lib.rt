@@ -10,7 +10,7 @@ ghost use mathlib.Core.Path.{_≡_};
 ghost use mathlib.Core.Bool.{false};
 ghost use Rattle.sheets.specs.Sheet.{entries};
 ghost use Rattle.sheets.specs.Calls.{anyLong};
-ghost use Rattle.entries.specs.Find.{FoundAt};
+ghost use Rattle.entries.specs.Find.{sought, asSought, nowhere};
 
 // The longest name that is called.
 pub const NAME_BYTES: usize = 4096;
@@ -64,7 +64,7 @@ pub fn has_long_name(s: &[u8]) -> bool
 }
 
 fn nowhere() -> Found
-    ensures { λ r. ⌜ r .found ≡ false ⌝ }
+    ensures { λ r. ⌜ r ≡ nowhere ⌝ }
 {
     Found {
         found: false,
@@ -76,7 +76,7 @@ fn nowhere() -> Found
 
 // Finds entry number k.
 pub fn find_entry(s: &[u8], k: usize) -> Found
-    ensures { λ r. ⌜ FoundAt (now (s .entry)) k r ⌝ }
+    ensures { λ r. ⌜ asSought (now (s .entry)) r ≡ sought (now (s .entry)) k ⌝ }
 {
     let mut state = State::fresh();
     let mut n = 0;

@@ -11,10 +11,11 @@ use Rattle.admit.proofs.Calls.{call-refused, call-accepted}
 use Rattle.tokens.specs.Tokens.{Token, tokens}
 use Rattle.tokens.specs.declared.Places.{Places}
 use Rattle.tokens.proofs.Walks.{Next}
-use Rattle.sentences.specs.Sentences.{breakAfter, told, kept, flag, isSet, fresh, breaks}
+use Rattle.sentences.specs.Sentences.{starts, breakAfter, told, kept, flag, isSet, fresh, breaks}
 use Rattle.sentences.specs.Calls.{flags, startBytes, stepTests, stepCall, asStep}
 use Rattle.sentences.specs.declared.State.{State}
 use Rattle.sentences.proofs.Kept.{marksFrom, marks-starts}
+use Rattle.sentences.proofs.Starts.{starts-each}
 
 -- the mark of the first token that is left, as the code makes it, and those of the others, which what is kept of it tells
 pub marks-next : {s : List ℕ} {at : ℕ} {p : Places} → Next s at p → (st : State) {st′ : State} {w m q : List ℕ}
@@ -41,13 +42,13 @@ pub starts-whole : (l s : List ℕ) (st : State) → st ≡ fresh → sets l 0 (
 starts-whole l s st e = ap (λ (r : State). sets l 0 (flags (marksFrom r (tokens s)))) e ∙ ap (λ (bs : List Bool). sets l 0 (flags bs)) (marks-starts (tokens s))
 
 -- a byte for each token
-flags-length : (st : State) (ts : List Token) → length (flags (marksFrom st ts)) ≡ length ts
-unfolding flags marksFrom
-flags-length st [] = refl
-flags-length st (t ∷ ts) = ap suc (flags-length (kept (t .name) (t .punctuation)) ts)
+flags-length : (bs : List Bool) → length (flags bs) ≡ length bs
+unfolding flags
+flags-length [] = refl
+flags-length (b ∷ bs) = ap suc (flags-length bs)
 
 pub starts-length : (s : List ℕ) → length (startBytes s) ≡ length (tokens s)
-starts-length s = ap (λ (bs : List Bool). length (flags bs)) (sym (marks-starts (tokens s))) ∙ flags-length fresh (tokens s)
+starts-length s = flags-length (starts (tokens s)) ∙ starts-each (tokens s)
 
 -- ---- a step
 

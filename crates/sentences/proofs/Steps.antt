@@ -1,28 +1,26 @@
 -- The step form, fed the tokens of a text, breaks where the whole-text form marks. Assumes nothing.
 use mathlib.Core.Path.{_≡_, refl, ap, ap₂}
-use mathlib.Core.Bool.{Bool, false}
+use mathlib.Core.Bool.{Bool, true, false}
 use mathlib.Core.List.{List, [], _∷_, map}
 use Prim.Native.Nat.{ℕ, zero, suc}
 use Rattle.lists.specs.Bytes.{Every}
 use Rattle.admit.specs.Refusals.{firstDue, textLimit, textRefusal, Call, call}
 use Rattle.tokens.specs.Tokens.{Token, tokens}
 use Rattle.tokens.proofs.Texts.{Accepted, Each, tokens-accepted}
-use Rattle.sentences.specs.Sentences.{startsAfter, starts, fresh, kept, breaks}
+use Rattle.sentences.specs.Sentences.{startsAfter, starts, isSet, fresh, kept, breaks}
 use Rattle.sentences.specs.Calls.{stepTests, Stepped, stepCall}
 use Rattle.sentences.specs.Steps.{stepOf, fed, verdict, accepted, butFirst}
 use Rattle.sentences.specs.declared.State.{State}
 use Rattle.sentences.proofs.Kept.{breaks-kept}
 use Rattle.sentences.proofs.Due.{three-due}
 
--- "its first step from a fresh state answers no break"
-pub fresh-step : (w n p : List ℕ) → stepCall fresh w n p .value .breaks ≡ false
+-- "its first step from a fresh state answers no break": whatever else the state holds, accepted or refused
+pub fresh-step : (s : State) (w n p : List ℕ) → isSet (s .fresh) ≡ true → stepCall s w n p .value .breaks ≡ false
 unfolding stepCall
-fresh-step w n p = go (firstDue (stepTests w n p))
+fresh-step s w n p f = go (firstDue (stepTests w n p))
   where
-    go : (k : ℕ)
-        → call {A = Stepped} (record { breaks = false; state = fresh }) k
-        (record { breaks = breaks fresh w n; state = kept n p }) .value .breaks ≡ false
-    go zero = refl
+    go : (k : ℕ) → call {A = Stepped} (record { breaks = false; state = s }) k (record { breaks = breaks s w n; state = kept n p }) .value .breaks ≡ false
+    go zero = rw f
     go (suc k) = refl
 
 -- "a refused step hands back the state it was given"

@@ -1,5 +1,5 @@
--- Document 01, "Token table and sentences": the step form fed one token after the other, beside the whole-text form.
--- Definitions only.
+-- Document 01, "Token table and sentences": the step form fed one token after the other, beside the whole-text form: "The step form
+-- breaks before every other token that does", which `steps-tie` says with these. Definitions only.
 use mathlib.Core.Bool.{Bool, false}
 use mathlib.Core.List.{List, [], _∷_}
 use Rattle.admit.specs.Refusals.{Call}

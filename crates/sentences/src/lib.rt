@@ -192,7 +192,7 @@ fn is_sentence_break(state: State, whitespace: &[u8], name: &[u8]) -> bool
     if !is_capital(first) {
         return false;
     }
-    // So does more than one byte of whitespace after a point.
+    // After a point more than one byte of whitespace decides, whatever the name before it looks like.
     if 1 < whitespace.len() {
         return true;
     }

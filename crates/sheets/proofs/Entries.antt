@@ -1,11 +1,12 @@
 -- The entries of a sheet, one by one. Assumes nothing.
 use mathlib.Core.Path.{_≡_, refl, sym, ap, _∙_}
 use mathlib.Core.Bool.{Bool}
-use mathlib.Core.List.{List, [], _∷_, _++_, map, append-assoc, flatten}
+use mathlib.Core.List.{List, [], _∷_, _++_, map, flatten}
 use Prim.Native.Nat.{ℕ, zero, suc, _+_, _<_}
 use native.Mathlib.Omega.{arith}
 use lib.ListN.{length, take, drop, getD, length-map}
 use Rattle.tokens.specs.Tokens.{Token, tokens}
+use Rattle.tokens.proofs.Joined.{flatten-at}
 use Rattle.sentences.specs.Sentences.{fresh, kept}
 use Rattle.sentences.specs.declared.State.{State}
 use Rattle.sentences.proofs.Kept.{marksFrom, marks-starts}
@@ -29,13 +30,6 @@ map-at (e ∷ es) (suc k) h = map-at es k (omega arith)
 -- the line of an entry that is there
 pub line-at : (s : List ℕ) (k : ℕ) → k < length (tokens s) → lineAt s k ≡ lineOf (entryAt s k)
 line-at s k h = map-at (entries s) k (omega (arith, entries-length s))
-
--- what stands before one of several texts, it, and what stands after it
-flatten-at : (ls : List (List ℕ)) (k : ℕ) → k < length ls → flatten ls ≡ flatten (take k ls) ++ (getD ls k [] ++ flatten (drop (suc k) ls))
-unfolding flatten
-flatten-at [] k h = absurd (omega arith)
-flatten-at (l ∷ ls) zero h = refl
-flatten-at (l ∷ ls) (suc k) h = ap (λ (r : List ℕ). l ++ r) (flatten-at ls k (omega arith)) ∙ sym (append-assoc l _ _)
 
 -- the words before one of several entries, its own, and those after it
 words-at : (es : List SheetEntry) (k : ℕ) → k < length es

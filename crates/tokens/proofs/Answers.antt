@@ -3,7 +3,7 @@ use mathlib.Core.Path.{_≡_, sym, _∙_, refl}
 use mathlib.Core.Bool.{Bool, true, false}
 use mathlib.Core.Logic.{⊎-elim}
 use mathlib.Core.List.{List, [], _∷_}
-use Prim.Native.Nat.{ℕ, _*_, _/_, _≤_, _<_}
+use Prim.Native.Nat.{ℕ, zero, suc, _*_, _/_, _≤_, _<_}
 use native.Mathlib.Omega.{arith}
 use lib.Dec.{ltb}
 use lib.ListN.{length}
@@ -11,9 +11,9 @@ use lib.Seq.{sets}
 use borrow.Author.Tests.{lt-ltb, le-ltb, ltb-false}
 use Rattle.lists.proofs.Sets.{sets-front, le-or-lt}
 use Rattle.lists.specs.Bytes.{over}
-use Rattle.admit.specs.Refusals.{Test, _when_, textLimit, textTests, textRefusal, inOrder}
+use Rattle.admit.specs.Refusals.{Test, _when_, textLimit, textTests, textRefusal, inOrder, firstDue, call}
 use Rattle.admit.specs.declared.Refusal.the-variants.{BufferTooShort}
-use Rattle.admit.proofs.Calls.{held, passed}
+use Rattle.admit.proofs.Calls.{held, passed, both-passed}
 use Rattle.tokens.specs.Tokens.{tokens}
 use Rattle.tokens.specs.Table.{recordBytes, records, filledCall, asFilled, filledTests}
 use Rattle.tokens.proofs.Records.{records-length}
@@ -31,6 +31,18 @@ records-short s old = rw (records-length 0 (tokens s)) (records-fit (length old)
 pub filled-in-order : (s result old : List ℕ) → inOrder (filledTests s result old) ≡ true
 unfolding textTests
 filled-in-order s result old = refl
+
+-- a call that answers 0 has passed its tests, and gives what an accepted one does
+accepted : {A : Type 0} (nothing given : A) (n : ℕ) → call nothing n given .refusal ≡ 0 → (n ≡ 0) × (call nothing n given .value ≡ given)
+accepted nothing given zero h = (refl, refl)
+accepted nothing given (suc n) h = absurd (omega arith)
+
+pub filled-accepted : (s result old : List ℕ) → filledCall s result old .refusal ≡ 0
+    → (textRefusal textLimit s ≡ 0) × (filledCall s result old .value ≡ record { tokens = length (tokens s); buffer = over result old })
+unfolding filledCall
+filled-accepted s result old h =
+    let k = accepted _ _ (firstDue (filledTests s result old)) h in
+    (both-passed (textTests textLimit (s ∷ [])) _ (k .0) .0, k .1)
 
 -- `result` is what is written for the text s, whose refusal n is tested first; `old` is the lent buffer
 module _ (s result old : List ℕ) (n : ℕ) (due : n ≡ textRefusal textLimit s) where

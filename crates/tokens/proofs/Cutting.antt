@@ -2,7 +2,7 @@
 use mathlib.Core.Path.{_≡_, refl, sym, ap, ap₂, _∙_}
 use mathlib.Core.Bool.{Bool, true, false, and-false}
 use mathlib.Core.Logic.{⊎-elim}
-use mathlib.Core.List.{List, [], flatten}
+use mathlib.Core.List.{List, [], _∷_, flatten}
 use Prim.Native.Nat.{ℕ, suc, _+_, _-_, _≤_, _<_}
 use native.Mathlib.Omega.{arith}
 use lib.Dec.{eqb, leb}
@@ -13,7 +13,7 @@ use Rattle.lists.specs.Bytes.{all, span, lead, after, afterLast, any}
 use Rattle.lists.specs.Classes.{leadingMarks, whitespace, nonWhitespace, leadingMark, unmarked}
 use Rattle.lists.proofs.Scan.{span-le, all-span, span-full, span-within, span-lead, last-le, one-in}
 use Rattle.lists.proofs.Sets.{le-or-lt}
-use Rattle.tokens.specs.Tokens.{Token, cut, afterWhite, afterRun, firstToken, parts}
+use Rattle.tokens.specs.Tokens.{Token, nameSize, cut, afterWhite, afterRun, firstToken, parts}
 use Rattle.tokens.specs.Table.{placesOf, CutAt}
 use Rattle.tokens.proofs.Forward.{cut-joined, size-parts, cut-white}
 
@@ -29,6 +29,11 @@ cut-marks run m e h =
       record { name = omega arith; punctuation = rw r (omega arith); within = omega arith },
     )
 
+-- how much of some bytes is the name, as the code finds it
+name-size : (s : List ℕ) → 0 < length s → nameSize s ≡ suc (afterLast unmarked (drop 1 s))
+name-size [] h = absurd (omega arith)
+name-size (b ∷ s) h = refl
+
 -- another one
 pub cut-named : (run : List ℕ) (ends : Bool) (m k : ℕ) → m ≡ span leadingMark run → (m ≡ length run → ⊥)
     → k ≡ afterLast unmarked (drop (m + 1) run) → CutAt run ends m ((m + 1) + k)
@@ -39,7 +44,7 @@ cut-named run ends m k e h q =
     let rest : List ℕ = after leadingMark run in
     let n : length rest ≡ length run - span leadingMark run = length-drop (span leadingMark run) run in
     let d : drop 1 rest ≡ drop (m + 1) run = drop-drop 1 (span leadingMark run) run ∙ ap (λ (i : ℕ). drop (i + 1) run) (sym e) in
-    let f : afterLast unmarked (drop 1 rest) ≡ k = ap (afterLast unmarked) d ∙ sym q in
+    let f : nameSize rest ≡ suc k = name-size rest (omega arith) ∙ ap (λ (r : List ℕ). suc (afterLast unmarked r)) d ∙ ap suc (sym q) in
     let b : k ≤ length run - (m + 1) = rw (length-drop, ← q) at (last-le unmarked (drop (m + 1) run)) in
     let l : length (lead leadingMark run) ≡ span leadingMark run = length-take-le (span leadingMark run) run s in
     let t : length (take (suc k) rest) ≡ suc k = length-take-le (suc k) rest (omega arith) in

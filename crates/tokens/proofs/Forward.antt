@@ -8,6 +8,7 @@ use native.Mathlib.Omega.{arith}
 use lib.Dec.{eqb}
 use lib.ListN.{length, take, drop, getD, length-append, length-drop, take-append-drop}
 use lib.Seq.{getD-drop, drop-drop, take-add, length-take-le}
+use borrow.Author.Tests.{not-false}
 use Rattle.lists.specs.Bytes.{all, span, lead, after}
 use Rattle.lists.specs.Classes.{whitespace, nonWhitespace, leadingMark}
 use Rattle.lists.proofs.Recursion.{Local, recur-eq, cond-cong}
@@ -29,6 +30,17 @@ afterRun-less s h =
     let n : span whitespace s < length s = span-short whitespace s h in
     let r = run-some s h in
     simp length-drop (omega arith)
+
+-- a run is followed by whitespace or by nothing
+pub run-stops : (s : List ℕ) → 0 < length (afterRun s) → 0 < span whitespace (afterRun s)
+run-stops s h =
+    let x : List ℕ = afterWhite s in
+    let k : ℕ = span nonWhitespace x in
+    let n : k < length x = omega (arith, length-drop k x) in
+    let f : whitespace (getD (afterRun s) 0 0) ≡ true =
+    ap whitespace (getD-drop k x 0 0 ∙ ap (λ (j : ℕ). getD x j 0) (add-zero k))
+    ∙ not-false (whitespace (getD x k 0)) (span-fails nonWhitespace x n) in
+    span-some whitespace (afterRun s) h f
 
 tokens-local : Local tokensStep
 unfolding tokensStep

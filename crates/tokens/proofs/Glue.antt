@@ -1,21 +1,38 @@
 -- The tokens of a text behind another, where whitespace stands between them. Assumes nothing.
 use mathlib.Core.Path.{_≡_, refl, sym, ap, ap₂, _∙_}
-use mathlib.Core.Bool.{Bool, true, false}
+use mathlib.Core.Bool.{Bool, true, false, not, _&&_}
 use mathlib.Core.List.{List, [], _∷_, _++_}
 use Prim.Native.Nat.{ℕ, suc, _+_, _<_}
 use native.Mathlib.Nat.{add-zero}
 use native.Mathlib.Omega.{arith}
 use lib.Dec.{eqb}
-use lib.ListN.{length, drop, getD, length-append, length-drop, drop-of-length-le}
-use lib.Seq.{length-take-le, take-all, take-append-le, drop-append-le, take-append-add, drop-append-add, drop-drop, getD-drop}
-use borrow.Author.Tests.{eqb-true, eqb-false, ne-eqb, not-true, not-false}
+use lib.ListN.{length, drop, length-append, length-drop, drop-of-length-le}
+use lib.Seq.{length-take-le, take-all, take-append-le, drop-append-le, take-append-add, drop-append-add, drop-drop}
+use borrow.Author.Tests.{eqb-true, eqb-false, ne-eqb, not-true}
 use Rattle.lists.specs.Bytes.{all, span, lead, after, afterLast}
 use Rattle.lists.specs.Classes.{whitespace, nonWhitespace, leadingMark}
-use Rattle.lists.proofs.Scan.{all-append, span-le, span-all, span-fails, span-some, span-append, span-before, last-none, last-span, last-drop}
+use Rattle.lists.proofs.Scan.{all-append, span-le, span-all, span-append, span-before, last-none, last-span, last-drop}
 use Rattle.tokens.specs.Tokens.{Token, cut, afterWhite, afterRun, firstToken, tokens}
-use Rattle.tokens.specs.Ends.{trailing, widen, lastRun, openEnd}
-use Rattle.tokens.proofs.Forward.{firstSize, afterRun-drop, cut-white, run-some, tokens-none, tokens-more, tokens-induct}
+use Rattle.tokens.proofs.Forward.{firstSize, afterRun-drop, cut-white, run-some, run-stops, tokens-none, tokens-more, tokens-induct}
 use Rattle.tokens.proofs.Joined.{last-white, last-first}
+
+-- a text's trailing whitespace, which is in none of its tokens
+abbrev pub trailing : List ℕ → List ℕ
+trailing s = drop (afterLast nonWhitespace s) s
+
+-- the tokens, with the bytes w in front of the first one's whitespace
+unfoldable pub widen : List ℕ → List Token → List Token
+widen w [] = []
+widen w (t ∷ ts) =
+    record { whitespace = w ++ t .whitespace; prepunctuation = t .prepunctuation; name = t .name; punctuation = t .punctuation } ∷ ts
+
+-- the run that ends a text, empty where whitespace ends it
+abbrev pub lastRun : List ℕ → List ℕ
+lastRun s = drop (afterLast whitespace s) s
+
+-- a text that ends in a run made wholly of leading marks: its last token is cut otherwise where whitespace follows
+unfoldable pub openEnd : List ℕ → Bool
+openEnd s = not (eqb (length (lastRun s)) 0) && all leadingMark (lastRun s)
 
 -- a token's cut looks at the text's end only where its run is wholly leading marks
 pub cut-alike : (white run : List ℕ) → all leadingMark run ≡ false → cut white run true ≡ cut white run false
@@ -88,16 +105,9 @@ tokens-glue a c y w =
     (λ a h i. rw (tokens-front a c y w h, tokens-front a c [] w h, i, tail-alike nonWhitespace a (last-first a h)))
     a
 
--- a run is followed by whitespace or by nothing
+-- the whitespace that follows a run
 run-closed : (s : List ℕ) → 0 < length (afterRun s) → 0 < afterLast whitespace (afterRun s)
-run-closed s h =
-    let x : List ℕ = afterWhite s in
-    let k : ℕ = span nonWhitespace x in
-    let n : k < length x = omega (arith, length-drop k x) in
-    let f : whitespace (getD (afterRun s) 0 0) ≡ true =
-    ap whitespace (getD-drop k x 0 0 ∙ ap (λ (j : ℕ). getD x j 0) (add-zero k))
-    ∙ not-false (whitespace (getD x k 0)) (span-fails nonWhitespace x n) in
-    omega (arith, last-span whitespace (afterRun s), span-some whitespace (afterRun s) h f)
+run-closed s h = omega (arith, last-span whitespace (afterRun s), run-stops s h)
 
 -- the first run is the last one where nothing follows it
 last-run : (s : List ℕ) → length (afterRun s) ≡ 0 → lastRun s ≡ lead nonWhitespace (afterWhite s)

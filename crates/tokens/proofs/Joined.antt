@@ -1,23 +1,30 @@
--- Joined, the pairs give the text less its trailing whitespace, and each part is where its pair says. Assumes nothing.
+-- What a caller reads from the token table: each part is where its pair says, each pair starts where the one before it ends, and
+-- joined, the pairs give the text less its trailing whitespace. Assumes nothing.
 use mathlib.Core.Path.{_≡_, refl, sym, ap, ap₂, _∙_}
 use mathlib.Core.Bool.{true, false}
+use mathlib.Core.Logic.{⊎-elim}
 use mathlib.Core.List.{List, [], _∷_, _++_, flatMap, append-assoc, append-nil, flatten}
-use Prim.Native.Nat.{ℕ, zero, suc, _+_, _*_, _^_, _<_}
-use native.Mathlib.Nat.{add-zero, add-assoc}
+use Prim.Native.Nat.{ℕ, zero, suc, _+_, _*_, _^_, _≤_, _<_}
+use native.Mathlib.Nat.{add-zero, zero-add, add-assoc}
 use native.Mathlib.Omega.{arith}
-use lib.ListN.{length, take, drop, getD, length-append, length-drop, take-append-drop, List·getD-append}
-use lib.Seq.{take-add, take-append-le, drop-append-le, getD-append-add}
+use lib.ListN.{length, take, drop, getD, length-append, take-append-drop, List·getD-append}
+use lib.Seq.{take-add, take-suc, take-length, split-at, take-append-seam, drop-append-seam, drop-append-add, length-take-le, getD-append-add}
 use Rattle.lists.specs.Bytes.{all, span, afterLast}
 use Rattle.lists.specs.Classes.{whitespace, nonWhitespace}
-use Rattle.lists.specs.LittleEndian.{leValue}
+use Rattle.lists.specs.LittleEndian.{leValue, leBytes}
 use Rattle.lists.proofs.Scan.{last-none, last-span, last-drop}
+use Rattle.lists.proofs.Sets.{le-or-lt}
+use Rattle.lists.proofs.Rows.{leBytes-value}
+use Rattle.admit.specs.Refusals.{textLimit, Call}
+use Rattle.admit.proofs.Calls.{text-fit}
 use Rattle.sink.specs.Sink.{pairOf}
 use Rattle.sink.specs.Words.{tableOf}
 use Rattle.sink.proofs.Finish.{tableOf-length}
-use Rattle.sink.proofs.ReadBack.{wordAt, word-read}
+use Rattle.sink.proofs.ReadBack.{numberAt, wordAt}
 use Rattle.tokens.specs.Tokens.{Token, afterWhite, afterRun, tokens, parts}
-use Rattle.tokens.specs.Table.{size, recordOf, records, joined}
+use Rattle.tokens.specs.Table.{size, recordOf, records, Filled, filledCall}
 use Rattle.tokens.proofs.Forward.{firstSize, afterRun-drop, first-take, run-some, tokens-none, tokens-more, tokens-induct}
+use Rattle.tokens.proofs.Answers.{filled-accepted}
 
 -- where a text's trailing whitespace starts
 pub last-white : (s : List ℕ) → all whitespace s ≡ true → afterLast nonWhitespace s ≡ 0
@@ -30,24 +37,22 @@ last-first s h =
     let d = last-drop nonWhitespace s (span whitespace s) (omega arith) in
     omega arith
 
--- "Joined, the pairs give the text less its trailing whitespace": the parts do, and `part-read` says that the pairs give the parts
-pub tokens-joined : (s : List ℕ) → joined (tokens s) ≡ take (afterLast nonWhitespace s) s
-unfolding joined
-tokens-joined =
-    tokens-induct (λ s. joined (tokens s) ≡ take (afterLast nonWhitespace s) s)
-    (λ s h. rw (tokens-none s h, last-white s h))
-    (λ s h i.
-    rw (tokens-more s h, last-first s h, take-add (firstSize s), ← afterRun-drop s, i)
-    (ap (λ (x : List ℕ). x ++ take (afterLast nonWhitespace (afterRun s)) (afterRun s)) (first-take s)))
+-- ---- several texts, one after the other
 
--- the parts of all tokens in their order
-abbrev pub partsOf : List Token → List (List ℕ)
-partsOf ts = flatMap parts ts
-
-flatten-append : (xs ys : List (List ℕ)) → flatten (xs ++ ys) ≡ flatten xs ++ flatten ys
+pub flatten-append : (xs ys : List (List ℕ)) → flatten (xs ++ ys) ≡ flatten xs ++ flatten ys
 unfolding flatten
 flatten-append [] ys = refl
 flatten-append (x ∷ xs) ys = rw (flatten-append xs ys) (sym (append-assoc x (flatten xs) (flatten ys)))
+
+-- what stands before one of them, it, and what stands after it
+pub flatten-at : (ws : List (List ℕ)) (k : ℕ) → k < length ws → flatten ws ≡ flatten (take k ws) ++ (getD ws k [] ++ flatten (drop (suc k) ws))
+unfolding flatten
+flatten-at ws k h = ap flatten (split-at ws k [] h) ∙ flatten-append (take k ws) (getD ws k [] ∷ drop (suc k) ws)
+
+-- those up to one of them
+flatten-suc : (ws : List (List ℕ)) (k : ℕ) → k < length ws → flatten (take (suc k) ws) ≡ flatten (take k ws) ++ getD ws k []
+unfolding flatten
+flatten-suc ws k h = rw (take-suc ws k [] h, flatten-append, append-nil)
 
 table-append : (at : ℕ) (xs ys : List (List ℕ)) → tableOf at (xs ++ ys) ≡ tableOf at xs ++ tableOf (at + length (flatten xs)) ys
 unfolding flatten tableOf
@@ -56,10 +61,87 @@ table-append at (x ∷ xs) ys =
     rw (table-append (at + length x) xs ys, length-append x (flatten xs), ← add-assoc at (length x) (length (flatten xs)))
     (sym (append-assoc (pairOf at (length x)) (tableOf (at + length x) xs) (tableOf (at + length x + length (flatten xs)) ys)))
 
-joined-store : (ts : List Token) → joined ts ≡ flatten (partsOf ts)
-unfolding joined flatMap flatten
-joined-store [] = refl
-joined-store (t ∷ ts) = rw (joined-store ts) (sym (flatten-append (parts t) (partsOf ts)))
+-- ---- what a caller reads from a table
+
+-- the offset and the length in its pair k
+abbrev pub offsetAt : ℕ → List ℕ → ℕ
+offsetAt k table = numberAt (2 * k) table
+
+abbrev pub lengthAt : ℕ → List ℕ → ℕ
+lengthAt k table = numberAt (2 * k + 1) table
+
+-- the parts of s that its first n pairs name, joined
+abbrev pub pairsJoined : ℕ → List ℕ → List ℕ → List ℕ
+pairsJoined zero table s = []
+pairsJoined (suc n) table s = pairsJoined n table s ++ wordAt n table s
+
+-- ---- the pairs of a table of texts that are below 4 GiB together; u stands past it
+
+module _ (ws : List (List ℕ)) (u : List ℕ) (below : length (flatten ws) < 256 ^ 4) where
+  -- its pair k: the text k starts where those before it end, and has its length
+  pub pair-at : (k : ℕ) → k < length ws
+      → (offsetAt k (tableOf 0 ws ++ u) ≡ length (flatten (take k ws))) × (lengthAt k (tableOf 0 ws ++ u) ≡ length (getD ws k []))
+  unfolding tableOf pairOf leBytes
+  pair-at k h =
+      let n : length x ≡ 8 * k = tableOf-length 0 (take k ws) ∙ ap (λ (i : ℕ). 8 * i) (length-take-le k ws (omega arith)) in
+      let m = ap length (flatten-at ws k h) ∙ length-append (flatten (take k ws)) _ in
+      let l = length-append w (flatten (drop (suc k) ws)) in (
+        number (2 * k) 0 (omega arith) ∙ leBytes-value 4 at (omega arith),
+        number (2 * k + 1) 4 (omega arith) ∙ leBytes-value 4 (length w) (omega arith),
+      )
+    where
+      at : ℕ
+      at = length (flatten (take k ws))
+
+      w : List ℕ
+      w = getD ws k []
+
+      x : List ℕ
+      x = tableOf 0 (take k ws)
+
+      y : List ℕ
+      y = pairOf at (length w) ++ (tableOf (at + length w) (drop (suc k) ws) ++ u)
+
+      split : tableOf 0 ws ++ u ≡ x ++ y
+      split =
+          ap (λ (vs : List (List ℕ)). tableOf 0 vs ++ u) (split-at ws k [] h)
+          ∙ ap (λ (t : List ℕ). t ++ u) (table-append 0 (take k ws) (w ∷ drop (suc k) ws))
+          ∙ rw zero-add (append-assoc x _ u)
+
+      number : (j i : ℕ) → 4 * j ≡ length x + i → numberAt j (tableOf 0 ws ++ u) ≡ leValue (take 4 (drop i y))
+      number j i e = ap₂ (λ (n : ℕ) (t : List ℕ). leValue (take 4 (drop n t))) e split ∙ ap (λ (t : List ℕ). leValue (take 4 t)) (drop-append-add x y i)
+
+  -- the text that a pair names, where they stand one after the other; z follows them
+  word-at : (z : List ℕ) (k : ℕ) → k < length ws → wordAt k (tableOf 0 ws ++ u) (flatten ws ++ z) ≡ getD ws k []
+  word-at z k h =
+      let p = pair-at k h in
+      let x : List ℕ = flatten (take k ws) in
+      let w : List ℕ = getD ws k [] in
+      let y : List ℕ = flatten (drop (suc k) ws) in
+      let e : flatten ws ++ z ≡ x ++ (w ++ (y ++ z)) = ap (λ (s : List ℕ). s ++ z) (flatten-at ws k h) ∙ append-assoc x (w ++ y) z ∙ ap (λ (s : List ℕ). x ++ s) (append-assoc w y z) in
+      rw (p .0, p .1) (ap (λ (s : List ℕ). take (length w) (drop (length x) s)) e ∙ ap (take (length w)) (drop-append-seam x _) ∙ take-append-seam w (y ++ z))
+
+  -- those that the first n pairs name, joined
+  words-joined : (z : List ℕ) (n : ℕ) → n ≤ length ws → pairsJoined n (tableOf 0 ws ++ u) (flatten ws ++ z) ≡ flatten (take n ws)
+  unfolding flatten
+  words-joined z zero h = refl
+  words-joined z (suc n) h = rw (words-joined z n (omega arith), word-at z n (omega arith)) (sym (flatten-suc ws n (omega arith)))
+
+-- ---- the tokens
+
+-- the parts of all tokens in their order
+abbrev pub partsOf : List Token → List (List ℕ)
+partsOf ts = flatMap parts ts
+
+-- the parts of a text's tokens, joined, are the text less its trailing whitespace
+pub tokens-joined : (s : List ℕ) → flatten (partsOf (tokens s)) ≡ take (afterLast nonWhitespace s) s
+unfolding flatMap flatten
+tokens-joined =
+    tokens-induct (λ s. flatten (partsOf (tokens s)) ≡ take (afterLast nonWhitespace s) s)
+    (λ s h. rw (tokens-none s h, last-white s h))
+    (λ s h i.
+    rw (tokens-more s h, last-first s h, take-add (firstSize s), ← afterRun-drop s, flatten-append, i)
+    (ap (λ (x : List ℕ). x ++ take (afterLast nonWhitespace (afterRun s)) (afterRun s)) (first-take s)))
 
 -- the records are one table of all parts
 pub records-table : (at : ℕ) (ts : List Token) → records at ts ≡ tableOf at (partsOf ts)
@@ -67,46 +149,85 @@ unfolding records recordOf flatMap tableOf
 records-table at [] = refl
 records-table at (t ∷ ts) = rw (records-table (at + size t) ts) (sym (table-append at (parts t) (partsOf ts)))
 
+parts-length : (ts : List Token) → length (partsOf ts) ≡ 4 * length ts
+unfolding flatMap
+parts-length [] = refl
+parts-length (t ∷ ts) = omega (arith, parts-length ts)
+
 -- part j of token i among all parts
-parts-at : (ts : List Token) (none : Token) (i j : ℕ) → i < length ts → j < 4
-    → (4 * i + j < length (partsOf ts)) × (getD (partsOf ts) (4 * i + j) [] ≡ getD (parts (getD ts i none)) j [])
+parts-at : (ts : List Token) (none : Token) (i j : ℕ) → i < length ts → j < 4 → getD (partsOf ts) (4 * i + j) [] ≡ getD (parts (getD ts i none)) j []
 unfolding flatMap
 parts-at [] none i j h k = absurd (omega arith)
-parts-at (t ∷ ts) none zero j h k =
-    let e : 4 * 0 + j ≡ j = omega arith in
-    rw e (omega arith, List·getD-append (parts t) (partsOf ts) [] j k)
+parts-at (t ∷ ts) none zero j h k = let e : 4 * 0 + j ≡ j = omega arith in rw e (List·getD-append (parts t) (partsOf ts) [] j k)
 parts-at (t ∷ ts) none (suc i) j h k =
     let e : 4 * suc i + j ≡ 4 + (4 * i + j) = omega arith in
-    let r = parts-at ts none i j (omega arith) k in
-    rw e (omega arith, getD-append-add (parts t) (partsOf ts) (4 * i + j) [] ∙ r .1)
+    rw e (getD-append-add (parts t) (partsOf ts) (4 * i + j) [] ∙ parts-at ts none i j (omega arith) k)
 
--- a table's words are read from its front alone, whatever follows it
-pub table-front : (at : ℕ) (ws : List (List ℕ)) (u s : List ℕ) (i : ℕ) → i < length ws → wordAt i (tableOf at ws ++ u) s ≡ wordAt i (tableOf at ws) s
-table-front at ws u s i h = ap₂ (λ (a n : ℕ). take n (drop a s)) (number (2 * i) (omega arith)) (number (2 * i + 1) (omega arith))
-  where
-    t : List ℕ
-    t = tableOf at ws
+-- ---- the table that an accepted call leaves, whatever stands past it
 
-    number : (k : ℕ) → k < 2 * length ws → leValue (take 4 (drop (4 * k) (t ++ u))) ≡ leValue (take 4 (drop (4 * k) t))
-    number k l =
-        let n = tableOf-length at ws in
-        ap leValue (ap (take 4) (drop-append-le (4 * k) t u (omega arith)) ∙ take-append-le 4 (drop (4 * k) t) u (simp length-drop (omega arith)))
+-- the call of `tokenize`, which writes the table over `old`
+abbrev pub tableCall : List ℕ → List ℕ → Call Filled
+tableCall s old = filledCall s (records 0 (tokens s)) old
 
--- part j of token i is where its pair says in the text
-pub part-read : (s : List ℕ) (none : Token) (i j : ℕ) → i < length (tokens s) → j < 4 → length s < 256 ^ 4
-    → wordAt (4 * i + j) (records 0 (tokens s)) s ≡ getD (parts (getD (tokens s) i none)) j []
-unfolding flatten
-part-read s none i j h k l =
-    let ws : List (List ℕ) = partsOf (tokens s) in
-    let z : List ℕ = drop (afterLast nonWhitespace s) s in
-    let q = parts-at (tokens s) none i j h k in
-    let e : flatten (ws ++ z ∷ []) ≡ s =
-    flatten-append ws (z ∷ []) ∙ ap₂ _++_ (sym (joined-store (tokens s)) ∙ tokens-joined s) (append-nil z)
-    ∙ take-append-drop (afterLast nonWhitespace s) s in
-    let r : wordAt (4 * i + j) (tableOf 0 (ws ++ z ∷ [])) (flatten (ws ++ z ∷ [])) ≡ getD (ws ++ z ∷ []) (4 * i + j) [] =
-    word-read (ws ++ z ∷ []) (4 * i + j) (simp length-append (omega arith)) (rw e l) in
-    rw records-table
-    (sym (table-front 0 ws (tableOf (0 + length (flatten ws)) (z ∷ [])) s (4 * i + j) (q .0))
-    ∙ (rw (e, table-append 0 ws (z ∷ [])) at r)
-    ∙ List·getD-append ws (z ∷ []) [] (4 * i + j) (q .0)
-    ∙ q .1)
+module _ (s old : List ℕ) (accepted : tableCall s old .refusal ≡ 0) where
+  -- the count that it answers, and the table as it leaves it
+  abbrev count : ℕ
+  count = tableCall s old .value .tokens
+
+  abbrev table : List ℕ
+  table = tableCall s old .value .buffer
+
+  abbrev ws : List (List ℕ)
+  ws = partsOf (tokens s)
+
+  abbrev rest : List ℕ
+  rest = drop (afterLast nonWhitespace s) s
+
+  -- the parts are the text up to its trailing whitespace, and so few that each number fits
+  whole : flatten ws ++ rest ≡ s
+  whole = ap (λ (x : List ℕ). x ++ rest) (tokens-joined s) ∙ take-append-drop (afterLast nonWhitespace s) s
+
+  short : length (flatten ws) < 256 ^ 4
+  short = let a = text-fit textLimit s (filled-accepted s _ old accepted .0) .short in omega (arith, sym (length-append (flatten ws) rest) ∙ ap length whole)
+
+  -- four pairs a token are the table of all parts
+  count-is : 4 * count ≡ length ws
+  count-is = ap (λ (f : Filled). 4 * f .tokens) (filled-accepted s _ old accepted .1) ∙ sym (parts-length (tokens s))
+
+  abbrev past : List ℕ
+  past = drop (length (records 0 (tokens s))) old
+
+  table-is : table ≡ tableOf 0 ws ++ past
+  table-is = ap (λ (f : Filled). f .buffer) (filled-accepted s _ old accepted .1) ∙ ap (λ (r : List ℕ). r ++ past) (records-table 0 (tokens s))
+
+  -- part j of token i is in the text where its pair says
+  pub part-read : (none : Token) (i j : ℕ) → i < count → j < 4 → wordAt (4 * i + j) table s ≡ getD (parts (getD (tokens s) i none)) j []
+  part-read none i j h k =
+      ap₂ (λ (t r : List ℕ). wordAt (4 * i + j) t r) table-is (sym whole) ∙ word-at ws past short rest (4 * i + j) (omega (arith, count-is))
+      ∙ parts-at (tokens s) none i j (omega (arith, count-is, parts-length (tokens s))) k
+
+  -- "Joined, the pairs give the text less its trailing whitespace."
+  pub pairs-joined : pairsJoined (4 * count) table s ≡ take (afterLast nonWhitespace s) s
+  pairs-joined =
+      ap₂ (λ (n : ℕ) (t : List ℕ). pairsJoined n t s) count-is table-is ∙ ap (pairsJoined (length ws) (tableOf 0 ws ++ past)) (sym whole)
+      ∙ words-joined ws past short rest (length ws) (omega arith) ∙ ap flatten (take-length ws) ∙ tokens-joined s
+
+  -- "Each starts where the one before it ends, empty ones too", and the first at the start of the text
+  pub first-pair : 0 < count → offsetAt 0 table ≡ 0
+  unfolding flatten
+  first-pair h = rw table-is (pair-at ws past short 0 (omega (arith, count-is)) .0)
+
+  pub next-pair : (k : ℕ) → suc k < 4 * count → offsetAt (suc k) table ≡ offsetAt k table + lengthAt k table
+  next-pair k h =
+      let p = pair-at ws past short k (omega (arith, count-is)) in
+      rw (table-is, p .0, p .1)
+      (pair-at ws past short (suc k) (omega (arith, count-is)) .0 ∙ ap length (flatten-suc ws k (omega (arith, count-is))) ∙ length-append (flatten (take k ws)) (getD ws k []))
+
+  -- so they are "sorted by offset"
+  pub pairs-sorted : (i j : ℕ) → i ≤ j → j < 4 * count → offsetAt i table ≤ offsetAt j table
+  pairs-sorted i j h l = go j i h l
+    where
+      go : (j i : ℕ) → i ≤ j → j < 4 * count → offsetAt i table ≤ offsetAt j table
+      go zero i h l = let e : i ≡ 0 = omega arith in rw e (omega arith)
+      go (suc j) i h l =
+          ⊎-elim (λ (k : i ≤ j). omega (arith, next-pair j l, go j i k (omega arith))) (λ (k : j < i). let e : i ≡ suc j = omega arith in rw e (omega arith)) (le-or-lt i j)

@@ -7,3 +7,4 @@ pub mod Walks
 pub mod Answers
 pub mod Joined
 pub mod Glue
+pub mod Peeled

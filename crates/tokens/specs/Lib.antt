@@ -1,3 +1,2 @@
 pub mod Tokens
 pub mod Table
-pub mod Ends

@@ -24,19 +24,10 @@ size t = length (flatten (parts t))
 unfoldable pub recordOf : ℕ → Token → List ℕ
 recordOf at t = tableOf at (parts t)
 
--- the bytes of a record
-abbrev pub recordBytes : ℕ
-recordBytes = 32
-
 -- the records of tokens of which the first starts at the offset `at`
 unfoldable pub records : ℕ → List Token → List ℕ
 records at [] = []
 records at (t ∷ ts) = recordOf at t ++ records (at + size t) ts
-
--- the parts of the tokens, joined
-unfoldable pub joined : List Token → List ℕ
-joined [] = []
-joined (t ∷ ts) = flatten (parts t) ++ joined ts
 
 -- the count of tokens, and the buffer's final bytes
 pub record Filled : Type 0 where
@@ -60,6 +51,10 @@ abbrev pub asFilled : Tokens → List ℕ → Call Filled
 asFilled r buffer = record { refusal = r .refusal; value = record { tokens = r .tokens; buffer = buffer } }
 
 -- ---- no public promise is made of these
+
+-- the bytes of a record
+abbrev pub recordBytes : ℕ
+recordBytes = 32
 
 -- where the parts of a token start that starts at the offset `at`, and where the last one ends
 abbrev pub placesOf : ℕ → Token → Places

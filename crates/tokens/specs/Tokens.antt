@@ -18,7 +18,8 @@ pub record Token : Type 0 where
 -- how much of what follows the prepunctuation is the name: "trailing marks from `POSTPUNCTUATION` are peeled, but the first
 -- byte of what follows the prepunctuation always stays in the name"
 abbrev pub nameSize : List ℕ → ℕ
-nameSize s = suc (afterLast unmarked (drop 1 s))
+nameSize [] = 0
+nameSize (b ∷ s) = suc (afterLast unmarked s)
 
 -- "Leading marks from `PREPUNCTUATION` are its prepunctuation". In a run wholly of them nothing follows, so name and punctuation
 -- are empty

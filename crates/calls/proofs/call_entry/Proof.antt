@@ -25,7 +25,7 @@ call-entry-spec =
     let at-if1 = at-if2 .before .before .before in
     let start = at-if1 .before .before .before .before in
     entry-none (start .args .s .now) (start .args .out .now) (at-if1 .before .refusal-of .ensures) (start .args .k) (at-if1 .if1 .left)
-    (at-if2 .before .before .find-entry .ensures) (not-true _ (at-if2 .if2 .taken))
+    (at-if2 .before .before .find-entry .result) (at-if2 .before .before .find-entry .ensures) (not-true _ (at-if2 .if2 .taken))
     (c .entry-refused2 .ensures ∙ ap refusedEntry (c .before .number .ensures)))
     (λ c κs. search needs)
     (λ c κs. search needs)
@@ -37,4 +37,4 @@ call-entry-spec =
     let start = at-if1 .before .before .before .before in
     c .before .before .call-name .ensures
     ∙ entry-there (start .args .s .now) (start .args .out .now) (at-if1 .before .refusal-of .ensures) (start .args .k) (at-if1 .if1 .left)
-    (at-find-entry .find-entry .ensures) (not-false _ (at-part .before .if2 .left)) (at-part .part .ensures)))
+    (at-find-entry .find-entry .result) (at-find-entry .find-entry .ensures) (not-false _ (at-part .before .if2 .left)) (at-part .part .ensures)))

@@ -1,0 +1,166 @@
+-- What holds of the parts of every token of a text, by the sentences of document 01. Assumes nothing.
+use mathlib.Core.Path.{_≡_, refl, sym, ap, _∙_}
+use mathlib.Core.Bool.{Bool, true, false, cond, _&&_, and-false, true≢false}
+use mathlib.Core.List.{List, [], _∷_, _++_, append-nil, flatten}
+use Prim.Native.Nat.{ℕ, zero, suc, _+_, _-_, _<_}
+use native.Mathlib.Omega.{arith}
+use lib.Dec.{eqb}
+use lib.ListN.{length, take, drop, getD, length-append, take-append-drop}
+use lib.Seq.{drop-cons, getD-take, length-take-le, take-length, drop-length}
+use borrow.Author.Tests.{eqb-true, eqb-false, eq-eqb, ne-eqb, not-true, not-false}
+use Rattle.lists.specs.Bytes.{all, span, lead, afterLast}
+use Rattle.lists.specs.Classes.{whitespace, nonWhitespace, leadingMark, trailingMark, unmarked}
+use Rattle.lists.proofs.Scan.{all-append, span-le, span-all, span-short, span-fails, all-span, last-le, last-rest}
+use Rattle.tokens.specs.Tokens.{Token, nameSize, marked, cut, afterWhite, afterRun, firstToken, tokens, parts}
+use Rattle.tokens.proofs.Forward.{run-some, run-stops, tokens-none, tokens-more, tokens-induct, firstSize, first-size, first-joined}
+use Rattle.tokens.proofs.Walks.{first-white}
+use Rattle.tokens.proofs.Joined.{last-white, last-first}
+
+-- what follows a token's whitespace
+abbrev pub runOf : Token → List ℕ
+runOf t = t .prepunctuation ++ (t .name ++ t .punctuation)
+
+-- a token; `ends` says that the text ends with it
+pub record Peeled (ends : Bool) (t : Token) : Type 0 where
+  -- "Whitespace is space, tab, LF, CR. Each maximal run of other bytes is one token."
+  pub white : all whitespace (t .whitespace) ≡ true
+  pub run : (0 < length (runOf t)) × (all nonWhitespace (runOf t) ≡ true)
+  -- "Leading marks from `PREPUNCTUATION` are its prepunctuation; trailing marks from `POSTPUNCTUATION` are peeled"
+  pub leading : all leadingMark (t .prepunctuation) ≡ true
+  pub trailing : all trailingMark (t .punctuation) ≡ true
+  -- "A run wholly of leading marks has an empty name if whitespace follows and is itself the name if the text ends there."
+  pub marks : all leadingMark (runOf t) ≡ true → (t .name ≡ cond ends (runOf t) []) × (t .punctuation ≡ [])
+  -- of another run no leading mark is left: "the first byte of what follows the prepunctuation always stays in the name"
+  pub first : all leadingMark (runOf t) ≡ false → (0 < length (t .name)) × (leadingMark (getD (t .name) 0 0) ≡ false)
+  -- nor a trailing mark after that byte
+  pub last : all leadingMark (runOf t) ≡ false → 1 < length (t .name) → trailingMark (getD (t .name) (length (t .name) - 1) 0) ≡ false
+
+-- tokens one after the other, each but the first with whitespace before it; `ends` says that the text ends with the last one
+abbrev pub AllPeeled : Bool → List Token → Type 0
+AllPeeled ends [] = Unit
+AllPeeled ends (t ∷ []) = Peeled ends t
+AllPeeled ends (t ∷ u ∷ ts) = Peeled false t × (0 < length (u .whitespace)) × AllPeeled ends (u ∷ ts)
+
+-- the text has no trailing whitespace
+abbrev pub endsInRun : List ℕ → Bool
+endsInRun s = eqb (length s) (afterLast nonWhitespace s)
+
+-- the last byte that passes
+pub last-passes : (p : ℕ → Bool) (s : List ℕ) (k : ℕ) → afterLast p s ≡ suc k → p (getD s k 0) ≡ true
+unfolding afterLast
+last-passes p [] k h = absurd (omega arith)
+last-passes p (b ∷ s) k h = go (afterLast p s) (p b) refl (last-passes p s) k h
+  where
+    go : (n : ℕ) (t : Bool) → p b ≡ t → ((j : ℕ) → n ≡ suc j → p (getD s j 0) ≡ true) → (k : ℕ)
+        → cond (eqb n 0) (cond t 1 0) (suc n) ≡ suc k → p (getD (b ∷ s) k 0) ≡ true
+    go zero true e i zero h = e
+    go zero true e i (suc k) h = absurd (omega arith)
+    go zero false e i k h = absurd (omega arith)
+    go (suc n) t e i zero h = absurd (omega (arith, rw (ne-eqb (suc n) 0 (omega arith)) at h))
+    go (suc n) t e i (suc k) h = i k (omega (arith, rw (ne-eqb (suc n) 0 (omega arith)) at h))
+
+module _ (white : List ℕ) (w : all whitespace white ≡ true) where
+  -- a run that is not wholly leading marks: the marks before its first other byte b, and what follows that
+  named-peeled : (ends : Bool) (pre : List ℕ) (b : ℕ) (r : List ℕ) → all leadingMark pre ≡ true → leadingMark b ≡ false → all nonWhitespace (pre ++ b ∷ r) ≡ true
+      → Peeled ends (record { whitespace = white; prepunctuation = pre; name = take (nameSize (b ∷ r)) (b ∷ r); punctuation = drop (nameSize (b ∷ r)) (b ∷ r) })
+  unfolding all
+  named-peeled ends pre b r m f n =
+      let k : ℕ = afterLast unmarked r in
+      let l : length (take k r) ≡ k = length-take-le k r (last-le unmarked r) in
+      let e : pre ++ (b ∷ take k r ++ drop k r) ≡ pre ++ b ∷ r = ap (λ (x : List ℕ). pre ++ b ∷ x) (take-append-drop k r) in
+      let q : all leadingMark (pre ++ b ∷ r) ≡ false = all-append leadingMark pre (b ∷ r) ∙ rw (m, f) in
+      record {
+        white = w;
+        run = (omega (arith, length-append pre (b ∷ take k r ++ drop k r)), rw e n);
+        leading = m;
+        trailing = last-rest unmarked trailingMark (λ c. not-false (trailingMark c)) r;
+        marks = λ h. absurd (true≢false (sym h ∙ ap (all leadingMark) e ∙ q));
+        first = λ h. (omega arith, f);
+        last = λ h g. last-byte k refl (omega arith);
+      }
+    where
+      last-byte : (k : ℕ) → k ≡ afterLast unmarked r → 0 < k → trailingMark (getD (b ∷ take k r) (suc (length (take k r)) - 1) 0) ≡ false
+      last-byte zero e h = absurd (omega arith)
+      last-byte (suc j) e h =
+          let l : suc (length (take (suc j) r)) - 1 ≡ suc j = omega (arith, length-take-le (suc j) r (omega (arith, last-le unmarked r))) in
+          rw (l, getD-take (suc j) r j 0 (omega arith)) (not-true _ (last-passes unmarked r j (sym e)))
+
+  -- a run that is wholly leading marks
+  whole-peeled : (ends : Bool) (run : List ℕ) → all leadingMark run ≡ true → 0 < length run → all nonWhitespace run ≡ true
+      → Peeled ends (record { whitespace = white; prepunctuation = cond ends [] run; name = cond ends run []; punctuation = [] })
+  unfolding all
+  whole-peeled ends run m l n =
+      record {
+        white = w;
+        run = rw (e ends) (l, n);
+        leading = leads ends;
+        trailing = refl;
+        marks = λ h. rw (e ends) (refl, refl);
+        first = λ h. absurd (true≢false (sym m ∙ ap (all leadingMark) (sym (e ends)) ∙ h));
+        last = λ h. absurd (true≢false (sym m ∙ ap (all leadingMark) (sym (e ends)) ∙ h));
+      }
+    where
+      e : (t : Bool) → cond t [] run ++ (cond t run [] ++ []) ≡ run
+      e true = append-nil run
+      e false = append-nil run
+
+      leads : (t : Bool) → all leadingMark (cond t [] run) ≡ true
+      leads true = refl
+      leads false = m
+
+  -- a run, cut
+  cut-peeled : (run : List ℕ) (ends : Bool) → 0 < length run → all nonWhitespace run ≡ true → Peeled ends (cut white run ends)
+  unfolding cut
+  cut-peeled run ends l n = go (all leadingMark run) refl ends
+    where
+      go : (m : Bool) → all leadingMark run ≡ m → (ends : Bool)
+          → Peeled ends (cond (ends && m) (record { whitespace = white; prepunctuation = []; name = run; punctuation = [] }) (marked white run))
+      go true e true = whole-peeled true run e l n
+      go true e false = rw (all-span leadingMark run e, take-length, drop-length) (whole-peeled false run e l n)
+      go false e ends =
+          let k : ℕ = span leadingMark run in
+          let h : k < length run = span-short leadingMark run e in
+          let d : drop k run ≡ getD run k 0 ∷ drop (suc k) run = drop-cons run k 0 h in
+          let j : take k run ++ getD run k 0 ∷ drop (suc k) run ≡ run = ap (λ (r : List ℕ). take k run ++ r) (sym d) ∙ take-append-drop k run in
+          rw (and-false, d) (named-peeled ends (take k run) (getD run k 0) (drop (suc k) run) (span-all leadingMark run) (span-fails leadingMark run h) (ap (all nonWhitespace) j ∙ n))
+
+-- the first token of a text
+first-peeled : (s : List ℕ) → all whitespace s ≡ false → Peeled (eqb (length (afterRun s)) 0) (firstToken s)
+first-peeled s h =
+    let x : List ℕ = afterWhite s in
+    let l : length (lead nonWhitespace x) ≡ span nonWhitespace x = length-take-le (span nonWhitespace x) x (span-le nonWhitespace x) in
+    cut-peeled (lead whitespace s) (span-all whitespace s) (lead nonWhitespace x) (eqb (length (afterRun s)) 0) (omega (arith, run-some s h)) (span-all nonWhitespace x)
+
+-- a token before those of the text r
+before-peeled : (t : Token) (r : List ℕ) → Peeled (eqb (length r) 0) t → (0 < length r → 0 < span whitespace r) → AllPeeled (endsInRun r) (tokens r)
+    → AllPeeled (endsInRun r) (t ∷ tokens r)
+before-peeled t r p f i = go (all whitespace r) refl
+  where
+    go : (b : Bool) → all whitespace r ≡ b → AllPeeled (endsInRun r) (t ∷ tokens r)
+    go true e = rw (tokens-none r e, last-white r e) p
+    go false e =
+        let h : span whitespace r < length r = span-short whitespace r e in
+        let n : eqb (length r) 0 ≡ false = ne-eqb (length r) 0 (omega arith) in
+        let j = rw (tokens-more r e) at i in
+        rw (tokens-more r e) ((rw n at p), omega (arith, first-white r, f (omega arith)), j)
+
+-- taking the first token off does not change how a text ends
+ends-alike : (s : List ℕ) → all whitespace s ≡ false → endsInRun s ≡ endsInRun (afterRun s)
+ends-alike s h = go (endsInRun (afterRun s)) refl
+  where
+    r : List ℕ
+    r = afterRun s
+
+    n : firstSize s + length r ≡ length s
+    n = ap (λ (k : ℕ). k + length r) (sym (first-size s)) ∙ sym (length-append (flatten (parts (firstToken s))) r) ∙ ap length (first-joined s)
+
+    go : (t : Bool) → endsInRun r ≡ t → endsInRun s ≡ t
+    go true e = eq-eqb (length s) (afterLast nonWhitespace s) (omega (arith, last-first s h, n, eqb-true (length r) (afterLast nonWhitespace r) e))
+    go false e = ne-eqb (length s) (afterLast nonWhitespace s) (λ q. eqb-false (length r) (afterLast nonWhitespace r) e (omega (arith, last-first s h, n)))
+
+-- "Each maximal run of other bytes is one token": the tokens of a text
+pub tokens-peeled : (s : List ℕ) → AllPeeled (endsInRun s) (tokens s)
+tokens-peeled =
+    tokens-induct (λ s. AllPeeled (endsInRun s) (tokens s))
+    (λ s h. rw (tokens-none s h) tt)
+    (λ s h i. rw (tokens-more s h, ends-alike s h) (before-peeled (firstToken s) (afterRun s) (first-peeled s h) (run-stops s) i))
