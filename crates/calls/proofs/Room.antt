@@ -1,9 +1,9 @@
--- A sheet of n bytes has a call sheet of at most 11 (n + 1). Assumes nothing.
-use mathlib.Core.Path.{_≡_, sym, ap, _∙_}
-use mathlib.Core.Bool.{Bool, true, false, and-eq-true-iff}
+-- A sheet of n bytes has a call sheet of at most 11 (n + 1), and what follows for short sheets. Assumes nothing.
+use mathlib.Core.Path.{_≡_, refl, sym, ap, _∙_}
+use mathlib.Core.Bool.{Bool, true, false, cond, not, _||_, and-eq-true-iff}
 use mathlib.Core.Logic.{⊎-elim}
 use mathlib.Core.List.{List, [], _∷_, _++_, map, flatten}
-use Prim.Native.Nat.{ℕ, _+_, _-_, _*_, _/_, _≤_, _<_}
+use Prim.Native.Nat.{ℕ, zero, suc, _+_, _-_, _*_, _/_, _≤_, _<_}
 use Prim.Native.Char.{code}
 use native.Mathlib.Nat.{add-zero}
 use native.Mathlib.Omega.{arith}
@@ -11,11 +11,14 @@ use lib.Dec.{ltb, eqb}
 use lib.ListN.{length, take, drop, getD, length-append, length-take, length-drop, length-map}
 use lib.Seq.{getD-drop}
 use borrow.Author.Tests.{not-false, le-ltb, ltb-true}
-use Rattle.lists.specs.Bytes.{bytes, keep, lower, ends, all, span, same, sameBy}
+use Rattle.lists.specs.Bytes.{bytes, keep, lower, ends, all, any, span, same, sameBy}
 use Rattle.lists.specs.Classes.{whitespace, nonWhitespace, except}
 use Rattle.lists.proofs.Recursion.{recur-induct, cond-elim}
 use Rattle.lists.proofs.Scan.{keep-le, span-some, span-fails}
 use Rattle.lists.proofs.Sets.{le-or-lt}
+use Rattle.admit.specs.Utf8.{utf8}
+use Rattle.admit.specs.Refusals.{number, firstDue, textLimit, textTests, Call, call}
+use Rattle.admit.specs.declared.Refusal.the-variants.{NotUtf8}
 use Rattle.lexicon.proofs.Laws.{word-short}
 use Rattle.units.specs.Units.{unitAbbreviations, abbreviations, unitWords, before, unitIndex, unitWord, wordNumbers}
 use Rattle.units.proofs.Laws.{word-row, miss-word}
@@ -37,7 +40,10 @@ use Rattle.rows.specs.Rows.{Reading, by, perCent, clock, hourOf, minuteOf, cloc
 use Rattle.rows.specs.declared.Row.the-variants.{NoRow}
 use Rattle.rows.proofs.Laws.{ends-some, shorter}
 use Rattle.sheets.specs.Sheet.{SheetEntry, entriesOf, wordsOf, spaced, lineOf, callSheet}
+use Rattle.sheets.specs.Calls.{nameLimit, anyLong, sheetTests, SheetGiven, sheetCall}
 use Rattle.entries.specs.Find.{named}
+use Rattle.calls.specs.Answers.{asSheet}
+use Rattle.calls.specs.declared.CalledSheet.{CalledSheet}
 
 spaced-width : (ws : List Word) → length (spaced (spelled ws)) ≡ width ws
 unfolding spaced spelled
@@ -161,6 +167,37 @@ lines-room (b ∷ bs) (t ∷ ts) =
 
 pub sheet-room : (s : List ℕ) → length (callSheet s) ≤ 11 * (length s + 1)
 sheet-room s = omega (arith, lines-room (starts (tokens s)) (tokens s), names-room s .0)
+
+-- a name is no longer than its text
+no-long : (bs : List Bool) (ts : List Token) → nameRoom ts ≤ nameLimit + 1 → anyLong (entriesOf bs ts) ≡ false
+unfolding any entriesOf nameRoom
+no-long [] ts h = refl
+no-long (b ∷ bs) [] h = refl
+no-long (b ∷ bs) (t ∷ ts) h = rw (le-ltb nameLimit (length (t .name)) (omega arith), no-long bs ts (omega arith))
+
+-- the number of a call
+call-number : {A : Type 0} (nothing given : A) (n : ℕ) → call nothing n given .refusal ≡ n
+call-number nothing given zero = refl
+call-number nothing given (suc n) = refl
+
+-- so a sheet that is no longer than a name may be, in a buffer of 11 bytes for each of its bytes and one more, is refused only where
+-- it isn't UTF-8
+pub broken-alone : (s old new : List ℕ) {r : CalledSheet} → asSheet r new ≡ sheetCall s old → length s ≤ nameLimit → 11 * (length s + 1) ≤ length old
+    → (r .refusal ≡ 0 → ⊥) → r .refusal ≡ number NotUtf8
+unfolding sheetCall textTests any
+broken-alone s old new {r} e h k z =
+    let due : r .refusal ≡ firstDue (sheetTests s (ltb (length old) (length (callSheet s)))) =
+    ap (λ (c : Call SheetGiven). c .refusal) e ∙ call-number _ _ _ in
+    go (utf8 s)
+    (rw (
+      le-ltb textLimit (length s) (omega arith),
+      no-long (starts (tokens s)) (tokens s) (omega (arith, names-room s .0)),
+      le-ltb (length old) (length (callSheet s)) (omega (arith, sheet-room s)),
+    ) at due)
+  where
+    go : (u : Bool) → r .refusal ≡ cond (not u || false) 2 0 → r .refusal ≡ 2
+    go true q = absurd (z q)
+    go false q = q
 
 -- what the code tests before it measures
 pub surely-fits : (n m room : ℕ) → n ≤ 11 * (m + 1) → m < room / 11 → false ≡ ltb room n

@@ -3,14 +3,23 @@ use calls::call_sheet;
 use libc::STDIN_FILENO;
 use libc::STDOUT_FILENO;
 use lists::front;
+ghost use mathlib.Core.Path.{_≡_};
+ghost use Prim.Native.Nat.{_+_, _*_, _≤_};
+ghost use lib.ListN.{length};
 
-fn write_refusal(number: u8) {
+// Only a sheet that isn't UTF-8 is refused: the sheets read here are too short for numbers 1 and 4, and the buffer has room.
+fn write_refusal(number: u8)
+    requires { ⌜ number ≡ 2 ⌝ }
+{
     io::write_all(STDOUT_FILENO, b"refused ");
     io::print_decimal(STDOUT_FILENO, number as u64);
     io::write_all(STDOUT_FILENO, b"\n");
 }
 
-fn write_call(sheet: &[u8], out: &mut [u8]) {
+// The buffer has room for the call sheet, whatever the sheet.
+fn write_call(sheet: &[u8], out: &mut [u8])
+    requires { ⌜ (length (now sheet) ≤ 4096) × (11 * (length (now sheet) + 1) ≤ length (now out)) ⌝ }
+{
     let called = call_sheet(sheet, out);
     if called.refusal != 0 {
         write_refusal(called.refusal);

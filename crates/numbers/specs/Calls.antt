@@ -13,6 +13,15 @@ use Rattle.numbers.specs.declared.Reader.{Reader}
 use Rattle.numbers.specs.declared.Reader.the-variants.{Cardinal, Ordinal, Year, Digits, Real, Letters}
 use Rattle.numbers.specs.declared.Numeral.{Numeral}
 
+abbrev pub asNumeral : Numeral → Call ℕ
+asNumeral r = record { refusal = r .refusal; value = r .value }
+
+-- roman_value: "every count and value 0" where it is refused; it lends no buffer
+abbrev pub romanCall : List ℕ → Call ℕ
+romanCall s = call 0 (textRefusal textLimit s) (romanValue s)
+
+-- ---- no public promise is made of these
+
 -- the words that each reader reads a text as
 abbrev pub wordsBy : Reader → List ℕ → List Word
 wordsBy Cardinal s = cardinal s
@@ -21,10 +30,3 @@ wordsBy Year s = year s
 wordsBy Digits s = digits s
 wordsBy Real s = real s
 wordsBy Letters s = letters s
-
-abbrev pub asNumeral : Numeral → Call ℕ
-asNumeral r = record { refusal = r .refusal; value = r .value }
-
--- roman_value: "every count and value 0" where it is refused; it lends no buffer
-abbrev pub romanCall : List ℕ → Call ℕ
-romanCall s = call 0 (textRefusal textLimit s) (romanValue s)

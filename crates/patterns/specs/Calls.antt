@@ -9,7 +9,7 @@ use Rattle.admit.specs.declared.Refusal.the-variants.{BufferTooShort}
 use Rattle.lists.specs.Bytes.{over}
 use Rattle.units.specs.Units.{isUnit, unitWord}
 use Rattle.shapes.specs.Shapes.{unitAt, hasUnit, unitPart}
-use Rattle.shapes.specs.Times.{timeSplit}
+use Rattle.shapes.specs.Times.{TimeParts, none, timeParts, timeSplit, partsOf}
 use Rattle.shapes.specs.declared.TimeSplit.{TimeSplit}
 use Rattle.shapes.specs.declared.TimeSplit.the-variants.{Nothing}
 use Rattle.patterns.specs.declared.Verdict.{Verdict}
@@ -21,24 +21,24 @@ use Rattle.patterns.specs.declared.UnitWord.{UnitWord}
 abbrev pub asVerdict : Verdict → Call Bool
 asVerdict r = record { refusal = r .refusal; value = r .yes }
 
--- what a refused call answers
-abbrev pub noVerdict : ℕ → Call Bool
-noVerdict n = record { refusal = n; value = false }
-
--- what an accepted one does
-abbrev pub verdictGiven : Bool → Call Bool
-verdictGiven v = record { refusal = 0; value = v }
-
 -- "every verdict no": a call that gives the verdict v of the text s
 abbrev pub verdictCall : List ℕ → Bool → Call Bool
 verdictCall s v = call false (textRefusal textLimit s) v
 
-abbrev pub asTime : SplitTime → Call TimeSplit
-asTime r = record { refusal = r .refusal; value = r .split }
+-- split_time_meridiem: "answers hour, minute and meridiem, or none", and "no part" where it is refused
+abbrev pub timeCall : List ℕ → Call TimeParts
+timeCall s = call none (textRefusal textLimit s) (timeParts s)
 
--- split_time_meridiem: "hour, minute and meridiem, or none", and "no part" where it is refused
-abbrev pub timeCall : List ℕ → Call TimeSplit
-timeCall s = call Nothing (textRefusal textLimit s) (timeSplit s)
+-- the parts of the name s that an answer's offsets stand for
+abbrev pub asTime : SplitTime → List ℕ → Call TimeParts
+asTime r s = record { refusal = r .refusal; value = partsOf (r .split) s }
+
+-- the same call's offsets
+abbrev pub offsetsCall : List ℕ → Call TimeSplit
+offsetsCall s = call Nothing (textRefusal textLimit s) (timeSplit s)
+
+abbrev pub asOffsets : SplitTime → Call TimeSplit
+asOffsets r = record { refusal = r .refusal; value = r .split }
 
 -- a part of the lent name, or none: no, at 0, of 0 bytes
 pub record FoundPart : Type 0 where
@@ -72,16 +72,26 @@ asWord r store = record { refusal = r .refusal; value = record { found = r .yes;
 abbrev pub storeTests : List ℕ → List ℕ → List Test
 storeTests word store = BufferTooShort when ltb (length store) (length word) ∷ []
 
--- the word of an accepted text goes to the store, or the store is too short for it
-abbrev pub storeCall : List ℕ → List ℕ → Call Stored
-storeCall word store =
-    call (record { found = false; size = 0; store = store })
-    (firstDue (storeTests word store))
-    (record { found = true; size = length word; store = over word store })
-
 -- unit_word: the tests of its text, and then of the store
 abbrev pub wordCall : List ℕ → List ℕ → Call Stored
 wordCall s store =
     call (record { found = false; size = 0; store = store })
     (firstDue (textTests textLimit (s ∷ []) ++ storeTests (unitWord s) store))
     (record { found = isUnit s; size = length (unitWord s); store = over (unitWord s) store })
+
+-- ---- no public promise is made of these
+
+-- the verdict of a refused call
+abbrev pub noVerdict : ℕ → Call Bool
+noVerdict n = record { refusal = n; value = false }
+
+-- the verdict of an accepted one
+abbrev pub verdictGiven : Bool → Call Bool
+verdictGiven v = record { refusal = 0; value = v }
+
+-- the word of an accepted text goes to the store, or the store is too short for it
+abbrev pub storeCall : List ℕ → List ℕ → Call Stored
+storeCall word store =
+    call (record { found = false; size = 0; store = store })
+    (firstDue (storeTests word store))
+    (record { found = true; size = length word; store = over word store })

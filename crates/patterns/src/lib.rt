@@ -7,7 +7,7 @@ use lists::unpacked;
 use shapes::TimeSplit;
 ghost use mathlib.Core.Path.{_≡_};
 ghost use Rattle.shapes.specs.Shapes.{isDigits, isAlpha, isDouble, isCommaInt, isOrdinal, isUsMoney, isIllion, isRoman, isDrOrSt, isNumberS, isLeadingZeroDigits, isSevenDigitPhone, isNDigits, isTime, isDottedAbbrev, isDigitsSlashDigits, isDigitsDashDigits};
-ghost use Rattle.patterns.specs.Calls.{asVerdict, noVerdict, verdictGiven, verdictCall, asTime, timeCall, asUnit, unitCall, asWord, storeCall, wordCall};
+ghost use Rattle.patterns.specs.Calls.{asVerdict, verdictCall, asTime, timeCall, asOffsets, offsetsCall, asUnit, unitCall, asWord, wordCall, noVerdict, verdictGiven, storeCall};
 
 // A shape's verdict: the refusal's number or 0, and the verdict, no where the call is refused.
 #[repr(C)]
@@ -16,7 +16,7 @@ pub struct Verdict {
     pub yes: bool,
 }
 
-// The offsets of hour, minute and meridiem, or none.
+// Hour, minute and meridiem by their offsets in the name, or none.
 pub struct SplitTime {
     pub refusal: u8,
     pub split: TimeSplit,
@@ -194,7 +194,7 @@ pub fn is_time(s: &[u8]) -> Verdict
 }
 
 pub fn split_time_meridiem(s: &[u8]) -> SplitTime
-    ensures { λ r. ⌜ asTime r ≡ timeCall (now (s .entry)) ⌝ }
+    ensures { λ r. ⌜ (asTime r (now (s .entry)) ≡ timeCall (now (s .entry))) × (asOffsets r ≡ offsetsCall (now (s .entry))) ⌝ }
 {
     let refusal = refusal_of(s);
     if refusal != 0 {

@@ -1,4 +1,4 @@
-// The twelve rows of the call sheet: which row takes a name, and its words.
+// An entry's record: its row and, for row 8, its sign, with their numbers. Which row takes a name is a definition, in specs/Rows.antt.
 ghost use mathlib.Core.Path.{_≡_};
 ghost use Rattle.rows.specs.Rows.{signNumber, rowNumber, rowSign};
 

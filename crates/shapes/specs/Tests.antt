@@ -1,4 +1,4 @@
--- Tests of parts by number, so that one loop and one split serve several shapes. Definitions only.
+-- Tests of parts by number, so that one loop and one split serve several shapes. Definitions only; no public promise is made of them.
 use mathlib.Core.Bool.{Bool, false}
 use mathlib.Core.List.{List, [], _∷_}
 use Prim.Native.Nat.{ℕ}

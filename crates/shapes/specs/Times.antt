@@ -49,7 +49,9 @@ abbrev pub partsOf : TimeSplit → List ℕ → TimeParts
 partsOf (At hour minute meridiem) s = parts (take hour s) (take (meridiem - minute) (drop minute s)) (drop meridiem s)
 partsOf Nothing s = none
 
--- what split_time_meridiem answers of the name s: these offsets, and so these parts
+-- ---- no public promise is made of these
+
+-- what the shape answers of the name s: these offsets, and so these parts
 pub record SplitsTime (s : List ℕ) (r : TimeSplit) : Type 0 where
   pub offsets : r ≡ timeSplit s
   pub named : partsOf r s ≡ timeParts s

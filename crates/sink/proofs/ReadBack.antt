@@ -1,14 +1,16 @@
 -- A word is where the table says: what a caller reads from the two buffers. Assumes nothing.
-use mathlib.Core.Path.{_≡_, ap}
-use mathlib.Core.List.{List, [], _∷_, _++_, append-assoc, flatten}
+use mathlib.Core.Path.{_≡_, refl, sym, ap, _∙_}
+use mathlib.Core.List.{List, [], _∷_, _++_, append-assoc, append-nil, flatten}
 use Prim.Native.Nat.{ℕ, zero, suc, _+_, _*_, _^_, _<_}
+use native.Mathlib.Nat.{add-zero, zero-add}
 use native.Mathlib.Omega.{arith}
 use lib.ListN.{length, take, drop, getD, length-append}
-use lib.Seq.{take-append-seam, drop-append-seam, drop-append-add}
+use lib.Seq.{take-append-seam, drop-append-add}
 use Rattle.lists.specs.LittleEndian.{leValue, leBytes}
 use Rattle.lists.proofs.Rows.{leBytes-value}
+use Rattle.admit.specs.Refusals.{firstDue, call}
 use Rattle.sink.specs.Sink.{pairOf}
-use Rattle.sink.specs.Words.{tableOf}
+use Rattle.sink.specs.Words.{tableOf, Written, nothingWritten, written, wordsTests, wordsCall}
 
 -- number k of a table of four-byte numbers
 abbrev pub numberAt : ℕ → List ℕ → ℕ
@@ -25,25 +27,77 @@ after-pair a b t k j e =
     let q : 4 * j ≡ 8 + 4 * k = omega arith in
     rw q (ap (λ (l : List ℕ). leValue (take 4 l)) (drop-append-add (pairOf a b) t (4 * k)))
 
--- p is what stands in the store before the words
-word-from : (p : List ℕ) (ws : List (List ℕ)) (i : ℕ) → i < length ws → length p + length (flatten ws) < 256 ^ 4
-    → wordAt i (tableOf (length p) ws) (p ++ flatten ws) ≡ getD ws i []
-unfolding flatten tableOf pairOf leBytes
-word-from p [] i h l = absurd (omega arith)
-word-from p (w ∷ ws) zero h l =
-    let n = length-append w (flatten ws) in
-    rw (leBytes-value 4 (length p) (omega arith), leBytes-value 4 (length w) (omega arith), drop-append-seam p (w ++ flatten ws))
-    (take-append-seam w (flatten ws))
-word-from p (w ∷ ws) (suc i) h l =
-    let n = length-append w (flatten ws) in
-    let m = length-append p w in
-    let r = word-from (p ++ w) ws i (omega arith) (omega arith) in
-    rw (
-      after-pair (length p) (length w) (tableOf (length p + length w) ws) (2 * i) (2 * suc i) (omega arith),
-      after-pair (length p) (length w) (tableOf (length p + length w) ws) (2 * i + 1) (2 * suc i + 1) (omega arith),
-    )
-    (rw (m, append-assoc p w (flatten ws)) at r)
+-- pair i of a table whose first word starts at `at`: how many bytes stand before word i, and the word's length
+pub record PairIs (at : ℕ) (ws : List (List ℕ)) (table : List ℕ) (i : ℕ) : Type 0 where
+  pub offset : numberAt (2 * i) table ≡ at + length (flatten (take i ws))
+  pub size : numberAt (2 * i + 1) table ≡ length (getD ws i [])
 
--- word i of an accepted call, where the store is below 4 GiB, as it is for every reading
+-- whatever follows the table
+pair-from : (at : ℕ) (ws : List (List ℕ)) (u : List ℕ) (i : ℕ) → i < length ws → at + length (flatten ws) < 256 ^ 4 → PairIs at ws (tableOf at ws ++ u) i
+unfolding flatten tableOf pairOf leBytes
+pair-from at [] u i h l = absurd (omega arith)
+pair-from at (w ∷ ws) u zero h l =
+    let n = length-append w (flatten ws) in
+    record { offset = leBytes-value 4 at (omega arith) ∙ sym (add-zero at); size = leBytes-value 4 (length w) (omega arith) }
+pair-from at (w ∷ ws) u (suc i) h l =
+    let n = length-append w (flatten ws) in
+    let m = length-append w (flatten (take i ws)) in
+    let t = tableOf (at + length w) ws ++ u in
+    let r = pair-from (at + length w) ws u i (omega arith) (omega arith) in
+    record {
+      offset = after-pair at (length w) t (2 * i) (2 * suc i) (omega arith) ∙ r .offset ∙ omega arith;
+      size = after-pair at (length w) t (2 * i + 1) (2 * suc i + 1) (omega arith) ∙ r .size;
+    }
+
+-- word i after the words before it, whatever follows the words
+word-in : (ws : List (List ℕ)) (v : List ℕ) (i : ℕ) → i < length ws
+    → take (length (getD ws i [])) (drop (length (flatten (take i ws))) (flatten ws ++ v)) ≡ getD ws i []
+unfolding flatten
+word-in [] v i h = absurd (omega arith)
+word-in (w ∷ ws) v zero h = rw (append-assoc w (flatten ws) v) (take-append-seam w (flatten ws ++ v))
+word-in (w ∷ ws) v (suc i) h =
+    rw (append-assoc w (flatten ws) v, length-append w (flatten (take i ws)), drop-append-add w (flatten ws ++ v) (length (flatten (take i ws))))
+    (word-in ws v i (omega arith))
+
+word-from : (ws : List (List ℕ)) (u v : List ℕ) (i : ℕ) → i < length ws → length (flatten ws) < 256 ^ 4
+    → wordAt i (tableOf 0 ws ++ u) (flatten ws ++ v) ≡ getD ws i []
+word-from ws u v i h l =
+    let p = pair-from 0 ws u i h (omega arith) in
+    rw (p .offset, p .size, zero-add (length (flatten (take i ws)))) (word-in ws v i h)
+
+-- word i of a table and a store that hold nothing else
 pub word-read : (ws : List (List ℕ)) (i : ℕ) → i < length ws → length (flatten ws) < 256 ^ 4 → wordAt i (tableOf 0 ws) (flatten ws) ≡ getD ws i []
-word-read ws i h l = word-from [] ws i h (omega arith)
+word-read ws i h l = rw (append-nil (tableOf 0 ws), append-nil (flatten ws)) at (word-from ws [] [] i h l)
+
+-- ---- the call that reads the text s as the words ws, below the count that it answers, which is 0 where it is refused
+
+module _ (s : List ℕ) (ws : List (List ℕ)) (store table : List ℕ) (i : ℕ) where
+  abbrev given : Written
+  given = wordsCall s ws store table .value
+
+  -- then it is accepted
+  pub accepted : i < given .words → firstDue (wordsTests s ws store table) ≡ 0
+  unfolding wordsCall
+  accepted h = go (firstDue (wordsTests s ws store table)) h
+    where
+      go : (n : ℕ) → i < call (nothingWritten store table) n (written ws store table) .value .words → n ≡ 0
+      go zero h = refl
+      go (suc n) h = absurd (omega arith)
+
+  given-written : i < given .words → given ≡ written ws store table
+  unfolding wordsCall
+  given-written h = ap (λ (n : ℕ). call (nothingWritten store table) n (written ws store table) .value) (accepted h)
+
+  -- "Words come back end to end", the pairs "sorted by offset, one pair a word": pair i has the length of the words before word i and its own
+  pub pairs-read : i < given .words → length (flatten ws) < 256 ^ 4 → PairIs 0 ws (given .table) i
+  pairs-read h l =
+      let e = given-written h in
+      let k : i < length ws = rw e at h in
+      rw e (pair-from 0 ws (drop (length (tableOf 0 ws)) table) i k (omega arith))
+
+  -- and word i stands where the pair says, whatever stands past the result
+  pub words-read : i < given .words → length (flatten ws) < 256 ^ 4 → wordAt i (given .table) (given .store) ≡ getD ws i []
+  words-read h l =
+      let e = given-written h in
+      let k : i < length ws = rw e at h in
+      rw e (word-from ws (drop (length (tableOf 0 ws)) table) (drop (length (flatten ws)) store) i k l)

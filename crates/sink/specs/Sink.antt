@@ -1,5 +1,5 @@
--- What the writer of words does to the two lent buffers, as functions on lists: walkers promise it to each other. Of all this
--- a public promise speaks of `pairOf` and `pairBytes` alone. Definitions only.
+-- The pairs of a table; and what the writer of words does to the two lent buffers, as functions on lists, which walkers promise to each other.
+-- Definitions only.
 use mathlib.Core.Bool.{Bool, true, false}
 use mathlib.Core.List.{List, [], _∷_, _++_}
 use Prim.Native.Nat.{ℕ, _+_, _*_, min}
@@ -9,10 +9,6 @@ use Rattle.lists.specs.Bytes.{bytes}
 use Rattle.lists.specs.LittleEndian.{leBytes}
 use Rattle.sink.specs.declared.Pen.{Pen}
 
--- the largest usize, where the pen stays
-abbrev pub top : ℕ
-top = 0xffff_ffff_ffff_ffff
-
 -- "each number of a table takes four bytes, lowest first": a pair of offset and length
 unfoldable pub pairOf : ℕ → ℕ → List ℕ
 pairOf at size = leBytes 4 at ++ leBytes 4 size
@@ -20,6 +16,12 @@ pairOf at size = leBytes 4 at ++ leBytes 4 size
 -- the bytes of a pair
 abbrev pub pairBytes : ℕ
 pairBytes = 8
+
+-- ---- no public promise is made of these
+
+-- the largest usize, where the pen stays
+abbrev pub top : ℕ
+top = 0xffff_ffff_ffff_ffff
 
 -- the two buffers, the places in them that come next, and whether a space goes before each word, as in a line of the call sheet
 pub record Sink : Type 0 where

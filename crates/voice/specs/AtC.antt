@@ -1,8 +1,10 @@
 -- How the parts of a time and an entry's answer are laid out for C: numbers and a flag. Definitions only.
-use mathlib.Core.Bool.{true, false}
+use mathlib.Core.Bool.{true, false, cond}
 use mathlib.Core.List.{List}
 use Prim.Native.Nat.{ℕ, _-_}
+use lib.ListN.{take, drop}
 use Rattle.admit.specs.Refusals.{Call}
+use Rattle.shapes.specs.Times.{TimeParts, parts, none}
 use Rattle.shapes.specs.declared.TimeSplit.{TimeSplit}
 use Rattle.shapes.specs.declared.TimeSplit.the-variants.{At, Nothing}
 use Rattle.sheets.specs.Calls.{EntryGiven}
@@ -27,6 +29,20 @@ partsAtC n number Nothing =
 
 abbrev pub timeAtC : ℕ → Call TimeSplit → HwkTime
 timeAtC n r = partsAtC n (r .refusal) (r .value)
+
+-- the bytes that an offset and a length stand for in the text s
+abbrev pub partAt : ℕ → ℕ → List ℕ → List ℕ
+partAt at len s = take len (drop at s)
+
+-- "hour, minute and meridiem, or none": the parts of the text s that C is told of
+abbrev pub asTimeAtC : HwkTime → List ℕ → Call TimeParts
+asTimeAtC r s =
+    record {
+      refusal = r .refusal;
+      value =
+          cond (r .yes)
+          (parts (partAt (r .«hour_at») (r .«hour_len») s) (partAt (r .«minute_at») (r .«minute_len») s) (partAt (r .«meridiem_at») (r .«meridiem_len») s)) none;
+    }
 
 -- an entry's answer, with the buffer as the call leaves it
 abbrev pub asEntryAtC : HwkEntry → List ℕ → Call EntryGiven

@@ -17,7 +17,7 @@ ghost use mathlib.Core.List.{List};
 ghost use Prim.Native.Nat.{ℕ, _-_};
 ghost use lib.ListN.{length};
 ghost use Rattle.shapes.specs.Shapes.{isDigits, isAlpha, isDouble, isCommaInt, isOrdinal, isUsMoney, isIllion, isRoman, isDrOrSt, isNumberS, isLeadingZeroDigits, isSevenDigitPhone, isNDigits, isTime, isDottedAbbrev, isDigitsSlashDigits, isDigitsDashDigits};
-ghost use Rattle.patterns.specs.Calls.{asVerdict, verdictCall, asTime, timeCall, asUnit, unitCall, asWord, wordCall};
+ghost use Rattle.patterns.specs.Calls.{asVerdict, verdictCall, timeCall, asOffsets, offsetsCall, asUnit, unitCall, asWord, wordCall};
 ghost use Rattle.sink.specs.Words.{wordsCall, asWords};
 ghost use Rattle.numerals.specs.Words.{spelled};
 ghost use Rattle.numerals.specs.Cardinal.{cardinal, digits};
@@ -33,7 +33,7 @@ ghost use Rattle.sentences.specs.Calls.{startBytes, stepCall, asStep};
 ghost use Rattle.sheets.specs.Calls.{sheetCall, entryCall};
 ghost use Rattle.calls.specs.Answers.{asSheet, asEntry};
 ghost use Rattle.clear.specs.Test.{isClear};
-ghost use Rattle.voice.specs.AtC.{timeAtC, asEntryAtC};
+ghost use Rattle.voice.specs.AtC.{timeAtC, asTimeAtC, asEntryAtC};
 
 // split_time_meridiem for C, which takes no enum: each part by its offset and its length.
 #[repr(C)]
@@ -74,7 +74,7 @@ fn entry_at_c(e: CalledEntry) -> HwkEntry
 
 // The parts of a time in a text of n bytes.
 fn time_at_c(t: SplitTime, n: usize) -> HwkTime
-    ensures { λ r. ⌜ r ≡ timeAtC n (asTime t) ⌝ }
+    ensures { λ r. ⌜ r ≡ timeAtC n (asOffsets t) ⌝ }
 {
     let split = t.split;
     let TimeSplit::At {
@@ -206,7 +206,7 @@ pub extern "C" fn hwk_is_time(s: &[u8]) -> Verdict
 
 #[no_mangle]
 pub extern "C" fn hwk_split_time_meridiem(s: &[u8]) -> HwkTime
-    ensures { λ r. ⌜ r ≡ timeAtC (length (now (s .entry))) (timeCall (now (s .entry))) ⌝ }
+    ensures { λ r. ⌜ (asTimeAtC r (now (s .entry)) ≡ timeCall (now (s .entry))) × (r ≡ timeAtC (length (now (s .entry))) (offsetsCall (now (s .entry)))) ⌝ }
 {
     time_at_c(patterns::split_time_meridiem(s), s.len())
 }
