@@ -16,15 +16,16 @@ use Rattle.lists.proofs.Recursion.{recur-induct, cond-elim}
 use Rattle.lists.proofs.Scan.{all-append, all-split}
 use Rattle.lists.proofs.Sets.{le-or-lt}
 use Rattle.lists.proofs.Table.{below}
-use Rattle.lexicon.specs.Lexicon.{wordOf, onesAt}
-use Rattle.lexicon.proofs.Laws.{lexicon, no-word}
+use Rattle.lexicon.proofs.Laws.{lexicon}
 use Rattle.units.specs.Units.{unitAbbreviations, unitWords, unitIndex, unitWord}
 use Rattle.shapes.specs.Shapes.{isDottedAbbrev, isCommaInt, isTime, isLeadingZeroDigits, isDigits, isDouble, isOrdinal, unitAt, hasUnit, unitPart}
 use Rattle.shapes.specs.Times.{TimeParts, isMeridiemTime, timeParts}
-use Rattle.numerals.specs.Words.{Word, one, hundred, other, spell, spelled}
-use Rattle.numerals.specs.Cardinal.{clean, cardinalOf, cardinal, digits}
-use Rattle.numerals.specs.Ordinal.{orZero, onLast, ordinal}
-use Rattle.numerals.proofs.Forms.{Digits, clean-digits, Formed, formed-said, formed-spell, formed-form, cardinal-formed, zero-formed}
+use Rattle.numerals.specs.Words.{Word, one, hundred, other, spell, spelled, counted, vocabulary}
+use Rattle.numerals.specs.Cardinal.{clean, cardinalFew, cardinalOf, cardinal, digits}
+use Rattle.numerals.specs.Ordinal.{formIn, ordinalForm, orZero, onLast, ordinal}
+use Rattle.numerals.proofs.Cardinal.{cardinalOf-elim}
+use Rattle.numerals.proofs.Vocabulary.{Numeral, numeral-test, clean-digits, one-in, hundred-in, few-numerals, digits-numerals, cardinal-numerals}
+use Rattle.numerals.specs.Walk.{Digits}
 use Rattle.years.specs.Year.{zeroAt, yearStep, yearOf, year}
 use Rattle.reals.specs.Real.{pointAt, eAt, pointed, realStep, real}
 use Rattle.readings.specs.Letters.{chars, letterWord, letters}
@@ -42,65 +43,59 @@ SolidWord w = Solid (spell w)
 
 -- ---- words of the tables
 
-solidAt : ℕ → Bool
-solidAt k = solid (wordOf k)
-
--- no word of the lexicon has a space or an LF
-word-solid : (k : ℕ) → Solid (wordOf k)
-unfolding solidAt lexicon all
-word-solid k = ⊎-elim (λ (h : 91 ≤ k). rw (no-word k h)) (λ (h : k < 91). below solidAt 91 refl k h) (le-or-lt 91 k)
-
 unitSolid : ℕ → Bool
 unitSolid k = solid (getD unitWords k [])
 
--- nor has a unit's word
+-- no unit's word has a space or an LF
 unit-solid : (u : List ℕ) → Solid (unitWord u)
 unfolding unitSolid unitWords unitAbbreviations all
 unit-solid u =
     ⊎-elim (λ (h : 22 ≤ unitIndex u). rw (List·getD-eq-default unitWords [] h)) (λ (h : unitIndex u < 22). below unitSolid 22 refl (unitIndex u) h)
     (le-or-lt 22 (unitIndex u))
 
-formed-solid : (w : Word) → Formed w → SolidWord w
-formed-solid w f = rw (formed-spell w f) (word-solid (onesAt + f .place))
+-- nor has a word that numbers are read with
+numeral-solid : (w : Word) → Numeral w → SolidWord w
+unfolding vocabulary counted spell lexicon all
+numeral-solid = numeral-test (λ w. solid (spell w)) refl
+
+-- nor has its ordinal form
+form-solid : (w : Word) → Numeral w → Solid (ordinalForm (spell w))
+unfolding vocabulary counted spell lexicon ordinalForm formIn all
+form-solid = numeral-test (λ w. solid (ordinalForm (spell w))) refl
 
 -- ---- numbers
 
-formed-all : (ws : List Word) → Every Formed ws → Every SolidWord ws
-formed-all = every-imply Formed SolidWord formed-solid
-
-cardinalOf-solid : (s : List ℕ) → Digits s → Every SolidWord (cardinalOf s)
-cardinalOf-solid s d = formed-all (cardinalOf s) (cardinal-formed s d)
+numerals-solid : (ws : List Word) → Every Numeral ws → Every SolidWord ws
+numerals-solid = every-imply Numeral SolidWord numeral-solid
 
 cardinal-solid : (s : List ℕ) → Every SolidWord (cardinal s)
-unfolding cardinal
-cardinal-solid s = cardinalOf-solid (clean s) (clean-digits s)
+cardinal-solid s = numerals-solid (cardinal s) (cardinal-numerals s)
+
+digits-solid : (s : List ℕ) → Every SolidWord (digits s)
+digits-solid s = numerals-solid (digits s) (digits-numerals s)
 
 one-solid : (d : ℕ) → d < 10 → SolidWord (one d)
-one-solid d h = formed-solid (one d) (formed-said .ones d h)
+one-solid d h = numeral-solid (one d) (one-in d h)
 
 ones-solid : (s : List ℕ) → Digits s → Every SolidWord (map one s)
 ones-solid = every-map (λ d. d < 10) SolidWord one one-solid
 
-digits-solid : (s : List ℕ) → Every SolidWord (digits s)
-unfolding digits
-digits-solid s = ones-solid (clean s) (clean-digits s)
+cardinalOf-solid : (s : List ℕ) → Digits s → Every SolidWord (cardinalOf s)
+cardinalOf-solid s d = cardinalOf-elim (Every SolidWord) s (λ l. numerals-solid (cardinalFew s) (few-numerals s d)) (ones-solid s d)
 
-last-solid : (ws : List Word) → Every Formed ws → Every SolidWord (onLast ws)
+last-solid : (ws : List Word) → Every Numeral ws → Every SolidWord (onLast ws)
 unfolding onLast spell
 last-solid [] h = tt
-last-solid (w ∷ []) h = (rw (formed-form w (h .0)) (word-solid _), tt)
-last-solid (w ∷ v ∷ ws) h = (formed-solid w (h .0), last-solid (v ∷ ws) (h .1))
-
-orZero-formed : (ws : List Word) → Every Formed ws → Every Formed (orZero ws)
-unfolding orZero
-orZero-formed [] h = (zero-formed, tt)
-orZero-formed (w ∷ ws) h = h
+last-solid (w ∷ []) h = (form-solid w (h .0), tt)
+last-solid (w ∷ v ∷ ws) h = (numeral-solid w (h .0), last-solid (v ∷ ws) (h .1))
 
 ordinal-solid : (s : List ℕ) → Every SolidWord (ordinal s)
-unfolding ordinal cardinal
-ordinal-solid s =
-    let t = clean (keep (except (code ",")) s) in
-    last-solid (orZero (cardinalOf t)) (orZero-formed (cardinalOf t) (cardinal-formed t (clean-digits (keep (except (code ",")) s))))
+unfolding ordinal orZero
+ordinal-solid s = let t = keep (except (code ",")) s in go (cardinal t) (cardinal-numerals t)
+  where
+    go : (ws : List Word) → Every Numeral ws → Every SolidWord (onLast (orZero ws))
+    go [] h = last-solid (one 0 ∷ []) (one-in 0 (omega arith), tt)
+    go (w ∷ ws) h = last-solid (w ∷ ws) h
 
 year-step : (f : List ℕ → List Word) (s : List ℕ) → ((t : List ℕ) → length t < length s → Digits t → Every SolidWord (f t)) → Digits s
     → Every SolidWord (yearStep f s)
@@ -114,7 +109,7 @@ year-step f (a ∷ b ∷ s) h d =
     let all = cardinalOf-solid t d in
     let first = one-solid a (d .0) in
     let zero = one-solid 0 (omega arith) in
-    let hundreds = formed-solid hundred (formed-said .hundreds) in
+    let hundreds = numeral-solid hundred hundred-in in
     let two = cardinalOf (a ∷ b ∷ []) in
     let pair = cardinalOf-solid (a ∷ b ∷ []) (d .0, (d .1 .0, tt)) in
     cond-elim P (eqb n 4 && (zeroAt t 2 && zeroAt t 3)) (λ e. cond-elim P (zeroAt t 1) (λ e. all) (λ e. every-append SolidWord two (hundred ∷ []) pair (hundreds, tt))) (λ e.
