@@ -225,9 +225,6 @@ module _ (s old : List ℕ) (accepted : tableCall s old .refusal ≡ 0) where
 
   -- so they are "sorted by offset"
   pub pairs-sorted : (i j : ℕ) → i ≤ j → j < 4 * count → offsetAt i table ≤ offsetAt j table
-  pairs-sorted i j h l = go j i h l
-    where
-      go : (j i : ℕ) → i ≤ j → j < 4 * count → offsetAt i table ≤ offsetAt j table
-      go zero i h l = let e : i ≡ 0 = omega arith in rw e (omega arith)
-      go (suc j) i h l =
-          ⊎-elim (λ (k : i ≤ j). omega (arith, next-pair j l, go j i k (omega arith))) (λ (k : j < i). let e : i ≡ suc j = omega arith in rw e (omega arith)) (le-or-lt i j)
+  pairs-sorted i zero h l = let e : i ≡ 0 = omega arith in rw e (omega arith)
+  pairs-sorted i (suc j) h l =
+      ⊎-elim (λ (k : i ≤ j). omega (arith, next-pair j l, pairs-sorted i j k (omega arith))) (λ (k : j < i). let e : i ≡ suc j = omega arith in rw e (omega arith)) (le-or-lt i j)
