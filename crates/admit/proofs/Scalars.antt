@@ -100,6 +100,24 @@ encode-some c = encode-elim (λ l. 0 < length l) c (λ h. omega arith) (λ h. om
 
 -- ---- from bytes to the scalar value
 
+-- the value of such bytes: what their marks 110, 1110, 11110 and 10 add is taken off
+abbrev value : List ℕ → ℕ
+value [] = 0
+value (a ∷ []) = a
+value (a ∷ b ∷ []) = a * 64 + b - 0x3080
+value (a ∷ b ∷ c ∷ []) = a * 4096 + b * 64 + c - 0xE2080
+value (a ∷ b ∷ c ∷ d ∷ s) = a * 262144 + b * 4096 + c * 64 + d - 0x3C82080
+
+value-encode : (c : ℕ) → value (encode c) ≡ c
+value-encode c =
+    let e : c / 64 / 64 ≡ c / 4096 = omega arith in
+    let f : c / 4096 / 64 ≡ c / 262144 = omega arith in
+    encode-elim (λ l. value l ≡ c) c (λ h. refl) (λ h. omega arith) (λ h. omega arith) (λ h. omega arith)
+
+-- no two scalar values have the same bytes
+pub encode-apart : (c d : ℕ) → encode c ≡ encode d → c ≡ d
+encode-apart c d e = sym (value-encode c) ∙ ap value e ∙ value-encode d
+
 -- the text is a scalar value's
 abbrev Encoded : List ℕ → Type 0
 Encoded l = (c : ℕ) × Scalar c × (encode c ≡ l)
@@ -111,7 +129,7 @@ Tail b = (0x80 ≤ b) × (b ≤ 0xBF)
 tail : (b : ℕ) → utf8Tail b ≡ true → Tail b
 tail = bounds 0x80 0xBF
 
--- each row of the table gives one, the leads' bits less those that mark them
+-- each row of the table gives one
 one : (a : ℕ) → ascii a ≡ true → Encoded (a ∷ [])
 unfolding encode
 one a h = (a, inl (omega (arith, ltb-true)), rw (le-leb a 0x7F (omega (arith, ltb-true))))
@@ -121,7 +139,7 @@ unfolding encode
 two a b h k = (v, inl (omega arith), rw (lt-leb v 0x7F (omega arith), le-leb v 0x7FF (omega arith)) (ap₂ (λ (x y : ℕ). x ∷ y ∷ []) (omega arith) (omega arith)))
   where
     v : ℕ
-    v = a * 64 + b - 0x3080
+    v = value (a ∷ b ∷ [])
 
 -- two tests in each row of the table, and some row passes
 abbrev anyRow : Bool → List (Bool × Bool) → Bool
@@ -149,7 +167,7 @@ three a b c h k =
     h
   where
     v : ℕ
-    v = a * 4096 + b * 64 + c - 0xE2080
+    v = value (a ∷ b ∷ c ∷ [])
 
     bytes : Tail b × (0x800 ≤ v) × (v ≤ 0xFFFF) → encode v ≡ a ∷ b ∷ c ∷ []
     bytes l =
@@ -176,7 +194,7 @@ four a b c d h k l =
     h
   where
     v : ℕ
-    v = a * 262144 + b * 4096 + c * 64 + d - 0x3C82080
+    v = value (a ∷ b ∷ c ∷ d ∷ [])
 
     some : Tail b × (0x10000 ≤ v) × (v ≤ 0x10FFFF) → Encoded (a ∷ b ∷ c ∷ d ∷ [])
     some m = (
