@@ -5,7 +5,8 @@ use mathlib.Core.List.{List, [], _∷_, _++_}
 use Prim.Native.Nat.{ℕ, _-_, _≤_, _<_}
 use native.Mathlib.Omega.{arith}
 use lib.Dec.{ltb}
-use lib.ListN.{length, drop, length-drop}
+use lib.ListN.{length, take, drop, length-drop}
+use lib.Seq.{take-length}
 use borrow.Author.Tests.{le-ltb}
 use Rattle.admit.specs.Refusals.{textLimit, textTests, textRefusal, inOrder}
 use Rattle.admit.proofs.Calls.{held, passed}
@@ -38,6 +39,18 @@ unit-found s h = go (hasUnit s) h
         let e : length s - length (drop (unitAt s) s) ≡ unitAt s = omega arith in
         rw e
     go false h = absurd (h refl)
+
+-- "the unit is a part of the caller's own bytes": what stands in the name at the unit's place is the unit
+pub unit-stands : (s : List ℕ) → take (unitFound s .size) (drop (unitFound s .offset) s) ≡ unitPart s
+unfolding unitFound
+unit-stands s = go (hasUnit s)
+  where
+    go : (t : Bool)
+        → take (cond t (record { found = true; offset = unitAt s; size = length (cond t (drop (unitAt s) s) []) }) noPart .size)
+        (drop (cond t (record { found = true; offset = unitAt s; size = length (cond t (drop (unitAt s) s) []) }) noPart .offset) s)
+        ≡ cond t (drop (unitAt s) s) []
+    go true = take-length (drop (unitAt s) s)
+    go false = refl
 
 pub unit-le : (s : List ℕ) → length (unitPart s) ≤ length s
 unit-le s = go (hasUnit s)

@@ -1,0 +1,363 @@
+-- The shapes as forms of texts: what a name that a shape takes is made of, and that each such text is taken. Assumes nothing.
+use mathlib.Core.Path.{_≡_, refl, sym, ap, subst, _∙_}
+use mathlib.Core.Bool.{Bool, true, false, cond, not, _&&_, _||_, and-eq-true-iff, false≢true}
+use mathlib.Core.Logic.{_↔_}
+use mathlib.Core.List.{List, [], _∷_, _++_, append-nil, map, flatten}
+use Prim.Native.Nat.{ℕ, suc, _+_, _-_, _≤_, _<_}
+use Prim.Native.Char.{code}
+use native.Mathlib.Numerals.{add-one}
+use native.Mathlib.Omega.{arith}
+use lib.Dec.{eqb, leb, ltb}
+use lib.ListN.{length, take, drop, getD, length-append, length-take, take-append-drop, drop-of-length-le}
+use lib.Seq.{take-at, drop-at, getD-at, split-at, drop-drop, drop-length}
+use borrow.Author.Tests.{eqb-true, eqb-false, eq-eqb, ne-eqb, ltb-true, lt-ltb, leb-true, le-leb, not-true, not-false}
+use Rattle.lists.specs.Bytes.{bytes, all, span, split, onto, same, sameBy, capital, lower, starts, ends}
+use Rattle.lists.specs.Classes.{digit, digitOrComma, except}
+use Rattle.lists.proofs.Bools.{or-true-elim}
+use Rattle.lists.proofs.Parts.{split-some}
+use Rattle.lists.proofs.Scan.{span-le, span-all, span-fails, span-before, all-span, all-within, apart, starts-first}
+use Rattle.lists.proofs.Table.{same-true}
+use Rattle.shapes.specs.Shapes.{isDigits, isNDigits, isCommaGroups, isCommaInt, startsChar, isOrdinalSuffix, isOrdinal, splitOnce, isTime, isHourMinute, isPhoneParts, areDigits, isSevenDigitPhone, isDigitsSlashDigits, isLeadingZeroDigits, isIllion, isNumberS, isAmount, isUsMoney}
+use Rattle.shapes.proofs.Laws.{digits-all, digits-some}
+
+-- ---- a text at its first separator
+
+-- s is two parts that pass, with the byte c between, and c is not in the first
+pub record Once (c : ℕ) (both : List ℕ → List ℕ → Bool) (s : List ℕ) : Type 0 where
+  pub front : List ℕ
+  pub rest : List ℕ
+  pub joined : s ≡ front ++ (c ∷ rest)
+  pub first : all (except c) front ≡ true
+  pub passed : both front rest ≡ true
+
+pub once-parts : (c : ℕ) (both : List ℕ → List ℕ → Bool) (s : List ℕ) → splitOnce c both s ≡ true → Once c both s
+unfolding splitOnce
+once-parts c both s h =
+    let n = span (except c) s in
+    let k = and-eq-true-iff (ltb n (length s)) (both (take n s) (drop (n + 1) s)) .0 h in
+    let l = ltb-true n (length s) (k .0) in
+    let e : getD s n 0 ≡ c = eqb-true _ _ (not-false _ (span-fails (except c) s l)) in
+    record { front = take n s; rest = drop (n + 1) s; joined = rw (e, ← add-one n) at (split-at s n 0 l); first = span-all (except c) s; passed = k .1 }
+
+pub once-taken : (c : ℕ) (both : List ℕ → List ℕ → Bool) (a b : List ℕ) → all (except c) a ≡ true → both a b ≡ true → splitOnce c both (a ++ (c ∷ b)) ≡ true
+unfolding splitOnce
+once-taken c both a b f p =
+    let n = span (except c) (a ++ (c ∷ b)) in
+    let e : n ≡ length a = span-before (except c) a c b (rw (eq-eqb c c refl)) ∙ all-span (except c) a f in
+    let m : drop (n + 1) (a ++ (c ∷ b)) ≡ b = sym (drop-drop 1 n (a ++ (c ∷ b))) ∙ ap (drop 1) (drop-at a (c ∷ b) n (sym e)) in
+    rw (lt-ltb n (length (a ++ (c ∷ b))) (omega (arith, e, length-append a (c ∷ b))), take-at a (c ∷ b) n (sym e), m, p)
+
+-- digits have no such separator
+no-separator : (c : ℕ) → digit c ≡ false → (s : List ℕ) → isDigits s ≡ true → all (except c) s ≡ true
+no-separator c e s h = all-within digit (except c) (λ b k. rw (apart digit c b e k)) s (digits-all s h)
+
+-- n digits are digits
+n-digits : (n : ℕ) (s : List ℕ) → isNDigits n s ≡ true → isDigits s ≡ true
+n-digits n s h = and-eq-true-iff (eqb (length s) n) (isDigits s) .0 h .1
+
+-- "1 or 2 digits, a colon, 2 digits of which the first is at most 5"
+pub data Time : List ℕ → Type 0 where
+  time : (h m : List ℕ) → isDigits h ≡ true → length h ≤ 2 → isNDigits 2 m ≡ true → getD m 0 0 ≤ code "5" → Time (h ++ (bytes ":" ++ m))
+
+time-taken : (s : List ℕ) → Time s → isTime s ≡ true
+unfolding isHourMinute
+time-taken _ (time h m d l n t) =
+    once-taken (code ":") isHourMinute h m (no-separator (code ":") refl h d)
+    (rw (le-leb 1 (length h) (digits-some h d), le-leb (length h) 2 l, d, n, le-leb (getD m 0 0) (code "5") t))
+
+pub time-form : (s : List ℕ) → (isTime s ≡ true) ↔ Time s
+unfolding isHourMinute
+time-form s = (
+  λ e.
+      let o = once-parts (code ":") isHourMinute s e in
+      let h = o .front in
+      let m = o .rest in
+      let few = leb 1 (length h) && leb (length h) 2 in
+      let a = and-eq-true-iff (few && isDigits h && isNDigits 2 m) (leb (getD m 0 0) (code "5")) .0 (o .passed) in
+      let b = and-eq-true-iff (few && isDigits h) (isNDigits 2 m) .0 (a .0) in
+      let c = and-eq-true-iff few (isDigits h) .0 (b .0) in
+      let l = leb-true (length h) 2 (and-eq-true-iff (leb 1 (length h)) (leb (length h) 2) .0 (c .0) .1) in
+      subst Time (sym (o .joined)) (time h m (c .1) l (b .1) (leb-true (getD m 0 0) (code "5") (a .1))),
+  time-taken s,
+)
+
+-- three digits, a hyphen, four digits
+pub data Phone : List ℕ → Type 0 where
+  phone : (a b : List ℕ) → isNDigits 3 a ≡ true → isNDigits 4 b ≡ true → Phone (a ++ (bytes "-" ++ b))
+
+phone-taken : (s : List ℕ) → Phone s → isSevenDigitPhone s ≡ true
+phone-taken _ (phone a b p q) = once-taken (code "-") isPhoneParts a b (no-separator (code "-") refl a (n-digits 3 a p)) (rw (p, q))
+
+pub phone-form : (s : List ℕ) → (isSevenDigitPhone s ≡ true) ↔ Phone s
+phone-form s = (
+  λ e.
+      let o = once-parts (code "-") isPhoneParts s e in
+      let p = and-eq-true-iff (isNDigits 3 (o .front)) (isNDigits 4 (o .rest)) .0 (o .passed) in
+      subst Phone (sym (o .joined)) (phone (o .front) (o .rest) (p .0) (p .1)),
+  phone-taken s,
+)
+
+-- digits, a slash, digits
+pub data Slashed : List ℕ → Type 0 where
+  slashed : (a b : List ℕ) → isDigits a ≡ true → isDigits b ≡ true → Slashed (a ++ (bytes "/" ++ b))
+
+slashed-taken : (s : List ℕ) → Slashed s → isDigitsSlashDigits s ≡ true
+slashed-taken _ (slashed a b p q) = once-taken (code "/") areDigits a b (no-separator (code "/") refl a p) (rw (p, q))
+
+pub slashed-form : (s : List ℕ) → (isDigitsSlashDigits s ≡ true) ↔ Slashed s
+slashed-form s = (
+  λ e.
+      let o = once-parts (code "/") areDigits s e in
+      let p = and-eq-true-iff (isDigits (o .front)) (isDigits (o .rest)) .0 (o .passed) in
+      subst Slashed (sym (o .joined)) (slashed (o .front) (o .rest) (p .0) (p .1)),
+  slashed-taken s,
+)
+
+-- ---- a text by its parts
+
+-- parts with the byte c between them
+abbrev pub join : ℕ → List (List ℕ) → List ℕ
+join c [] = []
+join c (p ∷ ps) = p ++ flatten (map (λ q. c ∷ q) ps)
+
+-- the parts of a text give the text
+pub join-split : (c : ℕ) (s : List ℕ) → join c (split c s) ≡ s
+unfolding split onto flatten
+join-split c [] = refl
+join-split c (b ∷ s) = go (eqb b c) refl (split c s) (split-some c s) (join-split c s)
+  where
+    go : (t : Bool) → eqb b c ≡ t → (ps : List (List ℕ)) → 0 < length ps → join c ps ≡ s → join c (cond t ([] ∷ ps) (onto b ps)) ≡ b ∷ s
+    go t e [] l i = absurd (omega arith)
+    go true e (p ∷ ps) l i = rw (eqb-true b c e) (ap (λ (r : List ℕ). c ∷ r) i)
+    go false e (p ∷ ps) l i = ap (λ (r : List ℕ). b ∷ r) i
+
+-- and parts without the separator are the parts of what they give
+front-part : (c : ℕ) (p rest : List ℕ) (ps : List (List ℕ)) → split c rest ≡ [] ∷ ps → all (except c) p ≡ true → split c (p ++ rest) ≡ p ∷ ps
+unfolding split onto all
+front-part c [] rest ps e h = e
+front-part c (b ∷ p) rest ps e h =
+    let k = and-eq-true-iff (except c b) (all (except c) p) .0 h in
+    rw (not-true (eqb b c) (k .0), front-part c p rest ps e (k .1))
+
+pub split-join : (c : ℕ) (p : List ℕ) (ps : List (List ℕ)) → all (all (except c)) (p ∷ ps) ≡ true → split c (join c (p ∷ ps)) ≡ p ∷ ps
+unfolding split flatten all
+split-join c p [] h = front-part c p [] [] refl (and-eq-true-iff (all (except c) p) true .0 h .0)
+split-join c p (q ∷ qs) h =
+    let k = and-eq-true-iff (all (except c) p) (all (all (except c)) (q ∷ qs)) .0 h in
+    front-part c p (c ∷ join c (q ∷ qs)) (q ∷ qs) (rw (eq-eqb c c refl) (ap (λ (r : List (List ℕ)). [] ∷ r) (split-join c q qs (k .1)))) (k .0)
+
+-- "a comma, a first group of 1 to 3 digits and further groups of 3"
+pub data CommaInt : List ℕ → Type 0 where
+  comma-int : (first g : List ℕ) (gs : List (List ℕ)) → isDigits first ≡ true → length first ≤ 3 → all (isNDigits 3) (g ∷ gs) ≡ true
+      → CommaInt (join (code ",") (first ∷ g ∷ gs))
+
+comma-taken : (s : List ℕ) → CommaInt s → isCommaInt s ≡ true
+unfolding isCommaGroups all
+comma-taken _ (comma-int first g gs d l h) =
+    let none = no-separator (code ",") refl in
+    let others = all-within (isNDigits 3) (all (except (code ","))) (λ p k. none p (n-digits 3 p k)) (g ∷ gs) h in
+    rw (split-join (code ",") first (g ∷ gs) (rw (none first d) others), d, le-leb (length first) 3 l, ne-eqb (suc (length gs)) 0 (omega arith)) h
+
+pub comma-form : (s : List ℕ) → (isCommaInt s ≡ true) ↔ CommaInt s
+unfolding isCommaGroups
+comma-form s = (λ e. go (split (code ",") s) (join-split (code ",") s) e, comma-taken s)
+  where
+    go : (ps : List (List ℕ)) → join (code ",") ps ≡ s → isCommaGroups ps ≡ true → CommaInt s
+    go [] j e = absurd (false≢true e)
+    go (first ∷ gs) j e =
+        let a = and-eq-true-iff (isDigits first && leb (length first) 3 && not (eqb (length gs) 0)) (all (isNDigits 3) gs) .0 e in
+        let b = and-eq-true-iff (isDigits first && leb (length first) 3) (not (eqb (length gs) 0)) .0 (a .0) in
+        let c = and-eq-true-iff (isDigits first) (leb (length first) 3) .0 (b .0) in
+        more gs j (c .0) (leb-true (length first) 3 (c .1)) (b .1) (a .1)
+      where
+        more : (gs : List (List ℕ)) → join (code ",") (first ∷ gs) ≡ s → isDigits first ≡ true → length first ≤ 3 → not (eqb (length gs) 0) ≡ true
+            → all (isNDigits 3) gs ≡ true → CommaInt s
+        more [] j d l n h = absurd (false≢true n)
+        more (g ∷ gs) j d l n h = subst CommaInt j (comma-int first g gs d l h)
+
+-- ---- a text by its first bytes or its last
+
+-- a zero and one or more digits
+pub data LeadingZero : List ℕ → Type 0 where
+  leading-zero : (d : List ℕ) → isDigits d ≡ true → LeadingZero (bytes "0" ++ d)
+
+zero-taken : (s : List ℕ) → LeadingZero s → isLeadingZeroDigits s ≡ true
+unfolding isDigits all
+zero-taken _ (leading-zero d h) =
+    rw (lt-ltb 1 (suc (length d)) (omega (arith, digits-some d h)), ne-eqb (suc (length d)) 0 (omega arith), digits-all d h)
+
+pub zero-form : (s : List ℕ) → (isLeadingZeroDigits s ≡ true) ↔ LeadingZero s
+unfolding isDigits all
+zero-form [] = (λ e. absurd (false≢true e), zero-taken [])
+zero-form (b ∷ d) = (
+  λ e.
+      let p = and-eq-true-iff (ltb 1 (suc (length d)) && starts (code "0") (b ∷ d)) (isDigits (b ∷ d)) .0 e in
+      let q = and-eq-true-iff (ltb 1 (suc (length d))) (starts (code "0") (b ∷ d)) .0 (p .0) in
+      let z : b ≡ code "0" = eqb-true b (code "0") (sym (starts-first (code "0") b d) ∙ q .1) in
+      let l = ltb-true 1 (suc (length d)) (q .0) in
+      let h = and-eq-true-iff (digit b) (all digit d) .0 (digits-all (b ∷ d) (p .1)) .1 in
+      subst (λ c. LeadingZero (c ∷ d)) (sym z) (leading-zero d (rw (ne-eqb (length d) 0 (omega arith), h))),
+  zero-taken (b ∷ d),
+)
+
+-- whatever stands before "illion"
+pub data Illion : List ℕ → Type 0 where
+  illion : (t : List ℕ) → Illion (t ++ bytes "illion")
+
+illion-taken : (s : List ℕ) → Illion s → isIllion s ≡ true
+unfolding sameBy
+illion-taken _ (illion t) =
+    let l = length-append t (bytes "illion") in
+    rw (le-leb 6 (length (t ++ bytes "illion")) (omega arith), drop-at t (bytes "illion") (length (t ++ bytes "illion") - 6) (omega arith))
+
+pub illion-form : (s : List ℕ) → (isIllion s ≡ true) ↔ Illion s
+illion-form s = (
+  λ e.
+      let n = length s - 6 in
+      let t = same-true (drop n s) (bytes "illion") (and-eq-true-iff (leb 6 (length s)) (same (drop n s) (bytes "illion")) .0 e .1) in
+      subst Illion (ap (λ (r : List ℕ). take n s ++ r) (sym t) ∙ take-append-drop n s) (illion (take n s)),
+  illion-taken s,
+)
+
+-- digits and an s
+pub data NumberS : List ℕ → Type 0 where
+  number-s : (d : List ℕ) → isDigits d ≡ true → NumberS (d ++ bytes "s")
+
+number-taken : (s : List ℕ) → NumberS s → isNumberS s ≡ true
+number-taken _ (number-s d h) =
+    let t = d ++ bytes "s" in
+    let l = length-append d (bytes "s") in
+    let m = digits-some d h in
+    rw (
+      le-leb 2 (length t) (omega arith),
+      ne-eqb (length t) 0 (omega arith),
+      getD-at d (code "s") [] 0 (length t - 1) (omega arith),
+      take-at d (bytes "s") (length t - 1) (omega arith),
+      h,
+    )
+
+pub number-form : (s : List ℕ) → (isNumberS s ≡ true) ↔ NumberS s
+number-form s = (
+  λ e.
+      let n = length s - 1 in
+      let p = and-eq-true-iff (leb 2 (length s) && ends (code "s") s) (isDigits (take n s)) .0 e in
+      let q = and-eq-true-iff (leb 2 (length s)) (ends (code "s") s) .0 (p .0) in
+      let two = leb-true 2 (length s) (q .0) in
+      let last : getD s n 0 ≡ code "s" = eqb-true _ _ (and-eq-true-iff (not (eqb (length s) 0)) (eqb (getD s n 0) (code "s")) .0 (q .1) .1) in
+      let w : s ≡ take n s ++ bytes "s" = rw (last, drop-of-length-le s {i = suc n} (omega arith)) at (split-at s n 0 (omega arith)) in
+      subst NumberS (sym w) (number-s (take n s) (p .1)),
+  number-taken s,
+)
+
+-- two bytes that are a suffix once they are lowered, the first below 128
+two-bytes : (s : List ℕ) (c d : ℕ) → c < 128 → sameBy lower s (c ∷ d ∷ []) ≡ true → (length s ≡ 2) × (startsChar (getD s 0 0) ≡ true)
+unfolding sameBy
+two-bytes [] c d l h = absurd (false≢true h)
+two-bytes (a ∷ []) c d l h = absurd (false≢true (and-eq-true-iff (eqb (lower a) c) false .0 h .1))
+two-bytes (a ∷ b ∷ []) c d l h = (refl, rw (lt-ltb a 128 (go (capital a) (eqb-true (lower a) c (and-eq-true-iff (eqb (lower a) c) _ .0 h .0)))))
+  where
+    go : (t : Bool) → cond t (a + 32) a ≡ c → a < 128
+    go true e = omega arith
+    go false e = omega arith
+two-bytes (a ∷ b ∷ x ∷ s) c d l h =
+    absurd (false≢true (and-eq-true-iff (eqb (lower b) d) false .0 (and-eq-true-iff (eqb (lower a) c) (eqb (lower b) d && false) .0 h .1) .1))
+
+suffix-bytes : (s : List ℕ) → isOrdinalSuffix s ≡ true → (length s ≡ 2) × (startsChar (getD s 0 0) ≡ true)
+suffix-bytes s =
+    or-true-elim (sameBy lower s (bytes "th") || sameBy lower s (bytes "st") || sameBy lower s (bytes "nd")) (sameBy lower s (bytes "rd"))
+    (or-true-elim (sameBy lower s (bytes "th") || sameBy lower s (bytes "st")) (sameBy lower s (bytes "nd"))
+    (or-true-elim (sameBy lower s (bytes "th")) (sameBy lower s (bytes "st")) (two-bytes s (code "t") (code "h") (omega arith)) (two-bytes s (code "s") (code "t") (omega arith)))
+    (two-bytes s (code "n") (code "d") (omega arith))) (two-bytes s (code "r") (code "d") (omega arith))
+
+-- digits and commas, a digit first, and a suffix
+pub data Ordinal : List ℕ → Type 0 where
+  ordinal : (num suf : List ℕ) → digit (getD num 0 0) ≡ true → all digitOrComma num ≡ true → isOrdinalSuffix suf ≡ true → Ordinal (num ++ suf)
+
+ordinal-taken : (s : List ℕ) → Ordinal s → isOrdinal s ≡ true
+unfolding isOrdinal
+ordinal-taken _ (ordinal [] suf f h x) = absurd (false≢true f)
+ordinal-taken _ (ordinal (b ∷ num) suf f h x) =
+    let s = b ∷ num ++ suf in
+    let two = suffix-bytes suf x in
+    let l = length-append num suf in
+    rw (
+      le-leb 3 (length s) (omega (arith, two .0)),
+      drop-at (b ∷ num) suf (length s - 2) (omega (arith, two .0)),
+      take-at (b ∷ num) suf (length s - 2) (omega (arith, two .0)),
+      two .1,
+      x,
+      f,
+    )
+    h
+
+pub ordinal-form : (s : List ℕ) → (isOrdinal s ≡ true) ↔ Ordinal s
+unfolding isOrdinal
+ordinal-form s = (
+  λ e.
+      let num = take (length s - 2) s in
+      let suf = drop (length s - 2) s in
+      let long = leb 3 (length s) && startsChar (getD suf 0 0) in
+      let p = and-eq-true-iff (long && isOrdinalSuffix suf && digit (getD num 0 0)) (all digitOrComma num) .0 e in
+      let q = and-eq-true-iff (long && isOrdinalSuffix suf) (digit (getD num 0 0)) .0 (p .0) in
+      let x = and-eq-true-iff long (isOrdinalSuffix suf) .0 (q .0) .1 in
+      subst Ordinal (take-append-drop (length s - 2) s) (ordinal num suf (q .1) (p .1) x),
+  ordinal-taken s,
+)
+
+-- a dollar sign, digits and commas, and where there is a point, digits after it: "passes "$,""
+pub data Money : List ℕ → Type 0 where
+  dollars : (w : List ℕ) → 0 < length w → all digitOrComma w ≡ true → Money (bytes "$" ++ w)
+  cents : (w d : List ℕ) → 0 < length w → all digitOrComma w ≡ true → isDigits d ≡ true → Money (bytes "$" ++ (w ++ (bytes "." ++ d)))
+
+money-taken : (s : List ℕ) → Money s → isUsMoney s ≡ true
+unfolding isAmount
+money-taken _ (dollars w l h) =
+    rw (ne-eqb (suc (length w)) 0 (omega arith), all-span digitOrComma w h, drop-length w, ne-eqb (length w) 0 (omega arith))
+money-taken _ (cents w d l h k) =
+    let t = w ++ (code "." ∷ d) in
+    let e : span digitOrComma t ≡ length w = span-before digitOrComma w (code ".") d refl ∙ all-span digitOrComma w h in
+    rw (
+      ne-eqb (suc (length t)) 0 (omega arith),
+      e,
+      drop-at w (code "." ∷ d) (length w) refl,
+      ne-eqb (length w) 0 (omega arith),
+      ne-eqb (suc (length d)) 0 (omega arith),
+    )
+    k
+
+amount-form : (s : List ℕ) → isAmount s ≡ true → Money (bytes "$" ++ s)
+unfolding isAmount
+amount-form s e = go (drop n s) refl (p .1)
+  where
+    n : ℕ
+    n = span digitOrComma s
+
+    p : (not (eqb n 0) ≡ true) × (cond (starts (code ".") (drop n s)) (isDigits (drop 1 (drop n s))) (eqb (length (drop n s)) 0) ≡ true)
+    p = and-eq-true-iff (not (eqb n 0)) (cond (starts (code ".") (drop n s)) (isDigits (drop 1 (drop n s))) (eqb (length (drop n s)) 0)) .0 e
+
+    some : 0 < length (take n s)
+    some = omega (arith, eqb-false n 0 (not-true (eqb n 0) (p .0)), length-take n s, span-le digitOrComma s)
+
+    whole : (r : List ℕ) → drop n s ≡ r → take n s ++ r ≡ s
+    whole r q = ap (λ (x : List ℕ). take n s ++ x) (sym q) ∙ take-append-drop n s
+
+    go : (r : List ℕ) → drop n s ≡ r → cond (starts (code ".") r) (isDigits (drop 1 r)) (eqb (length r) 0) ≡ true → Money (bytes "$" ++ s)
+    go [] q h =
+        subst (λ x. Money (code "$" ∷ x)) (sym (append-nil (take n s)) ∙ whole [] q) (dollars (take n s) some (span-all digitOrComma s))
+    go (b ∷ d) q h = more (eqb b (code ".")) refl (rw (starts-first (code ".") b d) at h)
+      where
+        more : (t : Bool) → eqb b (code ".") ≡ t → cond t (isDigits d) (eqb (suc (length d)) 0) ≡ true → Money (bytes "$" ++ s)
+        more true f h =
+            subst (λ x. Money (code "$" ∷ x)) (whole (code "." ∷ d) (q ∙ ap (λ (c : ℕ). c ∷ d) (eqb-true b (code ".") f)))
+            (cents (take n s) d some (span-all digitOrComma s) h)
+        more false f h = absurd (omega (arith, eqb-true (suc (length d)) 0 h))
+
+pub money-form : (s : List ℕ) → (isUsMoney s ≡ true) ↔ Money s
+money-form [] = (λ e. absurd (false≢true e), money-taken [])
+money-form (b ∷ s) = (
+  λ e.
+      let p = and-eq-true-iff (starts (code "$") (b ∷ s)) (isAmount s) .0 e in
+      let z : b ≡ code "$" = eqb-true b (code "$") (sym (starts-first (code "$") b s) ∙ p .0) in
+      subst (λ c. Money (c ∷ s)) (sym z) (amount-form s (p .1)),
+  money-taken (b ∷ s),
+)
