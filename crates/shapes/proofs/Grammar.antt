@@ -12,12 +12,14 @@ use lib.ListN.{length, take, drop, getD, length-append, length-take, take-append
 use lib.Seq.{take-at, drop-at, getD-at, split-at, drop-drop, drop-length}
 use borrow.Author.Tests.{eqb-true, eqb-false, eq-eqb, ne-eqb, ltb-true, lt-ltb, leb-true, le-leb, not-true, not-false}
 use Rattle.lists.specs.Bytes.{bytes, all, span, split, onto, same, sameBy, capital, lower, starts, ends}
-use Rattle.lists.specs.Classes.{digit, digitOrComma, except}
+use Rattle.lists.specs.Classes.{digit, digitOrComma, colonNorPoint, except}
 use Rattle.lists.proofs.Bools.{or-true-elim}
 use Rattle.lists.proofs.Parts.{split-some}
 use Rattle.lists.proofs.Scan.{span-le, span-all, span-fails, span-before, all-span, all-within, apart, starts-first}
 use Rattle.lists.proofs.Table.{same-true}
-use Rattle.shapes.specs.Shapes.{isDigits, isNDigits, isCommaGroups, isCommaInt, startsChar, isOrdinalSuffix, isOrdinal, splitOnce, isTime, isHourMinute, isPhoneParts, areDigits, isSevenDigitPhone, isDigitsSlashDigits, isLeadingZeroDigits, isIllion, isNumberS, isAmount, isUsMoney}
+use Rattle.shapes.specs.Shapes.{isDigits, isNDigits, isCommaGroups, isCommaInt, startsChar, isOrdinalSuffix, isOrdinal, isAmount, isUsMoney, isIllion}
+use Rattle.shapes.specs.Shapes.{isNumberS, isLeadingZeroDigits, splitOnce, isPhoneParts, isSevenDigitPhone, isHourMinute, isTime, areDigits, isDigitsSlashDigits}
+use Rattle.shapes.specs.Times.{endsInMeridiem, separatorAt, timeOf, isMeridiemTime}
 use Rattle.shapes.proofs.Laws.{digits-all, digits-some}
 
 -- ---- a text at its first separator
@@ -30,6 +32,7 @@ pub record Once (c : ℕ) (both : List ℕ → List ℕ → Bool) (s : List ℕ)
   pub first : all (except c) front ≡ true
   pub passed : both front rest ≡ true
 
+-- a text that is split so is made of two such parts
 pub once-parts : (c : ℕ) (both : List ℕ → List ℕ → Bool) (s : List ℕ) → splitOnce c both s ≡ true → Once c both s
 unfolding splitOnce
 once-parts c both s h =
@@ -39,6 +42,7 @@ once-parts c both s h =
     let e : getD s n 0 ≡ c = eqb-true _ _ (not-false _ (span-fails (except c) s l)) in
     record { front = take n s; rest = drop (n + 1) s; joined = rw (e, ← add-one n) at (split-at s n 0 l); first = span-all (except c) s; passed = k .1 }
 
+-- and two such parts are split so
 pub once-taken : (c : ℕ) (both : List ℕ → List ℕ → Bool) (a b : List ℕ) → all (except c) a ≡ true → both a b ≡ true → splitOnce c both (a ++ (c ∷ b)) ≡ true
 unfolding splitOnce
 once-taken c both a b f p =
@@ -65,6 +69,7 @@ time-taken _ (time h m d l n t) =
     once-taken (code ":") isHourMinute h m (no-separator (code ":") refl h d)
     (rw (le-leb 1 (length h) (digits-some h d), le-leb (length h) 2 l, d, n, le-leb (getD m 0 0) (code "5") t))
 
+-- a text is a time where it has this form, and only there
 pub time-form : (s : List ℕ) → (isTime s ≡ true) ↔ Time s
 unfolding isHourMinute
 time-form s = (
@@ -88,6 +93,7 @@ pub data Phone : List ℕ → Type 0 where
 phone-taken : (s : List ℕ) → Phone s → isSevenDigitPhone s ≡ true
 phone-taken _ (phone a b p q) = once-taken (code "-") isPhoneParts a b (no-separator (code "-") refl a (n-digits 3 a p)) (rw (p, q))
 
+-- likewise
 pub phone-form : (s : List ℕ) → (isSevenDigitPhone s ≡ true) ↔ Phone s
 phone-form s = (
   λ e.
@@ -104,6 +110,7 @@ pub data Slashed : List ℕ → Type 0 where
 slashed-taken : (s : List ℕ) → Slashed s → isDigitsSlashDigits s ≡ true
 slashed-taken _ (slashed a b p q) = once-taken (code "/") areDigits a b (no-separator (code "/") refl a p) (rw (p, q))
 
+-- likewise
 pub slashed-form : (s : List ℕ) → (isDigitsSlashDigits s ≡ true) ↔ Slashed s
 slashed-form s = (
   λ e.
@@ -131,7 +138,7 @@ join-split c (b ∷ s) = go (eqb b c) refl (split c s) (split-some c s) (join-sp
     go true e (p ∷ ps) l i = rw (eqb-true b c e) (ap (λ (r : List ℕ). c ∷ r) i)
     go false e (p ∷ ps) l i = ap (λ (r : List ℕ). b ∷ r) i
 
--- and parts without the separator are the parts of what they give
+-- a part without the separator goes before the first part of the rest, where that is empty
 front-part : (c : ℕ) (p rest : List ℕ) (ps : List (List ℕ)) → split c rest ≡ [] ∷ ps → all (except c) p ≡ true → split c (p ++ rest) ≡ p ∷ ps
 unfolding split onto all
 front-part c [] rest ps e h = e
@@ -139,6 +146,7 @@ front-part c (b ∷ p) rest ps e h =
     let k = and-eq-true-iff (except c b) (all (except c) p) .0 h in
     rw (not-true (eqb b c) (k .0), front-part c p rest ps e (k .1))
 
+-- parts without the separator are the parts of what they give
 pub split-join : (c : ℕ) (p : List ℕ) (ps : List (List ℕ)) → all (all (except c)) (p ∷ ps) ≡ true → split c (join c (p ∷ ps)) ≡ p ∷ ps
 unfolding split flatten all
 split-join c p [] h = front-part c p [] [] refl (and-eq-true-iff (all (except c) p) true .0 h .0)
@@ -158,6 +166,7 @@ comma-taken _ (comma-int first g gs d l h) =
     let others = all-within (isNDigits 3) (all (except (code ","))) (λ p k. none p (n-digits 3 p k)) (g ∷ gs) h in
     rw (split-join (code ",") first (g ∷ gs) (rw (none first d) others), d, le-leb (length first) 3 l, ne-eqb (suc (length gs)) 0 (omega arith)) h
 
+-- likewise
 pub comma-form : (s : List ℕ) → (isCommaInt s ≡ true) ↔ CommaInt s
 unfolding isCommaGroups
 comma-form s = (λ e. go (split (code ",") s) (join-split (code ",") s) e, comma-taken s)
@@ -186,6 +195,7 @@ unfolding isDigits all
 zero-taken _ (leading-zero d h) =
     rw (lt-ltb 1 (suc (length d)) (omega (arith, digits-some d h)), ne-eqb (suc (length d)) 0 (omega arith), digits-all d h)
 
+-- likewise
 pub zero-form : (s : List ℕ) → (isLeadingZeroDigits s ≡ true) ↔ LeadingZero s
 unfolding isDigits all
 zero-form [] = (λ e. absurd (false≢true e), zero-taken [])
@@ -210,6 +220,7 @@ illion-taken _ (illion t) =
     let l = length-append t (bytes "illion") in
     rw (le-leb 6 (length (t ++ bytes "illion")) (omega arith), drop-at t (bytes "illion") (length (t ++ bytes "illion") - 6) (omega arith))
 
+-- likewise
 pub illion-form : (s : List ℕ) → (isIllion s ≡ true) ↔ Illion s
 illion-form s = (
   λ e.
@@ -236,6 +247,7 @@ number-taken _ (number-s d h) =
       h,
     )
 
+-- likewise
 pub number-form : (s : List ℕ) → (isNumberS s ≡ true) ↔ NumberS s
 number-form s = (
   λ e.
@@ -262,12 +274,72 @@ two-bytes (a ∷ b ∷ []) c d l h = (refl, rw (lt-ltb a 128 (go (capital a) (eq
 two-bytes (a ∷ b ∷ x ∷ s) c d l h =
     absurd (false≢true (and-eq-true-iff (eqb (lower b) d) false .0 (and-eq-true-iff (eqb (lower a) c) (eqb (lower b) d && false) .0 h .1) .1))
 
+-- a suffix is two bytes, of which the first starts a character
 suffix-bytes : (s : List ℕ) → isOrdinalSuffix s ≡ true → (length s ≡ 2) × (startsChar (getD s 0 0) ≡ true)
 suffix-bytes s =
     or-true-elim (sameBy lower s (bytes "th") || sameBy lower s (bytes "st") || sameBy lower s (bytes "nd")) (sameBy lower s (bytes "rd"))
     (or-true-elim (sameBy lower s (bytes "th") || sameBy lower s (bytes "st")) (sameBy lower s (bytes "nd"))
     (or-true-elim (sameBy lower s (bytes "th")) (sameBy lower s (bytes "st")) (two-bytes s (code "t") (code "h") (omega arith)) (two-bytes s (code "s") (code "t") (omega arith)))
     (two-bytes s (code "n") (code "d") (omega arith))) (two-bytes s (code "r") (code "d") (omega arith))
+
+-- am or pm, in any case
+abbrev pub isMeridiem : List ℕ → Bool
+isMeridiem x = sameBy lower x (bytes "am") || sameBy lower x (bytes "pm")
+
+-- an hour and a minute, with a colon or a point between, and a meridiem
+pub data MeridiemTime : List ℕ → Type 0 where
+  meridiem-time : (h m x : List ℕ) (c : ℕ) → isHourMinute h m ≡ true → colonNorPoint c ≡ false → isMeridiem x ≡ true → MeridiemTime ((h ++ (c ∷ m)) ++ x)
+
+-- the hour's digits are no separators
+hour-unparted : (h m : List ℕ) → isHourMinute h m ≡ true → all colonNorPoint h ≡ true
+unfolding isHourMinute
+hour-unparted h m e =
+    let few = leb 1 (length h) && leb (length h) 2 in
+    let a = and-eq-true-iff (few && isDigits h && isNDigits 2 m) (leb (getD m 0 0) (code "5")) .0 e .0 in
+    let d = and-eq-true-iff few (isDigits h) .0 (and-eq-true-iff (few && isDigits h) (isNDigits 2 m) .0 a .0) .1 in
+    all-within digit colonNorPoint (λ b k. rw (apart digit (code ":") b refl k, apart digit (code ".") b refl k)) h (digits-all h d)
+
+meridiem-taken : (s : List ℕ) → MeridiemTime s → isMeridiemTime s ≡ true
+meridiem-taken _ (meridiem-time h m x c p q e) =
+    let t = h ++ (c ∷ m) in
+    let s = t ++ x in
+    let two = or-true-elim (sameBy lower x (bytes "am")) (sameBy lower x (bytes "pm")) (two-bytes x (code "a") (code "m") (omega arith))
+    (two-bytes x (code "p") (code "m") (omega arith)) e .0 in
+    let l = length-append t x in
+    let sep : span colonNorPoint t ≡ length h = span-before colonNorPoint h c m q ∙ all-span colonNorPoint h (hour-unparted h m p) in
+    rw (
+      le-leb 2 (length s) (omega arith),
+      drop-at t x (length s - 2) (omega arith),
+      take-at t x (length s - 2) (omega arith),
+      e,
+      sep,
+      lt-ltb (length h) (length t) (omega (arith, length-append h (c ∷ m))),
+      take-at h (c ∷ m) (length h) refl,
+      ← drop-drop 1 (length h) t,
+      drop-at h (c ∷ m) (length h) refl,
+    )
+    p
+
+-- a text is a time with am or pm where it has this form, and only there
+pub meridiem-form : (s : List ℕ) → (isMeridiemTime s ≡ true) ↔ MeridiemTime s
+meridiem-form s = (
+  λ e.
+      let t = timeOf s in
+      let sep = separatorAt t in
+      let x = drop (length s - 2) s in
+      let a = and-eq-true-iff (endsInMeridiem s) (ltb sep (length t) && isHourMinute (take sep t) (drop (sep + 1) t)) .0 e in
+      let b = and-eq-true-iff (ltb sep (length t)) (isHourMinute (take sep t) (drop (sep + 1) t)) .0 (a .1) in
+      let l = ltb-true sep (length t) (b .0) in
+      let w : take sep t ++ (getD t sep 0 ∷ drop (sep + 1) t) ≡ t = sym (rw (← add-one sep) at (split-at t sep 0 l)) in
+      subst MeridiemTime (ap (λ (r : List ℕ). r ++ x) w ∙ take-append-drop (length s - 2) s)
+      (meridiem-time (take sep t) (drop (sep + 1) t) x (getD t sep 0) (b .1) (span-fails colonNorPoint t l)
+      (last-two (leb 2 (length s)) (sameBy lower x (bytes "am")) (sameBy lower x (bytes "pm")) (a .0))),
+  meridiem-taken s,
+)
+  where
+    last-two : (t u v : Bool) → ((t && u) || (t && v)) ≡ true → (u || v) ≡ true
+    last-two true u v h = h
+    last-two false u v h = absurd (false≢true h)
 
 -- digits and commas, a digit first, and a suffix
 pub data Ordinal : List ℕ → Type 0 where
@@ -290,6 +362,7 @@ ordinal-taken _ (ordinal (b ∷ num) suf f h x) =
     )
     h
 
+-- likewise
 pub ordinal-form : (s : List ℕ) → (isOrdinal s ≡ true) ↔ Ordinal s
 unfolding isOrdinal
 ordinal-form s = (
@@ -325,6 +398,7 @@ money-taken _ (cents w d l h k) =
     )
     k
 
+-- what follows the dollar sign
 amount-form : (s : List ℕ) → isAmount s ≡ true → Money (bytes "$" ++ s)
 unfolding isAmount
 amount-form s e = go (drop n s) refl (p .1)
@@ -352,6 +426,7 @@ amount-form s e = go (drop n s) refl (p .1)
             (cents (take n s) d some (span-all digitOrComma s) h)
         more false f h = absurd (omega (arith, eqb-true (suc (length d)) 0 h))
 
+-- likewise
 pub money-form : (s : List ℕ) → (isUsMoney s ≡ true) ↔ Money s
 money-form [] = (λ e. absurd (false≢true e), money-taken [])
 money-form (b ∷ s) = (
