@@ -9,15 +9,15 @@ use Rattle.numerals.specs.Words.{Word, one, teen, ten, hundred, scale, o
 
 -- "units, teens and tens add, hundred multiplies by 100, scale words by their power of ten"
 pub data Meaning : Type 0 where
-  adds multiplies scales : ℕ → Meaning
+  adds multiplies scalesBy : ℕ → Meaning
 
 -- a word and what it means
 infix 70 _means_
-pub data Entry : Type 0 where
-  _means_ : String → Meaning → Entry
+pub data WordMeaning : Type 0 where
+  _means_ : String → Meaning → WordMeaning
 
 -- the words of a cardinal number
-unfoldable pub cardinalMeanings : List Entry
+unfoldable pub cardinalMeanings : List WordMeaning
 cardinalMeanings =
     "zero" means adds 0 ∷ "one" means adds 1 ∷ "two" means adds 2 ∷ "three" means adds 3 ∷ "four" means adds 4
     ∷ "five" means adds 5 ∷ "six" means adds 6 ∷ "seven" means adds 7 ∷ "eight" means adds 8 ∷ "nine" means adds 9
@@ -26,10 +26,10 @@ cardinalMeanings =
     ∷ "twenty" means adds 20 ∷ "thirty" means adds 30 ∷ "forty" means adds 40 ∷ "fifty" means adds 50
     ∷ "sixty" means adds 60 ∷ "seventy" means adds 70 ∷ "eighty" means adds 80 ∷ "ninety" means adds 90
     ∷ "hundred" means multiplies 100
-    ∷ "thousand" means scales (10 ^ 3) ∷ "million" means scales (10 ^ 6) ∷ "billion" means scales (10 ^ 9) ∷ []
+    ∷ "thousand" means scalesBy (10 ^ 3) ∷ "million" means scalesBy (10 ^ 6) ∷ "billion" means scalesBy (10 ^ 9) ∷ []
 
 -- the ordinal forms, of which an ordinal number has one, its last word
-unfoldable pub ordinalMeanings : List Entry
+unfoldable pub ordinalMeanings : List WordMeaning
 ordinalMeanings =
     "zeroth" means adds 0 ∷ "first" means adds 1 ∷ "second" means adds 2 ∷ "third" means adds 3 ∷ "fourth" means adds 4
     ∷ "fifth" means adds 5 ∷ "sixth" means adds 6 ∷ "seventh" means adds 7 ∷ "eighth" means adds 8 ∷ "ninth" means adds 9
@@ -38,10 +38,10 @@ ordinalMeanings =
     ∷ "twentieth" means adds 20 ∷ "thirtieth" means adds 30 ∷ "fortieth" means adds 40 ∷ "fiftieth" means adds 50
     ∷ "sixtieth" means adds 60 ∷ "seventieth" means adds 70 ∷ "eightieth" means adds 80 ∷ "ninetieth" means adds 90
     ∷ "hundredth" means multiplies 100
-    ∷ "thousandth" means scales (10 ^ 3) ∷ "millionth" means scales (10 ^ 6) ∷ "billionth" means scales (10 ^ 9) ∷ []
+    ∷ "thousandth" means scalesBy (10 ^ 3) ∷ "millionth" means scalesBy (10 ^ 6) ∷ "billionth" means scalesBy (10 ^ 9) ∷ []
 
 -- none where the word is not in the table
-unfoldable pub meaningIn : List Entry → List ℕ → Option Meaning
+unfoldable pub meaningIn : List WordMeaning → List ℕ → Option Meaning
 meaningIn [] w = none
 meaningIn (t means m ∷ es) w = cond (same (bytes t) w) (some m) (meaningIn es w)
 
@@ -66,7 +66,7 @@ unfoldable pub valueFrom : ℕ → ℕ → List Meaning → ℕ
 valueFrom t c [] = t + c
 valueFrom t c (adds n ∷ ms) = valueFrom t (c + n) ms
 valueFrom t c (multiplies n ∷ ms) = valueFrom t (c * n) ms
-valueFrom t c (scales n ∷ ms) = valueFrom (t + c * n) 0 ms
+valueFrom t c (scalesBy n ∷ ms) = valueFrom (t + c * n) 0 ms
 
 -- the value that words name, none where one of them means nothing
 unfoldable pub valueOf : List (List ℕ) → Option ℕ
@@ -91,7 +91,7 @@ meant (one d) = adds d
 meant (teen d) = adds (10 + d)
 meant (ten d) = adds (10 * d)
 meant hundred = multiplies 100
-meant (scale k) = scales (1000 ^ k)
+meant (scale k) = scalesBy (1000 ^ k)
 meant (other w) = adds 0
 
 unfoldable pub value : List Word → ℕ

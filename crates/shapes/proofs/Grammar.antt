@@ -1,8 +1,8 @@
--- The shapes as forms of texts: what a name that a shape takes is made of, and that each such text is taken. Assumes nothing.
+-- A shape takes a name exactly when the name has its form. Assumes nothing.
 use mathlib.Core.Path.{_≡_, refl, sym, ap, subst, _∙_}
 use mathlib.Core.Bool.{Bool, true, false, cond, not, _&&_, _||_, and-eq-true-iff, false≢true}
 use mathlib.Core.Logic.{_↔_}
-use mathlib.Core.List.{List, [], _∷_, _++_, append-nil, map, flatten}
+use mathlib.Core.List.{List, [], _∷_, _++_, append-nil, flatten}
 use Prim.Native.Nat.{ℕ, suc, _+_, _-_, _≤_, _<_}
 use Prim.Native.Char.{code}
 use native.Mathlib.Numerals.{add-one}
@@ -20,6 +20,8 @@ use Rattle.lists.proofs.Table.{same-true}
 use Rattle.shapes.specs.Shapes.{isDigits, isNDigits, isCommaGroups, isCommaInt, startsChar, isOrdinalSuffix, isOrdinal, isAmount, isUsMoney, isIllion}
 use Rattle.shapes.specs.Shapes.{isNumberS, isLeadingZeroDigits, splitOnce, isPhoneParts, isSevenDigitPhone, isHourMinute, isTime, areDigits, isDigitsSlashDigits}
 use Rattle.shapes.specs.Times.{endsInMeridiem, separatorAt, timeOf, isMeridiemTime}
+use Rattle.shapes.specs.Grammar.{join, TimeForm, PhoneForm, SlashedForm, CommaIntForm, LeadingZeroForm, IllionForm, NumberSForm, MeridiemForm, OrdinalForm, MoneyForm}
+use Rattle.shapes.specs.Grammar.{time, phone, slashed, comma-int, leading-zero, illion, number-s, meridiem-time, ordinal, dollars, cents}
 use Rattle.shapes.proofs.Laws.{digits-all, digits-some}
 
 -- ---- a text at its first separator
@@ -59,18 +61,14 @@ no-separator c e s h = all-within digit (except c) (λ b k. rw (apart digit c b 
 n-digits : (n : ℕ) (s : List ℕ) → isNDigits n s ≡ true → isDigits s ≡ true
 n-digits n s h = and-eq-true-iff (eqb (length s) n) (isDigits s) .0 h .1
 
--- "1 or 2 digits, a colon, 2 digits of which the first is at most 5"
-pub data Time : List ℕ → Type 0 where
-  time : (h m : List ℕ) → isDigits h ≡ true → length h ≤ 2 → isNDigits 2 m ≡ true → getD m 0 0 ≤ code "5" → Time (h ++ (bytes ":" ++ m))
-
-time-taken : (s : List ℕ) → Time s → isTime s ≡ true
+time-taken : (s : List ℕ) → TimeForm s → isTime s ≡ true
 unfolding isHourMinute
 time-taken _ (time h m d l n t) =
     once-taken (code ":") isHourMinute h m (no-separator (code ":") refl h d)
     (rw (le-leb 1 (length h) (digits-some h d), le-leb (length h) 2 l, d, n, le-leb (getD m 0 0) (code "5") t))
 
 -- a text is a time where it has this form, and only there
-pub time-form : (s : List ℕ) → (isTime s ≡ true) ↔ Time s
+pub time-form : (s : List ℕ) → (isTime s ≡ true) ↔ TimeForm s
 unfolding isHourMinute
 time-form s = (
   λ e.
@@ -82,50 +80,37 @@ time-form s = (
       let b = and-eq-true-iff (few && isDigits h) (isNDigits 2 m) .0 (a .0) in
       let c = and-eq-true-iff few (isDigits h) .0 (b .0) in
       let l = leb-true (length h) 2 (and-eq-true-iff (leb 1 (length h)) (leb (length h) 2) .0 (c .0) .1) in
-      subst Time (sym (o .joined)) (time h m (c .1) l (b .1) (leb-true (getD m 0 0) (code "5") (a .1))),
+      subst TimeForm (sym (o .joined)) (time h m (c .1) l (b .1) (leb-true (getD m 0 0) (code "5") (a .1))),
   time-taken s,
 )
 
--- three digits, a hyphen, four digits
-pub data Phone : List ℕ → Type 0 where
-  phone : (a b : List ℕ) → isNDigits 3 a ≡ true → isNDigits 4 b ≡ true → Phone (a ++ (bytes "-" ++ b))
-
-phone-taken : (s : List ℕ) → Phone s → isSevenDigitPhone s ≡ true
+phone-taken : (s : List ℕ) → PhoneForm s → isSevenDigitPhone s ≡ true
 phone-taken _ (phone a b p q) = once-taken (code "-") isPhoneParts a b (no-separator (code "-") refl a (n-digits 3 a p)) (rw (p, q))
 
 -- likewise
-pub phone-form : (s : List ℕ) → (isSevenDigitPhone s ≡ true) ↔ Phone s
+pub phone-form : (s : List ℕ) → (isSevenDigitPhone s ≡ true) ↔ PhoneForm s
 phone-form s = (
   λ e.
       let o = once-parts (code "-") isPhoneParts s e in
       let p = and-eq-true-iff (isNDigits 3 (o .front)) (isNDigits 4 (o .rest)) .0 (o .passed) in
-      subst Phone (sym (o .joined)) (phone (o .front) (o .rest) (p .0) (p .1)),
+      subst PhoneForm (sym (o .joined)) (phone (o .front) (o .rest) (p .0) (p .1)),
   phone-taken s,
 )
 
--- digits, a slash, digits
-pub data Slashed : List ℕ → Type 0 where
-  slashed : (a b : List ℕ) → isDigits a ≡ true → isDigits b ≡ true → Slashed (a ++ (bytes "/" ++ b))
-
-slashed-taken : (s : List ℕ) → Slashed s → isDigitsSlashDigits s ≡ true
+slashed-taken : (s : List ℕ) → SlashedForm s → isDigitsSlashDigits s ≡ true
 slashed-taken _ (slashed a b p q) = once-taken (code "/") areDigits a b (no-separator (code "/") refl a p) (rw (p, q))
 
 -- likewise
-pub slashed-form : (s : List ℕ) → (isDigitsSlashDigits s ≡ true) ↔ Slashed s
+pub slashed-form : (s : List ℕ) → (isDigitsSlashDigits s ≡ true) ↔ SlashedForm s
 slashed-form s = (
   λ e.
       let o = once-parts (code "/") areDigits s e in
       let p = and-eq-true-iff (isDigits (o .front)) (isDigits (o .rest)) .0 (o .passed) in
-      subst Slashed (sym (o .joined)) (slashed (o .front) (o .rest) (p .0) (p .1)),
+      subst SlashedForm (sym (o .joined)) (slashed (o .front) (o .rest) (p .0) (p .1)),
   slashed-taken s,
 )
 
 -- ---- a text by its parts
-
--- parts with the byte c between them
-abbrev pub join : ℕ → List (List ℕ) → List ℕ
-join c [] = []
-join c (p ∷ ps) = p ++ flatten (map (λ q. c ∷ q) ps)
 
 -- the parts of a text give the text
 pub join-split : (c : ℕ) (s : List ℕ) → join c (split c s) ≡ s
@@ -154,12 +139,7 @@ split-join c p (q ∷ qs) h =
     let k = and-eq-true-iff (all (except c) p) (all (all (except c)) (q ∷ qs)) .0 h in
     front-part c p (c ∷ join c (q ∷ qs)) (q ∷ qs) (rw (eq-eqb c c refl) (ap (λ (r : List (List ℕ)). [] ∷ r) (split-join c q qs (k .1)))) (k .0)
 
--- "a comma, a first group of 1 to 3 digits and further groups of 3"
-pub data CommaInt : List ℕ → Type 0 where
-  comma-int : (first g : List ℕ) (gs : List (List ℕ)) → isDigits first ≡ true → length first ≤ 3 → all (isNDigits 3) (g ∷ gs) ≡ true
-      → CommaInt (join (code ",") (first ∷ g ∷ gs))
-
-comma-taken : (s : List ℕ) → CommaInt s → isCommaInt s ≡ true
+comma-taken : (s : List ℕ) → CommaIntForm s → isCommaInt s ≡ true
 unfolding isCommaGroups all
 comma-taken _ (comma-int first g gs d l h) =
     let none = no-separator (code ",") refl in
@@ -167,11 +147,11 @@ comma-taken _ (comma-int first g gs d l h) =
     rw (split-join (code ",") first (g ∷ gs) (rw (none first d) others), d, le-leb (length first) 3 l, ne-eqb (suc (length gs)) 0 (omega arith)) h
 
 -- likewise
-pub comma-form : (s : List ℕ) → (isCommaInt s ≡ true) ↔ CommaInt s
+pub comma-form : (s : List ℕ) → (isCommaInt s ≡ true) ↔ CommaIntForm s
 unfolding isCommaGroups
 comma-form s = (λ e. go (split (code ",") s) (join-split (code ",") s) e, comma-taken s)
   where
-    go : (ps : List (List ℕ)) → join (code ",") ps ≡ s → isCommaGroups ps ≡ true → CommaInt s
+    go : (ps : List (List ℕ)) → join (code ",") ps ≡ s → isCommaGroups ps ≡ true → CommaIntForm s
     go [] j e = absurd (false≢true e)
     go (first ∷ gs) j e =
         let a = and-eq-true-iff (isDigits first && leb (length first) 3 && not (eqb (length gs) 0)) (all (isNDigits 3) gs) .0 e in
@@ -180,23 +160,19 @@ comma-form s = (λ e. go (split (code ",") s) (join-split (code ",") s) e, comma
         more gs j (c .0) (leb-true (length first) 3 (c .1)) (b .1) (a .1)
       where
         more : (gs : List (List ℕ)) → join (code ",") (first ∷ gs) ≡ s → isDigits first ≡ true → length first ≤ 3 → not (eqb (length gs) 0) ≡ true
-            → all (isNDigits 3) gs ≡ true → CommaInt s
+            → all (isNDigits 3) gs ≡ true → CommaIntForm s
         more [] j d l n h = absurd (false≢true n)
-        more (g ∷ gs) j d l n h = subst CommaInt j (comma-int first g gs d l h)
+        more (g ∷ gs) j d l n h = subst CommaIntForm j (comma-int first g gs d l h)
 
 -- ---- a text by its first bytes or its last
 
--- a zero and one or more digits
-pub data LeadingZero : List ℕ → Type 0 where
-  leading-zero : (d : List ℕ) → isDigits d ≡ true → LeadingZero (bytes "0" ++ d)
-
-zero-taken : (s : List ℕ) → LeadingZero s → isLeadingZeroDigits s ≡ true
+zero-taken : (s : List ℕ) → LeadingZeroForm s → isLeadingZeroDigits s ≡ true
 unfolding isDigits all
 zero-taken _ (leading-zero d h) =
     rw (lt-ltb 1 (suc (length d)) (omega (arith, digits-some d h)), ne-eqb (suc (length d)) 0 (omega arith), digits-all d h)
 
 -- likewise
-pub zero-form : (s : List ℕ) → (isLeadingZeroDigits s ≡ true) ↔ LeadingZero s
+pub zero-form : (s : List ℕ) → (isLeadingZeroDigits s ≡ true) ↔ LeadingZeroForm s
 unfolding isDigits all
 zero-form [] = (λ e. absurd (false≢true e), zero-taken [])
 zero-form (b ∷ d) = (
@@ -206,35 +182,27 @@ zero-form (b ∷ d) = (
       let z : b ≡ code "0" = eqb-true b (code "0") (sym (starts-first (code "0") b d) ∙ q .1) in
       let l = ltb-true 1 (suc (length d)) (q .0) in
       let h = and-eq-true-iff (digit b) (all digit d) .0 (digits-all (b ∷ d) (p .1)) .1 in
-      subst (λ c. LeadingZero (c ∷ d)) (sym z) (leading-zero d (rw (ne-eqb (length d) 0 (omega arith), h))),
+      subst (λ c. LeadingZeroForm (c ∷ d)) (sym z) (leading-zero d (rw (ne-eqb (length d) 0 (omega arith), h))),
   zero-taken (b ∷ d),
 )
 
--- whatever stands before "illion"
-pub data Illion : List ℕ → Type 0 where
-  illion : (t : List ℕ) → Illion (t ++ bytes "illion")
-
-illion-taken : (s : List ℕ) → Illion s → isIllion s ≡ true
+illion-taken : (s : List ℕ) → IllionForm s → isIllion s ≡ true
 unfolding sameBy
 illion-taken _ (illion t) =
     let l = length-append t (bytes "illion") in
     rw (le-leb 6 (length (t ++ bytes "illion")) (omega arith), drop-at t (bytes "illion") (length (t ++ bytes "illion") - 6) (omega arith))
 
 -- likewise
-pub illion-form : (s : List ℕ) → (isIllion s ≡ true) ↔ Illion s
+pub illion-form : (s : List ℕ) → (isIllion s ≡ true) ↔ IllionForm s
 illion-form s = (
   λ e.
       let n = length s - 6 in
       let t = same-true (drop n s) (bytes "illion") (and-eq-true-iff (leb 6 (length s)) (same (drop n s) (bytes "illion")) .0 e .1) in
-      subst Illion (ap (λ (r : List ℕ). take n s ++ r) (sym t) ∙ take-append-drop n s) (illion (take n s)),
+      subst IllionForm (ap (λ (r : List ℕ). take n s ++ r) (sym t) ∙ take-append-drop n s) (illion (take n s)),
   illion-taken s,
 )
 
--- digits and an s
-pub data NumberS : List ℕ → Type 0 where
-  number-s : (d : List ℕ) → isDigits d ≡ true → NumberS (d ++ bytes "s")
-
-number-taken : (s : List ℕ) → NumberS s → isNumberS s ≡ true
+number-taken : (s : List ℕ) → NumberSForm s → isNumberS s ≡ true
 number-taken _ (number-s d h) =
     let t = d ++ bytes "s" in
     let l = length-append d (bytes "s") in
@@ -248,7 +216,7 @@ number-taken _ (number-s d h) =
     )
 
 -- likewise
-pub number-form : (s : List ℕ) → (isNumberS s ≡ true) ↔ NumberS s
+pub number-form : (s : List ℕ) → (isNumberS s ≡ true) ↔ NumberSForm s
 number-form s = (
   λ e.
       let n = length s - 1 in
@@ -257,7 +225,7 @@ number-form s = (
       let two = leb-true 2 (length s) (q .0) in
       let last : getD s n 0 ≡ code "s" = eqb-true _ _ (and-eq-true-iff (not (eqb (length s) 0)) (eqb (getD s n 0) (code "s")) .0 (q .1) .1) in
       let w : s ≡ take n s ++ bytes "s" = rw (last, drop-of-length-le s {i = suc n} (omega arith)) at (split-at s n 0 (omega arith)) in
-      subst NumberS (sym w) (number-s (take n s) (p .1)),
+      subst NumberSForm (sym w) (number-s (take n s) (p .1)),
   number-taken s,
 )
 
@@ -282,14 +250,6 @@ suffix-bytes s =
     (or-true-elim (sameBy lower s (bytes "th")) (sameBy lower s (bytes "st")) (two-bytes s (code "t") (code "h") (omega arith)) (two-bytes s (code "s") (code "t") (omega arith)))
     (two-bytes s (code "n") (code "d") (omega arith))) (two-bytes s (code "r") (code "d") (omega arith))
 
--- am or pm, in any case
-abbrev pub isMeridiem : List ℕ → Bool
-isMeridiem x = sameBy lower x (bytes "am") || sameBy lower x (bytes "pm")
-
--- an hour and a minute, with a colon or a point between, and a meridiem
-pub data MeridiemTime : List ℕ → Type 0 where
-  meridiem-time : (h m x : List ℕ) (c : ℕ) → isHourMinute h m ≡ true → colonNorPoint c ≡ false → isMeridiem x ≡ true → MeridiemTime ((h ++ (c ∷ m)) ++ x)
-
 -- the hour's digits are no separators
 hour-unparted : (h m : List ℕ) → isHourMinute h m ≡ true → all colonNorPoint h ≡ true
 unfolding isHourMinute
@@ -299,7 +259,7 @@ hour-unparted h m e =
     let d = and-eq-true-iff few (isDigits h) .0 (and-eq-true-iff (few && isDigits h) (isNDigits 2 m) .0 a .0) .1 in
     all-within digit colonNorPoint (λ b k. rw (apart digit (code ":") b refl k, apart digit (code ".") b refl k)) h (digits-all h d)
 
-meridiem-taken : (s : List ℕ) → MeridiemTime s → isMeridiemTime s ≡ true
+meridiem-taken : (s : List ℕ) → MeridiemForm s → isMeridiemTime s ≡ true
 meridiem-taken _ (meridiem-time h m x c p q e) =
     let t = h ++ (c ∷ m) in
     let s = t ++ x in
@@ -321,7 +281,7 @@ meridiem-taken _ (meridiem-time h m x c p q e) =
     p
 
 -- a text is a time with am or pm where it has this form, and only there
-pub meridiem-form : (s : List ℕ) → (isMeridiemTime s ≡ true) ↔ MeridiemTime s
+pub meridiem-form : (s : List ℕ) → (isMeridiemTime s ≡ true) ↔ MeridiemForm s
 meridiem-form s = (
   λ e.
       let t = timeOf s in
@@ -331,7 +291,7 @@ meridiem-form s = (
       let b = and-eq-true-iff (ltb sep (length t)) (isHourMinute (take sep t) (drop (sep + 1) t)) .0 (a .1) in
       let l = ltb-true sep (length t) (b .0) in
       let w : take sep t ++ (getD t sep 0 ∷ drop (sep + 1) t) ≡ t = sym (rw (← add-one sep) at (split-at t sep 0 l)) in
-      subst MeridiemTime (ap (λ (r : List ℕ). r ++ x) w ∙ take-append-drop (length s - 2) s)
+      subst MeridiemForm (ap (λ (r : List ℕ). r ++ x) w ∙ take-append-drop (length s - 2) s)
       (meridiem-time (take sep t) (drop (sep + 1) t) x (getD t sep 0) (b .1) (span-fails colonNorPoint t l)
       (last-two (leb 2 (length s)) (sameBy lower x (bytes "am")) (sameBy lower x (bytes "pm")) (a .0))),
   meridiem-taken s,
@@ -341,11 +301,7 @@ meridiem-form s = (
     last-two true u v h = h
     last-two false u v h = absurd (false≢true h)
 
--- digits and commas, a digit first, and a suffix
-pub data Ordinal : List ℕ → Type 0 where
-  ordinal : (num suf : List ℕ) → digit (getD num 0 0) ≡ true → all digitOrComma num ≡ true → isOrdinalSuffix suf ≡ true → Ordinal (num ++ suf)
-
-ordinal-taken : (s : List ℕ) → Ordinal s → isOrdinal s ≡ true
+ordinal-taken : (s : List ℕ) → OrdinalForm s → isOrdinal s ≡ true
 unfolding isOrdinal
 ordinal-taken _ (ordinal [] suf f h x) = absurd (false≢true f)
 ordinal-taken _ (ordinal (b ∷ num) suf f h x) =
@@ -363,7 +319,7 @@ ordinal-taken _ (ordinal (b ∷ num) suf f h x) =
     h
 
 -- likewise
-pub ordinal-form : (s : List ℕ) → (isOrdinal s ≡ true) ↔ Ordinal s
+pub ordinal-form : (s : List ℕ) → (isOrdinal s ≡ true) ↔ OrdinalForm s
 unfolding isOrdinal
 ordinal-form s = (
   λ e.
@@ -373,16 +329,11 @@ ordinal-form s = (
       let p = and-eq-true-iff (long && isOrdinalSuffix suf && digit (getD num 0 0)) (all digitOrComma num) .0 e in
       let q = and-eq-true-iff (long && isOrdinalSuffix suf) (digit (getD num 0 0)) .0 (p .0) in
       let x = and-eq-true-iff long (isOrdinalSuffix suf) .0 (q .0) .1 in
-      subst Ordinal (take-append-drop (length s - 2) s) (ordinal num suf (q .1) (p .1) x),
+      subst OrdinalForm (take-append-drop (length s - 2) s) (ordinal num suf (q .1) (p .1) x),
   ordinal-taken s,
 )
 
--- a dollar sign, digits and commas, and where there is a point, digits after it: "passes "$,""
-pub data Money : List ℕ → Type 0 where
-  dollars : (w : List ℕ) → 0 < length w → all digitOrComma w ≡ true → Money (bytes "$" ++ w)
-  cents : (w d : List ℕ) → 0 < length w → all digitOrComma w ≡ true → isDigits d ≡ true → Money (bytes "$" ++ (w ++ (bytes "." ++ d)))
-
-money-taken : (s : List ℕ) → Money s → isUsMoney s ≡ true
+money-taken : (s : List ℕ) → MoneyForm s → isUsMoney s ≡ true
 unfolding isAmount
 money-taken _ (dollars w l h) =
     rw (ne-eqb (suc (length w)) 0 (omega arith), all-span digitOrComma w h, drop-length w, ne-eqb (length w) 0 (omega arith))
@@ -399,7 +350,7 @@ money-taken _ (cents w d l h k) =
     k
 
 -- what follows the dollar sign
-amount-form : (s : List ℕ) → isAmount s ≡ true → Money (bytes "$" ++ s)
+amount-form : (s : List ℕ) → isAmount s ≡ true → MoneyForm (bytes "$" ++ s)
 unfolding isAmount
 amount-form s e = go (drop n s) refl (p .1)
   where
@@ -415,24 +366,24 @@ amount-form s e = go (drop n s) refl (p .1)
     whole : (r : List ℕ) → drop n s ≡ r → take n s ++ r ≡ s
     whole r q = ap (λ (x : List ℕ). take n s ++ x) (sym q) ∙ take-append-drop n s
 
-    go : (r : List ℕ) → drop n s ≡ r → cond (starts (code ".") r) (isDigits (drop 1 r)) (eqb (length r) 0) ≡ true → Money (bytes "$" ++ s)
+    go : (r : List ℕ) → drop n s ≡ r → cond (starts (code ".") r) (isDigits (drop 1 r)) (eqb (length r) 0) ≡ true → MoneyForm (bytes "$" ++ s)
     go [] q h =
-        subst (λ x. Money (code "$" ∷ x)) (sym (append-nil (take n s)) ∙ whole [] q) (dollars (take n s) some (span-all digitOrComma s))
+        subst (λ x. MoneyForm (code "$" ∷ x)) (sym (append-nil (take n s)) ∙ whole [] q) (dollars (take n s) some (span-all digitOrComma s))
     go (b ∷ d) q h = more (eqb b (code ".")) refl (rw (starts-first (code ".") b d) at h)
       where
-        more : (t : Bool) → eqb b (code ".") ≡ t → cond t (isDigits d) (eqb (suc (length d)) 0) ≡ true → Money (bytes "$" ++ s)
+        more : (t : Bool) → eqb b (code ".") ≡ t → cond t (isDigits d) (eqb (suc (length d)) 0) ≡ true → MoneyForm (bytes "$" ++ s)
         more true f h =
-            subst (λ x. Money (code "$" ∷ x)) (whole (code "." ∷ d) (q ∙ ap (λ (c : ℕ). c ∷ d) (eqb-true b (code ".") f)))
+            subst (λ x. MoneyForm (code "$" ∷ x)) (whole (code "." ∷ d) (q ∙ ap (λ (c : ℕ). c ∷ d) (eqb-true b (code ".") f)))
             (cents (take n s) d some (span-all digitOrComma s) h)
         more false f h = absurd (omega (arith, eqb-true (suc (length d)) 0 h))
 
 -- likewise
-pub money-form : (s : List ℕ) → (isUsMoney s ≡ true) ↔ Money s
+pub money-form : (s : List ℕ) → (isUsMoney s ≡ true) ↔ MoneyForm s
 money-form [] = (λ e. absurd (false≢true e), money-taken [])
 money-form (b ∷ s) = (
   λ e.
       let p = and-eq-true-iff (starts (code "$") (b ∷ s)) (isAmount s) .0 e in
       let z : b ≡ code "$" = eqb-true b (code "$") (sym (starts-first (code "$") b s) ∙ p .0) in
-      subst (λ c. Money (c ∷ s)) (sym z) (amount-form s (p .1)),
+      subst (λ c. MoneyForm (c ∷ s)) (sym z) (amount-form s (p .1)),
   money-taken (b ∷ s),
 )

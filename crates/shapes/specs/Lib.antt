@@ -1,3 +1,4 @@
 pub mod Shapes
 pub mod Times
 pub mod Tests
+pub mod Grammar
