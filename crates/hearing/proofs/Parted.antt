@@ -1,16 +1,15 @@
 -- A call sheet is taken apart at its LFs and spaces into its lines and words, whether or not its names are clear. Assumes nothing.
 use mathlib.Core.Path.{_≡_, refl, sym, ap, _∙_}
-use mathlib.Core.Bool.{Bool, true, false, _&&_, _||_, not, true≢false}
-use mathlib.Core.List.{List, [], _∷_, map, flatten}
+use mathlib.Core.Bool.{Bool, true, false, _&&_, _||_, not, true≢false, and-eq-true-iff}
+use mathlib.Core.List.{List, [], _∷_, _++_, map, flatten}
 use Prim.Native.Nat.{ℕ, _+_}
 use lib.Dec.{eqb}
 use lib.ListN.{length, length-append, length-map}
-use Rattle.lists.specs.Bytes.{all, any, span, after, lower, Every}
-use Rattle.lists.specs.Classes.{nonWhitespace, leadingMark}
-use Rattle.lists.proofs.Recursion.{cond-elim}
-use Rattle.lists.proofs.Scan.{all-split, all-within, span-all}
-use Rattle.tokens.specs.Tokens.{Token, nameSize, cut, afterWhite, tokens}
-use Rattle.tokens.proofs.Forward.{tokens-none, tokens-more, tokens-induct}
+use Rattle.lists.specs.Bytes.{all, any, lower, Every}
+use Rattle.lists.specs.Classes.{nonWhitespace}
+use Rattle.lists.proofs.Scan.{all-append, all-within}
+use Rattle.tokens.specs.Tokens.{Token, tokens}
+use Rattle.tokens.proofs.Peeled.{runOf, AllPeeled, endsInRun, tokens-peeled}
 use Rattle.sentences.specs.Sentences.{starts}
 use Rattle.sheets.specs.Sheet.{SheetEntry, entriesOf, entries, wordsOf, callSheet, countWords}
 use Rattle.sheets.proofs.Entries.{entries-length}
@@ -22,18 +21,17 @@ use Rattle.hearing.proofs.Lines.{SolidEntry, lines-told}
 abbrev Black : Token → Type 0
 Black t = all nonWhitespace (t .name) ≡ true
 
-cut-name : (white run : List ℕ) (ends : Bool) → all nonWhitespace run ≡ true → Black (cut white run ends)
-unfolding cut
-cut-name white run ends h =
-    let rest = after leadingMark run in
-    let k = all-split nonWhitespace run (span leadingMark run) h .1 in
-    cond-elim Black (ends && all leadingMark run) (λ e. h) (λ e. all-split nonWhitespace rest (nameSize rest) k .0)
+-- the name is a part of the token's run
+name-black : (t : Token) → all nonWhitespace (runOf t) ≡ true → Black t
+name-black t h =
+    let p = and-eq-true-iff (all nonWhitespace (t .prepunctuation)) (all nonWhitespace (t .name ++ t .punctuation)) .0 (sym (all-append _ (t .prepunctuation) _) ∙ h) in
+    and-eq-true-iff (all nonWhitespace (t .name)) (all nonWhitespace (t .punctuation)) .0 (sym (all-append _ (t .name) (t .punctuation)) ∙ p .1) .0
 
--- no name has whitespace
-names-black : (s : List ℕ) → Every Black (tokens s)
-names-black =
-    tokens-induct (λ s. Every Black (tokens s)) (λ s e. rw (tokens-none s e) tt)
-    (λ s e i. rw (tokens-more s e) (cut-name _ _ _ (span-all nonWhitespace (afterWhite s)), i))
+-- so no name has whitespace
+names-black : (ends : Bool) (ts : List Token) → AllPeeled ends ts → Every Black ts
+names-black ends [] h = tt
+names-black ends (t ∷ []) h = (name-black t (h .run .1), tt)
+names-black ends (t ∷ u ∷ ts) h = (name-black t (h .0 .run .1), names-black ends (u ∷ ts) (h .2))
 
 -- so no word of a sheet has a space or an LF
 name-solid : (n : List ℕ) → all nonWhitespace n ≡ true → solid n ≡ true
@@ -48,7 +46,7 @@ name-solid = all-within nonWhitespace _ (λ b. go (eqb b 32) (eqb b 9) (eqb b 10
 
 pub entries-solid : (s : List ℕ) → Every SolidEntry (entries s)
 unfolding entriesOf
-entries-solid s = go (starts (tokens s)) (tokens s) (names-black s)
+entries-solid s = go (starts (tokens s)) (tokens s) (names-black (endsInRun s) (tokens s) (tokens-peeled s))
   where
     go : (bs : List Bool) (ts : List Token) → Every Black ts → Every SolidEntry (entriesOf bs ts)
     go [] ts h = tt

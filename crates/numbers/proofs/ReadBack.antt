@@ -7,8 +7,8 @@ use lib.ListN.{length, getD}
 use Rattle.admit.specs.Refusals.{_when_, textLimit, textTests}
 use Rattle.admit.specs.declared.Refusal.the-variants.{BufferTooShort}
 use Rattle.admit.proofs.Calls.{both-passed, text-fit}
-use Rattle.sink.specs.Words.{Written, short, wordsCall}
-use Rattle.sink.proofs.ReadBack.{wordAt, PairIs, accepted, pairs-read, words-read}
+use Rattle.sink.specs.Words.{wordAt, Written, short, wordsCall}
+use Rattle.sink.proofs.ReadBack.{PairIs, accepted, pairs-read, words-read}
 use Rattle.numerals.specs.Words.{spelled}
 use Rattle.numerals.proofs.Room.{room-counts}
 use Rattle.numbers.specs.Calls.{wordsBy}
@@ -30,9 +30,9 @@ module _ (r : Reader) (s store table : List ℕ) (i : ℕ) where
       omega (arith, room-counts (room r s), text-fit textLimit s k .short)
 
   -- "with a table of pairs of offset and length sorted by offset, one pair a word"
-  pub reading-pairs : i < given .words → PairIs 0 words (given .table) i
-  reading-pairs h = pairs-read s words store table i h (short-store h)
+  pub pair-read : i < given .words → PairIs 0 words (given .table) i
+  pair-read h = pairs-read s words store table i h (short-store h)
 
   -- "Words come back end to end in a byte store": word i is where its pair says
-  pub reading-read : i < given .words → wordAt i (given .table) (given .store) ≡ getD words i []
-  reading-read h = words-read s words store table i h (short-store h)
+  pub word-read : i < given .words → wordAt i (given .table) (given .store) ≡ getD words i []
+  word-read h = words-read s words store table i h (short-store h)

@@ -1,6 +1,6 @@
 -- A word is where the table says: what a caller reads from the two buffers. Assumes nothing.
 use mathlib.Core.Path.{_≡_, refl, sym, ap, _∙_}
-use mathlib.Core.List.{List, [], _∷_, _++_, append-assoc, append-nil, flatten}
+use mathlib.Core.List.{List, [], _∷_, _++_, append-assoc, flatten}
 use Prim.Native.Nat.{ℕ, zero, suc, _+_, _*_, _^_, _<_}
 use native.Mathlib.Nat.{add-zero, zero-add}
 use native.Mathlib.Omega.{arith}
@@ -10,15 +10,7 @@ use Rattle.lists.specs.LittleEndian.{leValue, leBytes}
 use Rattle.lists.proofs.Rows.{leBytes-value}
 use Rattle.admit.specs.Refusals.{firstDue, call}
 use Rattle.sink.specs.Sink.{pairOf}
-use Rattle.sink.specs.Words.{tableOf, Written, nothingWritten, written, wordsTests, wordsCall}
-
--- number k of a table of four-byte numbers
-abbrev pub numberAt : ℕ → List ℕ → ℕ
-numberAt k t = leValue (take 4 (drop (4 * k) t))
-
--- the word's bytes, as the pair i of the table gives their offset and length in the store
-abbrev pub wordAt : ℕ → List ℕ → List ℕ → List ℕ
-wordAt i table store = take (numberAt (2 * i + 1) table) (drop (numberAt (2 * i) table) store)
+use Rattle.sink.specs.Words.{tableOf, numberAt, offsetAt, lengthAt, wordAt, Written, nothingWritten, written, wordsTests, wordsCall}
 
 -- the numbers after a pair
 after-pair : (a b : ℕ) (t : List ℕ) (k j : ℕ) → j ≡ 2 + k → numberAt j (pairOf a b ++ t) ≡ numberAt k t
@@ -29,11 +21,11 @@ after-pair a b t k j e =
 
 -- pair i of a table whose first word starts at `at`: how many bytes stand before word i, and the word's length
 pub record PairIs (at : ℕ) (ws : List (List ℕ)) (table : List ℕ) (i : ℕ) : Type 0 where
-  pub offset : numberAt (2 * i) table ≡ at + length (flatten (take i ws))
-  pub size : numberAt (2 * i + 1) table ≡ length (getD ws i [])
+  pub offset : offsetAt i table ≡ at + length (flatten (take i ws))
+  pub size : lengthAt i table ≡ length (getD ws i [])
 
 -- whatever follows the table
-pair-from : (at : ℕ) (ws : List (List ℕ)) (u : List ℕ) (i : ℕ) → i < length ws → at + length (flatten ws) < 256 ^ 4 → PairIs at ws (tableOf at ws ++ u) i
+pub pair-from : (at : ℕ) (ws : List (List ℕ)) (u : List ℕ) (i : ℕ) → i < length ws → at + length (flatten ws) < 256 ^ 4 → PairIs at ws (tableOf at ws ++ u) i
 unfolding flatten tableOf pairOf leBytes
 pair-from at [] u i h l = absurd (omega arith)
 pair-from at (w ∷ ws) u zero h l =
@@ -59,15 +51,12 @@ word-in (w ∷ ws) v (suc i) h =
     rw (append-assoc w (flatten ws) v, length-append w (flatten (take i ws)), drop-append-add w (flatten ws ++ v) (length (flatten (take i ws))))
     (word-in ws v i (omega arith))
 
-word-from : (ws : List (List ℕ)) (u v : List ℕ) (i : ℕ) → i < length ws → length (flatten ws) < 256 ^ 4
+-- the word that pair i names, whatever follows table and store
+pub word-from : (ws : List (List ℕ)) (u v : List ℕ) (i : ℕ) → i < length ws → length (flatten ws) < 256 ^ 4
     → wordAt i (tableOf 0 ws ++ u) (flatten ws ++ v) ≡ getD ws i []
 word-from ws u v i h l =
     let p = pair-from 0 ws u i h (omega arith) in
     rw (p .offset, p .size, zero-add (length (flatten (take i ws)))) (word-in ws v i h)
-
--- word i of a table and a store that hold nothing else
-pub word-read : (ws : List (List ℕ)) (i : ℕ) → i < length ws → length (flatten ws) < 256 ^ 4 → wordAt i (tableOf 0 ws) (flatten ws) ≡ getD ws i []
-word-read ws i h l = rw (append-nil (tableOf 0 ws), append-nil (flatten ws)) at (word-from ws [] [] i h l)
 
 -- ---- the call that reads the text s as the words ws, below the count that it answers, which is 0 where it is refused
 

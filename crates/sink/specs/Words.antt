@@ -3,8 +3,9 @@ use mathlib.Core.Bool.{Bool, true, false, _||_}
 use mathlib.Core.List.{List, [], _∷_, _++_, flatten}
 use Prim.Native.Nat.{ℕ, _+_, _*_}
 use lib.Dec.{ltb}
-use lib.ListN.{length}
+use lib.ListN.{length, take, drop}
 use Rattle.lists.specs.Bytes.{over}
+use Rattle.lists.specs.LittleEndian.{leValue}
 use Rattle.admit.specs.Refusals.{Test, _when_, firstDue, textLimit, textTests, Call, call}
 use Rattle.admit.specs.declared.Refusal.the-variants.{BufferTooShort}
 use Rattle.sink.specs.Sink.{pairOf, pairBytes}
@@ -53,6 +54,23 @@ wordsCall s ws store table =
 -- an answer, with the buffers as the call leaves them
 abbrev pub asWords : Spoken → List ℕ → List ℕ → Call Written
 asWords r store table = record { refusal = r .refusal; value = record { words = r .words; bytes = r .bytes; store = store; table = table } }
+
+-- ---- what a caller reads from a table and a store
+
+-- number k of a table of four-byte numbers
+abbrev pub numberAt : ℕ → List ℕ → ℕ
+numberAt k table = leValue (take 4 (drop (4 * k) table))
+
+-- the offset and the length in its pair i
+abbrev pub offsetAt : ℕ → List ℕ → ℕ
+offsetAt i table = numberAt (2 * i) table
+
+abbrev pub lengthAt : ℕ → List ℕ → ℕ
+lengthAt i table = numberAt (2 * i + 1) table
+
+-- the bytes that pair i names
+abbrev pub wordAt : ℕ → List ℕ → List ℕ → List ℕ
+wordAt i table store = take (lengthAt i table) (drop (offsetAt i table) store)
 
 -- ---- no public promise is made of these
 

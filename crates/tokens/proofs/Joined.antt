@@ -5,24 +5,21 @@ use mathlib.Core.Bool.{true, false}
 use mathlib.Core.Logic.{⊎-elim}
 use mathlib.Core.List.{List, [], _∷_, _++_, flatMap, append-assoc, append-nil, flatten}
 use Prim.Native.Nat.{ℕ, zero, suc, _+_, _*_, _^_, _≤_, _<_}
-use native.Mathlib.Nat.{add-zero, zero-add, add-assoc}
+use native.Mathlib.Nat.{add-zero, add-assoc}
 use native.Mathlib.Omega.{arith}
 use lib.ListN.{length, take, drop, getD, length-append, take-append-drop, List·getD-append}
-use lib.Seq.{take-add, take-suc, take-length, split-at, take-append-seam, drop-append-seam, drop-append-add, length-take-le, getD-append-add}
+use lib.Seq.{take-add, take-suc, take-length, split-at, getD-append-add}
 use Rattle.lists.specs.Bytes.{all, span, afterLast}
 use Rattle.lists.specs.Classes.{whitespace, nonWhitespace}
-use Rattle.lists.specs.LittleEndian.{leValue, leBytes}
 use Rattle.lists.proofs.Scan.{last-none, last-span, last-drop}
 use Rattle.lists.proofs.Sets.{le-or-lt}
-use Rattle.lists.proofs.Rows.{leBytes-value}
 use Rattle.admit.specs.Refusals.{textLimit, Call}
 use Rattle.admit.proofs.Calls.{text-fit}
 use Rattle.sink.specs.Sink.{pairOf}
-use Rattle.sink.specs.Words.{tableOf}
-use Rattle.sink.proofs.Finish.{tableOf-length}
-use Rattle.sink.proofs.ReadBack.{numberAt, wordAt}
+use Rattle.sink.specs.Words.{tableOf, offsetAt, lengthAt, wordAt}
+use Rattle.sink.proofs.ReadBack.{PairIs, pair-from, word-from}
 use Rattle.tokens.specs.Tokens.{Token, afterWhite, afterRun, tokens, parts}
-use Rattle.tokens.specs.Table.{size, recordOf, records, Filled, filledCall}
+use Rattle.tokens.specs.Table.{size, recordOf, records, pairsJoined, Filled, filledCall}
 use Rattle.tokens.proofs.Forward.{firstSize, afterRun-drop, first-take, run-some, tokens-none, tokens-more, tokens-induct}
 use Rattle.tokens.proofs.Answers.{filled-accepted}
 
@@ -61,71 +58,18 @@ table-append at (x ∷ xs) ys =
     rw (table-append (at + length x) xs ys, length-append x (flatten xs), ← add-assoc at (length x) (length (flatten xs)))
     (sym (append-assoc (pairOf at (length x)) (tableOf (at + length x) xs) (tableOf (at + length x + length (flatten xs)) ys)))
 
--- ---- what a caller reads from a table
-
--- the offset and the length in its pair k
-abbrev pub offsetAt : ℕ → List ℕ → ℕ
-offsetAt k table = numberAt (2 * k) table
-
-abbrev pub lengthAt : ℕ → List ℕ → ℕ
-lengthAt k table = numberAt (2 * k + 1) table
-
--- the parts of s that its first n pairs name, joined
-abbrev pub pairsJoined : ℕ → List ℕ → List ℕ → List ℕ
-pairsJoined zero table s = []
-pairsJoined (suc n) table s = pairsJoined n table s ++ wordAt n table s
-
 -- ---- the pairs of a table of texts that are below 4 GiB together; u stands past it
 
 module _ (ws : List (List ℕ)) (u : List ℕ) (below : length (flatten ws) < 256 ^ 4) where
   -- its pair k: the text k starts where those before it end, and has its length
-  pub pair-at : (k : ℕ) → k < length ws
-      → (offsetAt k (tableOf 0 ws ++ u) ≡ length (flatten (take k ws))) × (lengthAt k (tableOf 0 ws ++ u) ≡ length (getD ws k []))
-  unfolding tableOf pairOf leBytes
-  pair-at k h =
-      let n : length x ≡ 8 * k = tableOf-length 0 (take k ws) ∙ ap (λ (i : ℕ). 8 * i) (length-take-le k ws (omega arith)) in
-      let m = ap length (flatten-at ws k h) ∙ length-append (flatten (take k ws)) _ in
-      let l = length-append w (flatten (drop (suc k) ws)) in (
-        number (2 * k) 0 (omega arith) ∙ leBytes-value 4 at (omega arith),
-        number (2 * k + 1) 4 (omega arith) ∙ leBytes-value 4 (length w) (omega arith),
-      )
-    where
-      at : ℕ
-      at = length (flatten (take k ws))
-
-      w : List ℕ
-      w = getD ws k []
-
-      x : List ℕ
-      x = tableOf 0 (take k ws)
-
-      y : List ℕ
-      y = pairOf at (length w) ++ (tableOf (at + length w) (drop (suc k) ws) ++ u)
-
-      split : tableOf 0 ws ++ u ≡ x ++ y
-      split =
-          ap (λ (vs : List (List ℕ)). tableOf 0 vs ++ u) (split-at ws k [] h)
-          ∙ ap (λ (t : List ℕ). t ++ u) (table-append 0 (take k ws) (w ∷ drop (suc k) ws))
-          ∙ rw zero-add (append-assoc x _ u)
-
-      number : (j i : ℕ) → 4 * j ≡ length x + i → numberAt j (tableOf 0 ws ++ u) ≡ leValue (take 4 (drop i y))
-      number j i e = ap₂ (λ (n : ℕ) (t : List ℕ). leValue (take 4 (drop n t))) e split ∙ ap (λ (t : List ℕ). leValue (take 4 t)) (drop-append-add x y i)
-
-  -- the text that a pair names, where they stand one after the other; z follows them
-  word-at : (z : List ℕ) (k : ℕ) → k < length ws → wordAt k (tableOf 0 ws ++ u) (flatten ws ++ z) ≡ getD ws k []
-  word-at z k h =
-      let p = pair-at k h in
-      let x : List ℕ = flatten (take k ws) in
-      let w : List ℕ = getD ws k [] in
-      let y : List ℕ = flatten (drop (suc k) ws) in
-      let e : flatten ws ++ z ≡ x ++ (w ++ (y ++ z)) = ap (λ (s : List ℕ). s ++ z) (flatten-at ws k h) ∙ append-assoc x (w ++ y) z ∙ ap (λ (s : List ℕ). x ++ s) (append-assoc w y z) in
-      rw (p .0, p .1) (ap (λ (s : List ℕ). take (length w) (drop (length x) s)) e ∙ ap (take (length w)) (drop-append-seam x _) ∙ take-append-seam w (y ++ z))
+  pair-at : (k : ℕ) → k < length ws → PairIs 0 ws (tableOf 0 ws ++ u) k
+  pair-at k h = pair-from 0 ws u k h (omega arith)
 
   -- those that the first n pairs name, joined
   words-joined : (z : List ℕ) (n : ℕ) → n ≤ length ws → pairsJoined n (tableOf 0 ws ++ u) (flatten ws ++ z) ≡ flatten (take n ws)
   unfolding flatten
   words-joined z zero h = refl
-  words-joined z (suc n) h = rw (words-joined z n (omega arith), word-at z n (omega arith)) (sym (flatten-suc ws n (omega arith)))
+  words-joined z (suc n) h = rw (words-joined z n (omega arith), word-from ws u z n (omega arith) below) (sym (flatten-suc ws n (omega arith)))
 
 -- ---- the tokens
 
@@ -203,7 +147,7 @@ module _ (s old : List ℕ) (accepted : tableCall s old .refusal ≡ 0) where
   -- part j of token i is in the text where its pair says
   pub part-read : (none : Token) (i j : ℕ) → i < count → j < 4 → wordAt (4 * i + j) table s ≡ getD (parts (getD (tokens s) i none)) j []
   part-read none i j h k =
-      ap₂ (λ (t r : List ℕ). wordAt (4 * i + j) t r) table-is (sym whole) ∙ word-at ws past short rest (4 * i + j) (omega (arith, count-is))
+      ap₂ (λ (t r : List ℕ). wordAt (4 * i + j) t r) table-is (sym whole) ∙ word-from ws past rest (4 * i + j) (omega (arith, count-is)) short
       ∙ parts-at (tokens s) none i j (omega (arith, count-is, parts-length (tokens s))) k
 
   -- "Joined, the pairs give the text less its trailing whitespace."
@@ -215,13 +159,14 @@ module _ (s old : List ℕ) (accepted : tableCall s old .refusal ≡ 0) where
   -- "Each starts where the one before it ends, empty ones too", and the first at the start of the text
   pub first-pair : 0 < count → offsetAt 0 table ≡ 0
   unfolding flatten
-  first-pair h = rw table-is (pair-at ws past short 0 (omega (arith, count-is)) .0)
+  first-pair h = rw table-is (pair-at ws past short 0 (omega (arith, count-is)) .offset)
 
   pub next-pair : (k : ℕ) → suc k < 4 * count → offsetAt (suc k) table ≡ offsetAt k table + lengthAt k table
   next-pair k h =
       let p = pair-at ws past short k (omega (arith, count-is)) in
-      rw (table-is, p .0, p .1)
-      (pair-at ws past short (suc k) (omega (arith, count-is)) .0 ∙ ap length (flatten-suc ws k (omega (arith, count-is))) ∙ length-append (flatten (take k ws)) (getD ws k []))
+      let q = pair-at ws past short (suc k) (omega (arith, count-is)) in
+      let e = ap length (flatten-suc ws k (omega (arith, count-is))) ∙ length-append (flatten (take k ws)) (getD ws k []) in
+      rw (table-is, p .offset, p .size, q .offset) (omega arith)
 
   -- so they are "sorted by offset"
   pub pairs-sorted : (i j : ℕ) → i ≤ j → j < 4 * count → offsetAt i table ≤ offsetAt j table

@@ -3,14 +3,14 @@
 use mathlib.Core.Path.{_≡_}
 use mathlib.Core.Bool.{Bool}
 use mathlib.Core.List.{List, [], _∷_, _++_, flatten}
-use Prim.Native.Nat.{ℕ, _+_, _-_, _≤_}
+use Prim.Native.Nat.{ℕ, zero, suc, _+_, _-_, _≤_}
 use lib.Dec.{eqb, ltb}
 use lib.ListN.{length}
 use Rattle.lists.specs.Bytes.{over}
 use Rattle.admit.specs.Refusals.{Test, _when_, firstDue, textLimit, textTests, Call, call}
 use Rattle.admit.specs.declared.Refusal.the-variants.{BufferTooShort}
 use Rattle.sink.specs.Sink.{pairOf}
-use Rattle.sink.specs.Words.{tableOf}
+use Rattle.sink.specs.Words.{tableOf, wordAt}
 use Rattle.tokens.specs.Tokens.{Token, cut, tokens, parts}
 use Rattle.tokens.specs.declared.Tokens.{Tokens}
 use Rattle.tokens.specs.declared.Places.{Places}
@@ -49,6 +49,11 @@ filledCall s result old =
 -- an answer, with the buffer as the call leaves it
 abbrev pub asFilled : Tokens → List ℕ → Call Filled
 asFilled r buffer = record { refusal = r .refusal; value = record { tokens = r .tokens; buffer = buffer } }
+
+-- the parts of the text s that the first n pairs of a table name, joined
+abbrev pub pairsJoined : ℕ → List ℕ → List ℕ → List ℕ
+pairsJoined zero table s = []
+pairsJoined (suc n) table s = pairsJoined n table s ++ wordAt n table s
 
 -- ---- no public promise is made of these
 
