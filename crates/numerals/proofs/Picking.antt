@@ -1,5 +1,6 @@
 -- The digits of a text as far as they are few. Assumes nothing.
 use mathlib.Core.Path.{_≡_, refl, ap, _∙_}
+use mathlib.Core.Logic.{⊎-elim}
 use mathlib.Core.List.{List, [], _∷_, _++_, append-nil}
 use Prim.Native.Nat.{ℕ, zero, suc, _+_, _≤_, _<_}
 use native.Mathlib.Numerals.{add-one}
@@ -8,34 +9,26 @@ use lib.ListN.{length, take, drop, set, getD, length-append, take-append-drop}
 use lib.Seq.{take-suc, take-all}
 use borrow.Author.Tests.{le-leb, lt-leb}
 use Rattle.lists.proofs.Sets.{le-or-lt}
-use mathlib.Core.Logic.{⊎-elim}
 use Rattle.numerals.specs.Cardinal.{clean, digitValue}
 use Rattle.numerals.specs.Walk.{padded, fewOf}
 use Rattle.numerals.specs.declared.few.Few.{Few}
 use Rattle.numerals.proofs.Digits.{clean-append, clean-at, clean-digit}
 
--- as many values as asked for
-padded-length : (k : ℕ) (ds : List ℕ) → length (padded k ds) ≡ k
-unfolding padded
-padded-length zero ds = refl
-padded-length (suc k) [] = ap suc (padded-length k [])
-padded-length (suc k) (d ∷ ds) = ap suc (padded-length k ds)
-
--- the values stand in front
+-- up to k values stand in front
 padded-front : (k : ℕ) (ds : List ℕ) → length ds ≤ k → take (length ds) (padded k ds) ≡ ds
 unfolding padded
 padded-front k [] h = refl
 padded-front zero (d ∷ ds) h = absurd (omega arith)
 padded-front (suc k) (d ∷ ds) h = ap (λ (r : List ℕ). d ∷ r) (padded-front k ds (omega arith))
 
--- one more value takes the place of the first 0 after them
+-- one more value takes the place of the 0 that follows them
 padded-snoc : (k : ℕ) (ds : List ℕ) (v : ℕ) → set (padded k ds) (length ds) v ≡ padded k (ds ++ v ∷ [])
 unfolding padded
 padded-snoc zero ds v = refl
 padded-snoc (suc k) [] v = refl
 padded-snoc (suc k) (d ∷ ds) v = ap (λ (r : List ℕ). d ∷ r) (padded-snoc k ds v)
 
--- what follows enough values is not asked for
+-- what follows k values is left out
 padded-full : (k : ℕ) (ds r : List ℕ) → k ≤ length ds → padded k (ds ++ r) ≡ padded k ds
 unfolding padded
 padded-full zero ds r h = refl

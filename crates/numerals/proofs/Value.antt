@@ -17,7 +17,8 @@ use Rattle.lexicon.proofs.Laws.{lexicon}
 use Rattle.numerals.specs.Words.{Word, one, hundred, scale, spell, spelled, counted, vocabulary}
 use Rattle.numerals.specs.Cardinal.{clean, pair, scaleFor, join, splitAt, byScale, cardinalStep, cardinalFew, cardinalOf, cardinal, digits}
 use Rattle.numerals.specs.Ordinal.{formIn, ordinalForm, orZero, onLast, ordinal}
-use Rattle.numerals.specs.Value.{Meaning, adds, cardinalMeanings, ordinalMeanings, meaningIn, prepend, meaningsOf, ordinalMeaningsOf, valueFrom, valueOf, ordinalValueOf, decimalFrom, decimal, meant, value}
+use Rattle.numerals.specs.Value.{Meaning, adds, cardinalMeanings, ordinalMeanings, meaningIn, prepend, meaningsOf, ordinalMeaningsOf}
+use Rattle.numerals.specs.Value.{valueFrom, valueOf, ordinalValueOf, decimalFrom, decimal, meant, value}
 use Rattle.numerals.proofs.Digits.{clean-commas}
 use Rattle.numerals.proofs.Cardinal.{split-parts, cardinal-eq}
 use Rattle.numerals.proofs.Vocabulary.{Numeral, numeral-same, one-in, cardinal-numerals, digits-numerals}

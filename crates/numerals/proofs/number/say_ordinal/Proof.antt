@@ -42,5 +42,7 @@ say-ordinal-spec =
     let s = start .args .s .now in
     let f = at-find-few .find-few in
     let n = few-all s (f .result) (f .ensures) (at-if1 .if1 .left) in
-    ordinal-said s (take (f .result .n) (f .result .d)) (sink (start .args .store .now) (start .args .table .now) (start .args .pen)) (few-digits s (f .result) (f .ensures) n) n (rw (at-front .front .ensures) at (at-hold-cardinal .hold-cardinal .ensures)) _
-    (at-ordinal-number .ordinal-number .ensures) (at-say .say .ensures)))
+    let σ = sink (start .args .store .now) (start .args .table .now) (start .args .pen) in
+    ordinal-said s (take (f .result .n) (f .result .d)) σ (few-digits s (f .result) (f .ensures) n) n
+    (rw (at-front .front .ensures) at (at-hold-cardinal .hold-cardinal .ensures)) _ (at-ordinal-number .ordinal-number .ensures)
+    (at-say .say .ensures)))
