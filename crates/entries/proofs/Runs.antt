@@ -11,12 +11,11 @@ use borrow.Author.Tests.{le-ltb}
 use Rattle.lists.specs.Bytes.{any, span, afterLast}
 use Rattle.lists.specs.Classes.{whitespace, nonWhitespace}
 use Rattle.lists.proofs.Recursion.{cond-elim}
-use Rattle.lists.proofs.Scan.{span-le, last-le}
+use Rattle.lists.proofs.Scan.{span-le, last-le, last-passes}
 use Rattle.lists.proofs.Sets.{le-or-lt}
 use Rattle.tokens.specs.Tokens.{firstToken, tokens}
 use Rattle.tokens.proofs.Forward.{firstSize, tokens-none, tokens-more, tokens-induct, first-size, size-parts, afterRun-drop}
 use Rattle.tokens.proofs.Walks.{first-white}
-use Rattle.tokens.proofs.Peeled.{last-passes}
 use Rattle.sheets.specs.Sheet.{entries}
 use Rattle.sheets.specs.Calls.{nameLimit, anyLong}
 use Rattle.entries.proofs.Names.{longNames, long-names}

@@ -352,6 +352,20 @@ module _ (p q : ℕ → Bool) (f : (b : ℕ) → p b ≡ true → q b ≡ true) 
       go false true e g i = absurd (true≢false (sym (g refl)))
       go false false e g i = refl
 
+-- the last byte that passes
+pub last-passes : (p : ℕ → Bool) (s : List ℕ) (k : ℕ) → afterLast p s ≡ suc k → p (getD s k 0) ≡ true
+unfolding afterLast
+last-passes p [] k h = absurd (omega arith)
+last-passes p (b ∷ s) k h = go (afterLast p s) (p b) refl (last-passes p s) k h
+  where
+    go : (n : ℕ) (t : Bool) → p b ≡ t → ((j : ℕ) → n ≡ suc j → p (getD s j 0) ≡ true) → (k : ℕ)
+        → cond (eqb n 0) (cond t 1 0) (suc n) ≡ suc k → p (getD (b ∷ s) k 0) ≡ true
+    go zero true e i zero h = e
+    go zero true e i (suc k) h = absurd (omega arith)
+    go zero false e i k h = absurd (omega arith)
+    go (suc n) t e i zero h = absurd (omega (arith, rw (ne-eqb (suc n) 0 (omega arith)) at h))
+    go (suc n) t e i (suc k) h = i k (omega (arith, rw (ne-eqb (suc n) 0 (omega arith)) at h))
+
 -- what holds of all bytes listed holds of one that is found among them
 pub one-in : (q : ℕ → Bool) (cs : List ℕ) → all q cs ≡ true → (b : ℕ) → oneOf cs b ≡ true → q b ≡ true
 unfolding all any

@@ -2,26 +2,27 @@
 use mathlib.Core.Path.{_≡_, refl, sym, ap, subst, _∙_}
 use mathlib.Core.Bool.{Bool, true, false, cond, not, _&&_, _||_, and-eq-true-iff, false≢true}
 use mathlib.Core.Logic.{_↔_}
-use mathlib.Core.List.{List, [], _∷_, _++_, append-nil, flatten}
+use mathlib.Core.List.{List, [], _∷_, _++_, append-nil, flatten, append-assoc}
 use Prim.Native.Nat.{ℕ, suc, _+_, _-_, _≤_, _<_}
 use Prim.Native.Char.{code}
 use native.Mathlib.Numerals.{add-one}
 use native.Mathlib.Omega.{arith}
 use lib.Dec.{eqb, leb, ltb}
 use lib.ListN.{length, take, drop, getD, length-append, length-take, take-append-drop, drop-of-length-le}
-use lib.Seq.{take-at, drop-at, getD-at, split-at, drop-drop, drop-length}
+use lib.Seq.{take-at, drop-at, getD-at, split-at, take-suc, drop-drop, drop-length}
 use borrow.Author.Tests.{eqb-true, eqb-false, eq-eqb, ne-eqb, ltb-true, lt-ltb, leb-true, le-leb, not-true, not-false}
-use Rattle.lists.specs.Bytes.{bytes, all, span, split, onto, same, sameBy, capital, lower, starts, ends}
+use Rattle.lists.specs.Bytes.{bytes, all, any, span, afterLast, listed, split, onto, same, sameBy, capital, lower, starts, ends}
 use Rattle.lists.specs.Classes.{digit, digitOrComma, colonNorPoint, except}
 use Rattle.lists.proofs.Bools.{or-true-elim}
 use Rattle.lists.proofs.Parts.{split-some}
-use Rattle.lists.proofs.Scan.{span-le, span-all, span-fails, span-before, all-span, all-within, apart, starts-first}
+use Rattle.lists.proofs.Scan.{all-append, last-le, last-passes, last-drop, span-le, span-all, span-fails, span-before, all-span, all-within, apart, starts-first}
 use Rattle.lists.proofs.Table.{same-true}
 use Rattle.shapes.specs.Shapes.{isDigits, isNDigits, isCommaGroups, isCommaInt, startsChar, isOrdinalSuffix, isOrdinal, isAmount, isUsMoney, isIllion}
-use Rattle.shapes.specs.Shapes.{isNumberS, isLeadingZeroDigits, splitOnce, isPhoneParts, isSevenDigitPhone, isHourMinute, isTime, areDigits, isDigitsSlashDigits}
+use Rattle.units.specs.Units.{unitAbbreviations, abbreviations, isUnit}
+use Rattle.shapes.specs.Shapes.{unitAt, hasUnit, isNumberS, isLeadingZeroDigits, splitOnce, isPhoneParts, isSevenDigitPhone, isHourMinute, isTime, areDigits, isDigitsSlashDigits}
 use Rattle.shapes.specs.Times.{endsInMeridiem, separatorAt, timeOf, isMeridiemTime}
-use Rattle.shapes.specs.Grammar.{join, TimeForm, PhoneForm, SlashedForm, CommaIntForm, LeadingZeroForm, IllionForm, NumberSForm, MeridiemForm, OrdinalForm, MoneyForm}
-use Rattle.shapes.specs.Grammar.{time, phone, slashed, comma-int, leading-zero, illion, number-s, meridiem-time, ordinal, dollars, cents}
+use Rattle.shapes.specs.Grammar.{join, TimeForm, PhoneForm, SlashedForm, CommaIntForm, LeadingZeroForm, IllionForm, NumberSForm, MeridiemForm, OrdinalForm, MoneyForm, UnitForm}
+use Rattle.shapes.specs.Grammar.{time, phone, slashed, comma-int, leading-zero, illion, number-s, meridiem-time, ordinal, dollars, cents, measure}
 use Rattle.shapes.proofs.Laws.{digits-all, digits-some}
 
 -- ---- a text at its first separator
@@ -386,4 +387,57 @@ money-form (b ∷ s) = (
       let z : b ≡ code "$" = eqb-true b (code "$") (sym (starts-first (code "$") b s) ∙ p .0) in
       subst (λ c. MoneyForm (c ∷ s)) (sym z) (amount-form s (p .1)),
   money-taken (b ∷ s),
+)
+
+-- what every listed text passes, a text that is one of them passes
+listed-passes : (p : List ℕ → Bool) (u : List ℕ) (ss : List (List ℕ)) → all p ss ≡ true → listed u ss ≡ true → p u ≡ true
+unfolding all any
+listed-passes p u [] a h = absurd (false≢true h)
+listed-passes p u (s ∷ ss) a h =
+    let b = and-eq-true-iff (p s) (all p ss) .0 a in
+    or-true-elim (same s u) (listed u ss) (λ e. rw (same-true s u e) at (b .0)) (λ e. listed-passes p u ss (b .1) e) h
+
+-- no unit has a digit
+unit-digitless : (u : List ℕ) → isUnit u ≡ true → afterLast digit u ≡ 0
+unfolding abbreviations unitAbbreviations all afterLast
+unit-digitless u h = eqb-true _ 0 (listed-passes (λ t. eqb (afterLast digit t) 0) u abbreviations refl h)
+
+-- a name of this form has a unit
+unit-taken : (s : List ℕ) → UnitForm s → hasUnit s ≡ true
+unfolding hasUnit afterLast all
+unit-taken _ (measure n u d h k x) =
+    let t = n ++ (d ∷ []) in
+    let l = length-append n (d ∷ []) in
+    let e : drop (length n) (t ++ u) ≡ d ∷ u = ap (drop (length n)) (append-assoc n (d ∷ []) u) ∙ drop-at n (d ∷ u) (length n) refl in
+    let one : afterLast digit (d ∷ u) ≡ 1 = rw (unit-digitless u x, k) in
+    let at : afterLast digit (t ++ u) ≡ length t =
+    last-drop digit (t ++ u) (length n) (rw (e, one) (omega arith)) ∙ rw (e, one) (sym l) in
+    rw (
+      at,
+      ne-eqb (length t) 0 (omega arith),
+      take-at t u (length t) refl,
+      drop-at t u (length t) refl,
+      all-append digitOrComma n (d ∷ []),
+      h,
+      k,
+    )
+    x
+
+-- and only such a name has one
+pub unit-form : (s : List ℕ) → (hasUnit s ≡ true) ↔ UnitForm s
+unfolding hasUnit
+unit-form s = (
+  λ e.
+      let n = unitAt s in
+      let a = and-eq-true-iff (not (eqb n 0) && all digitOrComma (take n s)) (isUnit (drop n s)) .0 e in
+      let b = and-eq-true-iff (not (eqb n 0)) (all digitOrComma (take n s)) .0 (a .0) in
+      let z = eqb-false n 0 (not-true (eqb n 0) (b .0)) in
+      let k = n - 1 in
+      let m : suc k ≡ n = omega arith in
+      let w : take n s ≡ take k s ++ (getD s k 0 ∷ []) = rw m at (take-suc s k 0 (omega (arith, last-le digit s))) in
+      let c = and-eq-true-iff (all digitOrComma (take k s)) (all digitOrComma (getD s k 0 ∷ [])) .0
+      (sym (all-append digitOrComma (take k s) (getD s k 0 ∷ [])) ∙ rw w at (b .1)) in
+      subst UnitForm (ap (λ (r : List ℕ). r ++ drop n s) (sym w) ∙ take-append-drop n s)
+      (measure (take k s) (drop n s) (getD s k 0) (c .0) (last-passes digit s k (sym m)) (a .1)),
+  unit-taken s,
 )

@@ -8,6 +8,7 @@ use Prim.Native.Char.{code}
 use lib.ListN.{length, getD}
 use Rattle.lists.specs.Bytes.{bytes, all, sameBy, lower}
 use Rattle.lists.specs.Classes.{digit, digitOrComma, colonNorPoint}
+use Rattle.units.specs.Units.{isUnit}
 use Rattle.shapes.specs.Shapes.{isDigits, isNDigits, isOrdinalSuffix, isHourMinute}
 
 -- parts with the byte c between them
@@ -60,3 +61,7 @@ pub data OrdinalForm : List ℕ → Type 0 where
 pub data MoneyForm : List ℕ → Type 0 where
   dollars : (w : List ℕ) → 0 < length w → all digitOrComma w ≡ true → MoneyForm (bytes "$" ++ w)
   cents : (w d : List ℕ) → 0 < length w → all digitOrComma w ≡ true → isDigits d ≡ true → MoneyForm (bytes "$" ++ (w ++ (bytes "." ++ d)))
+
+-- digits and commas, a digit, and a unit of the table
+pub data UnitForm : List ℕ → Type 0 where
+  measure : (n u : List ℕ) (d : ℕ) → all digitOrComma n ≡ true → digit d ≡ true → isUnit u ≡ true → UnitForm ((n ++ (d ∷ [])) ++ u)

@@ -10,7 +10,7 @@ use lib.Seq.{drop-cons, getD-take, length-take-le, take-length, drop-length}
 use borrow.Author.Tests.{eqb-true, eqb-false, eq-eqb, ne-eqb, not-true, not-false}
 use Rattle.lists.specs.Bytes.{all, span, lead, afterLast}
 use Rattle.lists.specs.Classes.{whitespace, nonWhitespace, leadingMark, trailingMark, unmarked}
-use Rattle.lists.proofs.Scan.{all-append, span-le, span-all, span-short, span-fails, all-span, last-le, last-rest}
+use Rattle.lists.proofs.Scan.{all-append, span-le, span-all, span-short, span-fails, all-span, last-le, last-rest, last-passes}
 use Rattle.tokens.specs.Tokens.{Token, nameSize, marked, cut, afterWhite, afterRun, firstToken, tokens, parts}
 use Rattle.tokens.proofs.Forward.{run-some, run-stops, tokens-none, tokens-more, tokens-induct, firstSize, first-size, first-joined}
 use Rattle.tokens.proofs.Walks.{first-white}
@@ -44,20 +44,6 @@ AllPeeled ends (t ∷ u ∷ ts) = Peeled false t × (0 < length (u .whitespace))
 -- the text has no trailing whitespace
 abbrev pub endsInRun : List ℕ → Bool
 endsInRun s = eqb (length s) (afterLast nonWhitespace s)
-
--- the last byte that passes
-pub last-passes : (p : ℕ → Bool) (s : List ℕ) (k : ℕ) → afterLast p s ≡ suc k → p (getD s k 0) ≡ true
-unfolding afterLast
-last-passes p [] k h = absurd (omega arith)
-last-passes p (b ∷ s) k h = go (afterLast p s) (p b) refl (last-passes p s) k h
-  where
-    go : (n : ℕ) (t : Bool) → p b ≡ t → ((j : ℕ) → n ≡ suc j → p (getD s j 0) ≡ true) → (k : ℕ)
-        → cond (eqb n 0) (cond t 1 0) (suc n) ≡ suc k → p (getD (b ∷ s) k 0) ≡ true
-    go zero true e i zero h = e
-    go zero true e i (suc k) h = absurd (omega arith)
-    go zero false e i k h = absurd (omega arith)
-    go (suc n) t e i zero h = absurd (omega (arith, rw (ne-eqb (suc n) 0 (omega arith)) at h))
-    go (suc n) t e i (suc k) h = i k (omega (arith, rw (ne-eqb (suc n) 0 (omega arith)) at h))
 
 module _ (white : List ℕ) (w : all whitespace white ≡ true) where
   -- a run that is not wholly leading marks: the marks before its first other byte b, and what follows that
