@@ -23,6 +23,11 @@ call-refused nothing given m n h e = rw (← e) (refused nothing given m h)
 pub call-accepted : {A : Type 0} (nothing given value : A) (n : ℕ) → 0 ≡ n → value ≡ given → record { refusal = 0; value = value } ≡ call nothing n given
 call-accepted nothing given value n e v = rw (← e, v)
 
+-- the number of a call
+pub call-number : {A : Type 0} (nothing given : A) (n : ℕ) → call nothing n given .refusal ≡ n
+call-number nothing given zero = refl
+call-number nothing given (suc n) = refl
+
 -- ---- some tests after others
 
 -- of two numbers the first, or the second where that is 0

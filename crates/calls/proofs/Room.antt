@@ -19,6 +19,7 @@ use Rattle.lists.proofs.Sets.{le-or-lt}
 use Rattle.admit.specs.Utf8.{utf8}
 use Rattle.admit.specs.Refusals.{number, firstDue, textLimit, textTests, Call, call}
 use Rattle.admit.specs.declared.Refusal.the-variants.{NotUtf8}
+use Rattle.admit.proofs.Calls.{call-number}
 use Rattle.lexicon.proofs.Laws.{word-short}
 use Rattle.units.specs.Units.{unitAbbreviations, abbreviations, unitWords, before, unitIndex, unitWord, wordNumbers}
 use Rattle.units.proofs.Laws.{word-row, miss-word}
@@ -174,11 +175,6 @@ unfolding any entriesOf nameRoom
 no-long [] ts h = refl
 no-long (b ∷ bs) [] h = refl
 no-long (b ∷ bs) (t ∷ ts) h = rw (le-ltb nameLimit (length (t .name)) (omega arith), no-long bs ts (omega arith))
-
--- the number of a call
-call-number : {A : Type 0} (nothing given : A) (n : ℕ) → call nothing n given .refusal ≡ n
-call-number nothing given zero = refl
-call-number nothing given (suc n) = refl
 
 -- so a sheet that is no longer than a name may be, in a buffer of 11 bytes for each of its bytes and one more, is refused only where
 -- it isn't UTF-8

@@ -11,8 +11,12 @@ use Rattle.years.specs.Year.{yearStep, yearOf, year}
 use Rattle.reals.specs.Real.{pointed, realStep, real}
 use Rattle.readings.specs.Roman.{numeral, added, taken, romanValue}
 use Rattle.tokens.specs.Tokens.{cut, tokensStep, tokens}
-use Rattle.pieces.specs.Pieces.{pieces, sameTexts, holds}
+use Rattle.pieces.specs.Pieces.{pieces, corners, sameTexts, holds}
 
 pub set-pieces : T (all holds pieces)
 unfolding sameBy split onto filled span keep any recur recurAt lexicon spell spelled clean pair join byScale cardinalStep cardinalFew cardinalOf cardinal digits formIn ordinalForm orZero onLast ordinal yearStep yearOf year pointed realStep real numeral added taken romanValue flatMap all afterLast cut tokensStep tokens pieces sameTexts holds
 set-pieces = tt
+
+pub corners-hold : T (all holds corners)
+unfolding sameBy split onto filled span keep any recur recurAt lexicon spell spelled clean pair join byScale cardinalStep cardinalFew cardinalOf cardinal digits formIn ordinalForm orZero onLast ordinal yearStep yearOf year pointed realStep real numeral added taken romanValue flatMap all afterLast cut tokensStep tokens corners sameTexts holds
+corners-hold = tt

@@ -38,6 +38,19 @@ pieces =
     ∷ parted "?!" "" "" "?" "!"
     ∷ []
 
+-- and corners of the Rust that none of them shows
+unfoldable pub corners : List Piece
+corners =
+    reads year "00" "zero zero"
+    ∷ reads year "000" "zero zero zero"
+    ∷ reads year "500" "five hundred"
+    ∷ reads year "2000" "two thousand"
+    ∷ reads year "123" "one twenty three"
+    ∷ reads real "+5" "plus five"
+    ∷ reads real "1E5e2" "one e five e two"
+    ∷ reads real "1.2.3" "one point two three"
+    ∷ []
+
 -- the same texts in the same order
 unfoldable pub sameTexts : List (List ℕ) → List (List ℕ) → Bool
 sameTexts [] [] = true

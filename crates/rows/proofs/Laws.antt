@@ -9,7 +9,7 @@ use lib.ListN.{length, take}
 use lib.Seq.{length-take-le}
 use Rattle.lists.specs.Bytes.{ends, lower}
 use Rattle.lists.proofs.Recursion.{Local, recur-eq}
-use Rattle.rows.specs.Rows.{by, readStep, readWith, read}
+use Rattle.rows.specs.Rows.{Rule, _reads_, Reading, by, rowNumber, rows, readStep, readWith, read}
 use Rattle.rows.specs.declared.Row.the-variants.{NoRow}
 
 -- a text that ends in a byte has one
@@ -37,3 +37,12 @@ step-eq word s = recur-eq (by NoRow []) (readStep word) (read-local word) s
 -- also with row 12 as it is
 pub read-eq : (s : List ℕ) → read s ≡ readStep (map lower) read s
 read-eq s = step-eq (map lower) s
+
+-- the number of a rule's row
+abbrev pub numberIn : Rule → ℕ
+numberIn (takes reads g) = rowNumber (g .row)
+
+-- the rows stand in the order of their numbers
+pub rows-numbered : (word : List ℕ → List ℕ) (again : List ℕ → Reading) (s : List ℕ)
+    → map numberIn (rows word again s) ≡ 1 ∷ 2 ∷ 3 ∷ 4 ∷ 5 ∷ 6 ∷ 7 ∷ 8 ∷ 9 ∷ 10 ∷ 11 ∷ 12 ∷ []
+rows-numbered word again s = refl

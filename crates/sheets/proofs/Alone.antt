@@ -4,15 +4,15 @@ use mathlib.Core.Bool.{Bool, false, true}
 use mathlib.Core.List.{List, [], _∷_, _++_, flatten}
 use Prim.Native.Nat.{ℕ, zero, suc, _+_, _≤_, _<_}
 use native.Mathlib.Omega.{arith}
-use lib.Dec.{ltb}
+use lib.Dec.{ltb, leb}
 use lib.ListN.{length, take, drop, getD}
 use lib.Seq.{take-append-seam}
-use borrow.Author.Tests.{le-ltb, lt-leb}
+use borrow.Author.Tests.{le-ltb, lt-leb, le-leb}
 use Rattle.lists.proofs.Bools.{or-false-both}
 use Rattle.lists.specs.Bytes.{any}
-use Rattle.admit.specs.Refusals.{_when_, firstDue, textLimit, textTests, textRefusal, Call, inOrder}
-use Rattle.admit.specs.declared.Refusal.the-variants.{NameTooLong, BufferTooShort}
-use Rattle.admit.proofs.Calls.{call-accepted, passed, both-passed, none-due}
+use Rattle.admit.specs.Refusals.{_when_, firstDue, textLimit, textTests, textRefusal, Call, inOrder, Test}
+use Rattle.admit.specs.declared.Refusal.the-variants.{NameTooLong, BufferTooShort, NoSuchEntry}
+use Rattle.admit.proofs.Calls.{call-accepted, passed, both-passed, none-due, call-number}
 use Rattle.tokens.specs.Tokens.{tokens}
 use Rattle.sheets.specs.Sheet.{SheetEntry, entries, wordsOf, lines, callSheet, countWords, noEntry}
 use Rattle.sheets.specs.Calls.{isLong, anyLong, Accepted, entryAt, lineAt, entryTests, EntryGiven, entryCall, sheetTests}
@@ -71,3 +71,29 @@ entry-line s old k a h r =
     let t = accepted-tests s a in
     let c = entry-alone s old k (t .0) h (short-at (entries s) k (omega (arith, entries-length s)) (t .1)) r in
     rw (c .1, c .2) (c .0, sheet-at s k h .0, sheet-at s k h .1)
+
+-- "its number, from 0, is not below the token count": such a call is refused with 3
+pub no-such-entry : (s old : List ℕ) (k : ℕ) → textRefusal textLimit s ≡ 0 → length (tokens s) ≤ k → entryCall s k old .refusal ≡ 3
+unfolding entryCall
+no-such-entry s old k t h =
+    call-number _ _ (firstDue (entryTests s k (ltb (length old) (length (lineAt s k)))))
+    ∙ passed (textTests textLimit (s ∷ [])) _ (sym t) refl ∙ rw (le-leb (length (tokens s)) k h)
+
+-- what holds of each entry holds of all
+none-long : (es : List SheetEntry) → ((k : ℕ) → k < length es → isLong (getD es k noEntry) ≡ false) → anyLong es ≡ false
+unfolding any
+none-long [] h = refl
+none-long (e ∷ es) h = rw (h 0 (omega arith)) (none-long es (λ k l. h (suc k) (omega arith)))
+
+-- a sheet whose entries can all be called, each by itself, is accepted
+pub each-accepted : (s : List ℕ) → textRefusal textLimit s ≡ 0 → ((k : ℕ) → k < length (tokens s) → entryCall s k (lineAt s k) .refusal ≡ 0) → Accepted s
+unfolding entryCall
+each-accepted s t h =
+    let text = textTests textLimit (s ∷ []) in
+    let later : ℕ → List Test = λ k.
+    NoSuchEntry when leb (length (tokens s)) k ∷ NameTooLong when isLong (entryAt s k) ∷ BufferTooShort when ltb (length (lineAt s k)) (length (lineAt s k)) ∷ [] in
+    let long : anyLong (entries s) ≡ false =
+    none-long (entries s) (λ k l.
+    let e = sym (call-number _ _ (firstDue (text ++ later k))) ∙ h k (omega (arith, entries-length s)) in
+    none-due (later k) (both-passed text (later k) e .1) .1 .0) in
+    passed text (NameTooLong when anyLong (entries s) ∷ BufferTooShort when false ∷ []) (sym t) refl ∙ rw long
