@@ -49,7 +49,7 @@ utf8Step rest s = cond (eqb (length s) 0) true (cond (eqb (charLen s) 0) false (
 unfoldable pub utf8 : List ℕ → Bool
 utf8 = recur false utf8Step
 
--- the UTF8-char of a text in their order, each a list of its bytes; they end where none stands
+-- the UTF8-chars of a text, in order, each a list of its bytes; they end where none stands
 unfoldable pub utf8CharsStep : (List ℕ → List (List ℕ)) → List ℕ → List (List ℕ)
 utf8CharsStep rest s = cond (eqb (length s) 0) [] (cond (eqb (charLen s) 0) [] (take (charLen s) s ∷ rest (drop (charLen s) s)))
 

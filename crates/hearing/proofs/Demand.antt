@@ -14,12 +14,12 @@ use Rattle.sentences.specs.Sentences.{starts}
 use Rattle.sentences.specs.Calls.{flags}
 use Rattle.sentences.proofs.Marking.{starts-length}
 use Rattle.sheets.specs.Sheet.{SheetEntry, entriesOf, entries, lineOf, callSheet, countWords}
-use Rattle.admit.specs.Refusals.{firstDue, call}
+use Rattle.admit.specs.Refusals.{firstDue, Call, call}
 use Rattle.sheets.specs.Calls.{sheetTests, SheetGiven, sheetCall, Accepted}
-use Rattle.hearing.specs.Sheets.{names, AllClear, SameEntries, written, hearSheet}
+use Rattle.hearing.specs.Sheets.{names, AllClear, SameEntries, written, linesIn, wordsIn, hearSheet}
 use Rattle.hearing.proofs.Told.{Heeded}
 use Rattle.hearing.proofs.Lines.{sheet-heard}
-use Rattle.hearing.proofs.Parted.{entries-solid}
+use Rattle.hearing.proofs.Parted.{entries-solid, sheet-counted}
 use Rattle.hearing.proofs.Clears.{clear-heeded}
 
 abbrev nameOf : Token → List ℕ
@@ -117,6 +117,17 @@ call-written s old a h = rw (le-ltb (length old) (length (callSheet s)) h, a)
 -- the lines that it writes are the call sheet
 written-sheet : (s old : List ℕ) → Accepted s → length (callSheet s) ≤ length old → written (sheetCall s old) ≡ callSheet s
 written-sheet s old a h = rw (call-written s old a h) (take-at (callSheet s) (drop (length (callSheet s)) old) (length (callSheet s)) refl)
+
+-- the counts that the call answers are those of the lines that it writes, and of their words
+pub call-counted : (s old : List ℕ) → Accepted s → length (callSheet s) ≤ length old
+    → (sheetCall s old .value .tokens ≡ length (linesIn (written (sheetCall s old))))
+    × (sheetCall s old .value .words ≡ length (flatten (map wordsIn (linesIn (written (sheetCall s old))))))
+call-counted s old a h =
+    let c = call-written s old a h in
+    let w = ap (λ (t : List ℕ). length (linesIn t)) (written-sheet s old a h) in
+    let v = ap (λ (t : List ℕ). length (flatten (map wordsIn (linesIn t)))) (written-sheet s old a h) in
+    let n = sheet-counted s in
+    (ap (λ (r : Call SheetGiven). r .value .tokens) c ∙ sym (w ∙ n .0), ap (λ (r : Call SheetGiven). r .value .words) c ∙ sym (v ∙ n .1))
 
 -- so it's the two calls that are told apart
 pub calls-told-apart : (s t old new : List ℕ) → Accepted s → Accepted t → length (callSheet s) ≤ length old → length (callSheet t) ≤ length new

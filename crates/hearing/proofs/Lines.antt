@@ -79,6 +79,15 @@ lines-parted (e ∷ es) h =
 lines-in : (es : List SheetEntry) → Every SolidEntry es → linesIn (flatten (map lineOf es)) ≡ map bare es
 lines-in es h = rw (lines-parted es h, take-at (map bare es) ([] ∷ []) (length (map bare es ++ [] ∷ []) - 1) (simp length-append (omega arith)))
 
+-- each with an LF after it, they are the call sheet
+pub lines-whole : (es : List SheetEntry) → Every SolidEntry es → flatten (map (λ l. l ++ bytes "\n") (linesIn (flatten (map lineOf es)))) ≡ flatten (map lineOf es)
+unfolding bare lineOf flatten
+lines-whole es h = ap (λ (ls : List (List ℕ)). flatten (map (λ l. l ++ bytes "\n") ls)) (lines-in es h) ∙ go es
+  where
+    go : (es : List SheetEntry) → flatten (map (λ l. l ++ bytes "\n") (map bare es)) ≡ flatten (map lineOf es)
+    go [] = refl
+    go (e ∷ es) = ap (λ (r : List ℕ). lineOf e ++ r) (go es)
+
 -- what a line tells, by its mark and its words, of each entry
 pub lines-told : {A : Type 0} (f : Bool → List (List ℕ) → A) (es : List SheetEntry) → Every SolidEntry es
     → map (λ l. f (startsIn l) (wordsIn l)) (linesIn (flatten (map lineOf es))) ≡ map (λ (e : SheetEntry). f (e .starts) (wordsOf e)) es

@@ -5,18 +5,19 @@ use mathlib.Core.List.{List, [], _∷_, _++_, map, flatten}
 use Prim.Native.Nat.{ℕ, _+_}
 use lib.Dec.{eqb}
 use lib.ListN.{length, length-append, length-map}
-use Rattle.lists.specs.Bytes.{all, any, lower, Every}
+use Rattle.lists.specs.Bytes.{bytes, all, any, lower, Every}
 use Rattle.lists.specs.Classes.{nonWhitespace}
 use Rattle.lists.proofs.Scan.{all-append, all-within}
 use Rattle.tokens.specs.Tokens.{Token, tokens}
-use Rattle.tokens.proofs.Peeled.{runOf, AllPeeled, endsInRun, tokens-peeled}
+use Rattle.tokens.specs.Peeled.{runOf, AllPeeled, endsInRun}
+use Rattle.tokens.proofs.Peeled.{tokens-peeled}
 use Rattle.sentences.specs.Sentences.{starts}
 use Rattle.sheets.specs.Sheet.{SheetEntry, entriesOf, entries, wordsOf, callSheet, countWords}
 use Rattle.sheets.proofs.Entries.{entries-length}
 use Rattle.hearing.specs.Sheets.{linesIn, wordsIn, lineIn, said}
 use Rattle.hearing.proofs.Told.{solid}
 use Rattle.hearing.proofs.Solid.{lower-solid, read-solid}
-use Rattle.hearing.proofs.Lines.{SolidEntry, lines-told}
+use Rattle.hearing.proofs.Lines.{SolidEntry, lines-told, lines-whole}
 
 abbrev Black : Token → Type 0
 Black t = all nonWhitespace (t .name) ≡ true
@@ -54,9 +55,13 @@ entries-solid s = go (starts (tokens s)) (tokens s) (names-black (endsInRun s) (
     go (b ∷ bs) (t ∷ ts) h = (read-solid (map lower) lower-solid (t .name) (name-solid (t .name) (h .0)), go bs ts (h .1))
 
 -- "A token makes one line: "+" if it starts a sentence, else "-"; then a space and the word for each word; then LF": the call
--- sheet's lines have the marks and the words of the entries, and no others
+-- sheet's lines have the marks and the words of the entries
 pub sheet-parted : (s : List ℕ) → map lineIn (linesIn (callSheet s)) ≡ map said (entries s)
 sheet-parted s = lines-told (λ b ws. record { starts = b; words = ws }) (entries s) (entries-solid s)
+
+-- and nothing stands between the lines or after the last
+pub sheet-whole : (s : List ℕ) → flatten (map (λ l. l ++ bytes "\n") (linesIn (callSheet s))) ≡ callSheet s
+sheet-whole s = lines-whole (entries s) (entries-solid s)
 
 words-counted : (es : List SheetEntry) → length (flatten (map wordsOf es)) ≡ countWords es
 unfolding flatten countWords

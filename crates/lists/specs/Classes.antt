@@ -22,9 +22,6 @@ letter b = capital b || small b
 abbrev pub digitOrComma : ℕ → Bool
 digitOrComma b = digit b || eqb b (code ",")
 
-abbrev pub digitOrDash : ℕ → Bool
-digitOrDash b = digit b || eqb b (code "-")
-
 -- V, I, X
 abbrev pub romanTail : ℕ → Bool
 romanTail b = eqb b (code "V") || eqb b (code "I") || eqb b (code "X")
@@ -35,9 +32,6 @@ colonNorPoint b = not (eqb b (code ":") || eqb b (code "."))
 
 abbrev pub except : ℕ → ℕ → Bool
 except c b = not (eqb b c)
-
-abbrev pub nonDigit : ℕ → Bool
-nonDigit b = not (digit b)
 
 -- neither e nor E
 abbrev pub notE : ℕ → Bool
@@ -80,6 +74,14 @@ unmarked b = not (trailingMark b)
 
 abbrev pub only : ℕ → ℕ → Bool
 only c b = eqb b c
+
+-- ---- no public promise is made of these
+
+abbrev pub digitOrDash : ℕ → Bool
+digitOrDash b = digit b || eqb b (code "-")
+
+abbrev pub nonDigit : ℕ → Bool
+nonDigit b = not (digit b)
 
 -- the classes by number; c is for `except` and `only` alone
 abbrev pub classes : ℕ → List (ℕ → Bool)

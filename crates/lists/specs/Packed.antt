@@ -1,4 +1,4 @@
--- A text of up to 15 bytes in a row of 16. Definitions only.
+-- A text of up to 15 bytes in a row of 16. Definitions only; no public promise is made of them.
 use mathlib.Core.List.{List, [], _∷_, _++_}
 use Prim.Native.Nat.{ℕ, _-_}
 use lib.ListN.{length, take, getD, replicate}

@@ -7,7 +7,7 @@ use native.Mathlib.Omega.{arith}
 use lib.Dec.{eqb}
 use lib.ListN.{length, getD, take, drop}
 use borrow.Author.Tests.{le-leb, lt-leb, eqb-true, eqb-false}
-use Rattle.lists.specs.Bytes.{keep, afterLast}
+use Rattle.lists.specs.Bytes.{bytes, keep, afterLast}
 use Rattle.lists.specs.Classes.{digit, except}
 use Rattle.lists.proofs.Scan.{keep-append, ByParts, next-byte}
 use Rattle.numerals.specs.Words.{Word, one, spell, spelled}
@@ -119,3 +119,8 @@ clean-last (b ∷ s) n = go (digit b) (eqb (afterLast digit s) 0) refl refl n (c
 -- a text with digits has a last one
 pub last-some : (s : List ℕ) → 0 < length (clean s) → afterLast digit s ≡ 0 → ⊥
 last-some s h e = let q = ap length (last-none s e) in omega arith
+
+-- the bytes 0 to 9 have these values
+pub digit-values : clean (bytes "0123456789") ≡ 0 ∷ 1 ∷ 2 ∷ 3 ∷ 4 ∷ 5 ∷ 6 ∷ 7 ∷ 8 ∷ 9 ∷ []
+unfolding clean keep
+digit-values = refl

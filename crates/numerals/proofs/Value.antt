@@ -8,7 +8,7 @@ use Prim.Native.Char.{code}
 use native.Mathlib.Nat.{pow-suc, zero-add}
 use native.Mathlib.Omega.{arith}
 use lib.Dec.{eqb}
-use lib.ListN.{length, take, drop, length-take, length-drop, take-append-drop}
+use lib.ListN.{length, take, drop, getD, length-take, length-drop, take-append-drop}
 use lib.Pow.{pow-add}
 use borrow.Author.Tests.{eqb-true, le-leb}
 use Rattle.lists.specs.Bytes.{keep, sameBy, Every}
@@ -20,7 +20,7 @@ use Rattle.numerals.specs.Ordinal.{formIn, ordinalForm, orZero, onLast, 
 use Rattle.numerals.specs.Value.{Meaning, adds, cardinalMeanings, ordinalMeanings, meaningIn, prepend, meaningsOf, ordinalMeaningsOf}
 use Rattle.numerals.specs.Value.{valueFrom, valueOf, ordinalValueOf, decimalFrom, decimal, meant, value}
 use Rattle.numerals.proofs.Digits.{clean-commas}
-use Rattle.numerals.proofs.Cardinal.{split-parts, cardinal-eq}
+use Rattle.numerals.proofs.Cardinal.{split-parts, cardinal-eq, cardinal-1}
 use Rattle.numerals.proofs.Vocabulary.{Numeral, numeral-same, one-in, cardinal-numerals, digits-numerals}
 
 -- the value of words that follow others, by what each stands for
@@ -144,10 +144,29 @@ last-means w (v ∷ []) h = rw (spell-means w (h .0), form-means v (h .1 .0))
 last-means w (v ∷ u ∷ ws) h = rw (spell-means w (h .0), last-means v (u ∷ ws) (h .1))
 
 -- "For 1 to 12 digits without a leading zero ("0" itself counts as such) the words are proved to name the decimal value": a
--- leading zero adds nothing, and no words name 0, so neither is left out here
+-- leading zero adds nothing, and an empty list of words names 0, so neither is left out here
 pub cardinal-names : (s : List ℕ) → length (clean s) ≤ 12 → valueOf (spelled (cardinal s)) ≡ some (decimal (clean s))
 unfolding valueOf value
 cardinal-names s h = rw (spelled-mean (cardinal s) (cardinal-numerals s), ← cardinal-value s h)
+
+decimal-least : (s : List ℕ) (n : ℕ) → n ≤ decimalFrom n s
+unfolding decimalFrom
+decimal-least [] n = omega arith
+decimal-least (d ∷ s) n = omega (arith, decimal-least s (n * 10 + d))
+
+-- and where there is no leading zero, there are words, for "0" too
+pub cardinal-some : (s : List ℕ) → 0 < length (clean s) → length (clean s) ≤ 12 → (getD (clean s) 0 0 ≡ 0 → length (clean s) ≡ 1) → 0 < length (cardinal s)
+unfolding cardinal cardinalOf valueFrom decimal decimalFrom
+cardinal-some s z h n = rw (le-leb (length (clean s)) 12 h) (go (clean s) z n (shorter-value (suc (length (clean s))) 0 (clean s) (omega arith) h))
+  where
+    first : (d : ℕ) (ds : List ℕ) (ws : List Word) → 0 < d → valueFrom 0 0 (map meant ws) ≡ 0 + decimal (d ∷ ds) → 0 < length ws
+    first d ds [] p e = absurd (omega (arith, e, decimal-least ds (0 * 10 + d)))
+    first d ds (w ∷ ws) p e = omega arith
+
+    go : (ds : List ℕ) → 0 < length ds → (getD ds 0 0 ≡ 0 → length ds ≡ 1) → valueFrom 0 0 (map meant (cardinalFew ds)) ≡ 0 + decimal ds → 0 < length (cardinalFew ds)
+    go [] z n e = absurd (omega arith)
+    go (zero ∷ ds) z n e = rw (cardinal-1 (zero ∷ ds) (n refl)) (omega arith)
+    go (suc d ∷ ds) z n e = first (suc d) ds (cardinalFew (suc d ∷ ds)) (omega arith) e
 
 -- so do those of an ordinal number
 pub ordinal-names : (s : List ℕ) → length (clean s) ≤ 12 → ordinalValueOf (spelled (ordinal s)) ≡ some (decimal (clean s))

@@ -17,6 +17,6 @@ pub set-pieces : T (all holds pieces)
 unfolding sameBy split onto filled span keep any recur recurAt lexicon spell spelled clean pair join byScale cardinalStep cardinalFew cardinalOf cardinal digits formIn ordinalForm orZero onLast ordinal yearStep yearOf year pointed realStep real numeral added taken romanValue flatMap all afterLast cut tokensStep tokens pieces sameTexts holds
 set-pieces = tt
 
-pub corners-hold : T (all holds corners)
+pub reading-corners : T (all holds corners)
 unfolding sameBy split onto filled span keep any recur recurAt lexicon spell spelled clean pair join byScale cardinalStep cardinalFew cardinalOf cardinal digits formIn ordinalForm orZero onLast ordinal yearStep yearOf year pointed realStep real numeral added taken romanValue flatMap all afterLast cut tokensStep tokens corners sameTexts holds
-corners-hold = tt
+reading-corners = tt

@@ -1,19 +1,19 @@
 -- The words of `letters` are those of the text's characters by RFC 3629. Assumes nothing.
 use mathlib.Core.Path.{_≡_, refl, sym, ap, ap₂, _∙_}
-use mathlib.Core.Bool.{true, false, cond, and-true, and-false, and-eq-true-iff}
+use mathlib.Core.Bool.{true, false, and-true, and-false, and-eq-true-iff}
 use mathlib.Core.List.{List, [], _∷_, _++_, map, flatten}
 use Prim.Native.Nat.{ℕ, _+_, _/_, _≤_, _<_}
 use Prim.Native.Char.{code}
 use native.Mathlib.Omega.{arith}
 use lib.ListN.{length, getD, length-map}
 use borrow.Author.Tests.{lt-leb}
-use Rattle.lists.specs.Bytes.{bytes, all, Every, lower, same, sameBy, onto}
+use Rattle.lists.specs.Bytes.{all, Every, lower, sameBy, onto}
 use Rattle.lists.specs.Classes.{continuation}
 use Rattle.admit.specs.Utf8.{utf8, utf8Chars}
 use Rattle.admit.specs.Scalars.{encode, textOf}
 use Rattle.admit.proofs.Scalars.{encode-elim, tail-true, text-chars, utf8-scalars}
 use Rattle.numerals.specs.Words.{other, spell, spelled}
-use Rattle.readings.specs.Letters.{chars, letterWord, letters}
+use Rattle.readings.specs.Letters.{chars, letterWord, letters, lettered}
 
 -- continuation bytes belong to the byte before them
 chars-run : (b : ℕ) (s r : List ℕ) → all continuation s ≡ true → continuation (getD r 0 0) ≡ false → chars (b ∷ s ++ r) ≡ (b ∷ s) ∷ chars r
@@ -51,10 +51,6 @@ pub chars-utf8 : (s : List ℕ) → utf8 s ≡ true → chars s ≡ utf8Chars s
 chars-utf8 s h = let t = utf8-scalars s .0 h in rw (t .2) (chars-text (t .0) .0 ∙ sym (text-chars (t .0) (t .1)))
 
 -- ---- the words
-
--- "_a" of the letter a in either case, else the character lowered
-abbrev pub lettered : List ℕ → List ℕ
-lettered c = cond (same (map lower c) (bytes "a")) (bytes "_a") (map lower c)
 
 -- no byte above ASCII is lowered
 high : (s : List ℕ) → Every (λ b. 0x80 ≤ b) s → map lower s ≡ s

@@ -1,14 +1,14 @@
 -- A standard roman numeral is read as its number; and what gives 0. Assumes nothing.
 use mathlib.Core.Path.{_≡_, refl, sym, ap, _∙_}
-use mathlib.Core.Bool.{Bool, true, false, _&&_, or-false, or-true, and-eq-true-iff}
+use mathlib.Core.Bool.{Bool, true, false, cond, _&&_, or-false, or-true, and-eq-true-iff}
 use mathlib.Core.List.{List, [], _∷_, _++_, map, map-append}
-use Prim.Native.Nat.{ℕ, _+_, _*_, _/_, _%_, _≤_, _<_}
+use Prim.Native.Nat.{ℕ, _+_, _-_, _*_, _/_, _%_, _≤_, _<_}
 use Prim.Native.String.{String}
 use native.Mathlib.Omega.{arith}
-use lib.Dec.{eqb, ltb}
+use lib.Dec.{eqb, leb, ltb}
 use lib.ListN.{take, drop, take-append-drop}
-use borrow.Author.Tests.{le-ltb, eqb-true, ne-eqb}
-use Rattle.lists.specs.Bytes.{bytes, all, any, has, Every}
+use borrow.Author.Tests.{le-ltb, leb-true, eqb-true, ne-eqb}
+use Rattle.lists.specs.Bytes.{bytes, all, any, has, lower, Every}
 use Rattle.lists.proofs.Bools.{or-false-both}
 use Rattle.lists.proofs.Every.{every-append, every-imply, every-tested}
 use Rattle.lists.proofs.Recursion.{cond-elim}
@@ -113,3 +113,28 @@ foreign-zero x b y h = rw (map-append, any-append, no-numeral b h, or-true)
 pub below-zero : (s : List ℕ) → added (map numeral s) ≤ taken (map numeral s) → romanValue s ≡ 0
 unfolding romanValue
 below-zero s h = cond-elim (λ n. n ≡ 0) (has 0 (map numeral s)) (λ e. refl) (λ e. omega arith)
+
+lowered : ℕ → Bool
+lowered k = eqb (numeral (lower (k + 65))) (numeral (k + 65))
+
+-- a letter has one value in both cases
+numeral-lower : (b : ℕ) → numeral (lower b) ≡ numeral b
+unfolding lowered numeral any
+numeral-lower b = go (leb 65 b) (leb b 90) refl refl
+  where
+    go : (t u : Bool) → leb 65 b ≡ t → leb b 90 ≡ u → numeral (cond (t && u) (b + 32) b) ≡ numeral b
+    go true true p q =
+        let e : b - 65 + 65 ≡ b = omega (arith, leb-true 65 b p) in
+        let k = eqb-true (numeral (lower (b - 65 + 65))) (numeral (b - 65 + 65)) (below lowered 26 refl (b - 65) (omega (arith, leb-true 65 b p, leb-true b 90 q))) in
+        rw (p, q) at (rw e at k)
+    go true false p q = refl
+    go false u p q = refl
+
+-- so small letters are read as capitals are
+pub lower-value : (s : List ℕ) → romanValue (map lower s) ≡ romanValue s
+unfolding romanValue
+lower-value s = rw (go s)
+  where
+    go : (s : List ℕ) → map numeral (map lower s) ≡ map numeral s
+    go [] = refl
+    go (b ∷ s) = rw (numeral-lower b, go s)

@@ -5,7 +5,7 @@ use Prim.Native.Nat.{ℕ}
 use Prim.Native.Char.{code}
 use lib.Dec.{eqb}
 use lib.ListN.{getD}
-use Rattle.lists.specs.Bytes.{bytes, lower, onto}
+use Rattle.lists.specs.Bytes.{bytes, same, lower, onto}
 use Rattle.lists.specs.Classes.{continuation}
 use Rattle.numerals.specs.Words.{Word, other}
 
@@ -23,3 +23,7 @@ letterWord (b ∷ c ∷ s) = b ∷ c ∷ s
 
 unfoldable pub letters : List ℕ → List Word
 letters s = map (λ c. other (letterWord c)) (chars s)
+
+-- "_a" of the letter a in either case, else the character lowered
+abbrev pub lettered : List ℕ → List ℕ
+lettered c = cond (same (map lower c) (bytes "a")) (bytes "_a") (map lower c)

@@ -2,7 +2,7 @@
 use mathlib.Core.Path.{_≡_, refl, sym, ap, subst, _∙_}
 use mathlib.Core.Bool.{Bool, true, false, cond, not, _&&_, _||_, and-eq-true-iff, false≢true}
 use mathlib.Core.Logic.{_↔_}
-use mathlib.Core.List.{List, [], _∷_, _++_, append-nil, flatten, append-assoc}
+use mathlib.Core.List.{List, [], _∷_, _++_, append-nil, flatten, append-assoc, map}
 use Prim.Native.Nat.{ℕ, suc, _+_, _-_, _≤_, _<_}
 use Prim.Native.Char.{code}
 use native.Mathlib.Numerals.{add-one}
@@ -21,7 +21,7 @@ use Rattle.shapes.specs.Shapes.{isDigits, isNDigits, isCommaGroups, isCo
 use Rattle.units.specs.Units.{unitAbbreviations, abbreviations, isUnit}
 use Rattle.shapes.specs.Shapes.{unitAt, hasUnit, isNumberS, isLeadingZeroDigits, splitOnce, isPhoneParts, isSevenDigitPhone, isHourMinute, isTime, areDigits, isDigitsSlashDigits}
 use Rattle.shapes.specs.Times.{endsInMeridiem, separatorAt, timeOf, isMeridiemTime}
-use Rattle.shapes.specs.Grammar.{join, TimeForm, PhoneForm, SlashedForm, CommaIntForm, LeadingZeroForm, IllionForm, NumberSForm, MeridiemForm, OrdinalForm, MoneyForm, UnitForm}
+use Rattle.shapes.specs.Grammar.{join, suffixes, TimeForm, PhoneForm, SlashedForm, CommaIntForm, LeadingZeroForm, IllionForm, NumberSForm, MeridiemForm, OrdinalForm, MoneyForm, UnitForm}
 use Rattle.shapes.specs.Grammar.{time, phone, slashed, comma-int, leading-zero, illion, number-s, meridiem-time, ordinal, dollars, cents, measure}
 use Rattle.shapes.proofs.Laws.{digits-all, digits-some}
 
@@ -88,7 +88,7 @@ time-form s = (
 phone-taken : (s : List ℕ) → PhoneForm s → isSevenDigitPhone s ≡ true
 phone-taken _ (phone a b p q) = once-taken (code "-") isPhoneParts a b (no-separator (code "-") refl a (n-digits 3 a p)) (rw (p, q))
 
--- likewise
+-- the shape takes a text exactly where a phone number is of its form
 pub phone-form : (s : List ℕ) → (isSevenDigitPhone s ≡ true) ↔ PhoneForm s
 phone-form s = (
   λ e.
@@ -101,7 +101,7 @@ phone-form s = (
 slashed-taken : (s : List ℕ) → SlashedForm s → isDigitsSlashDigits s ≡ true
 slashed-taken _ (slashed a b p q) = once-taken (code "/") areDigits a b (no-separator (code "/") refl a p) (rw (p, q))
 
--- likewise
+-- the shape takes a text exactly where digits with a slash are of their form
 pub slashed-form : (s : List ℕ) → (isDigitsSlashDigits s ≡ true) ↔ SlashedForm s
 slashed-form s = (
   λ e.
@@ -147,7 +147,7 @@ comma-taken _ (comma-int first g gs d l h) =
     let others = all-within (isNDigits 3) (all (except (code ","))) (λ p k. none p (n-digits 3 p k)) (g ∷ gs) h in
     rw (split-join (code ",") first (g ∷ gs) (rw (none first d) others), d, le-leb (length first) 3 l, ne-eqb (suc (length gs)) 0 (omega arith)) h
 
--- likewise
+-- the shape takes a text exactly where a number with commas is of its form
 pub comma-form : (s : List ℕ) → (isCommaInt s ≡ true) ↔ CommaIntForm s
 unfolding isCommaGroups
 comma-form s = (λ e. go (split (code ",") s) (join-split (code ",") s) e, comma-taken s)
@@ -172,7 +172,7 @@ unfolding isDigits all
 zero-taken _ (leading-zero d h) =
     rw (lt-ltb 1 (suc (length d)) (omega (arith, digits-some d h)), ne-eqb (suc (length d)) 0 (omega arith), digits-all d h)
 
--- likewise
+-- the shape takes a text exactly where digits with a leading zero are of their form
 pub zero-form : (s : List ℕ) → (isLeadingZeroDigits s ≡ true) ↔ LeadingZeroForm s
 unfolding isDigits all
 zero-form [] = (λ e. absurd (false≢true e), zero-taken [])
@@ -193,7 +193,7 @@ illion-taken _ (illion t) =
     let l = length-append t (bytes "illion") in
     rw (le-leb 6 (length (t ++ bytes "illion")) (omega arith), drop-at t (bytes "illion") (length (t ++ bytes "illion") - 6) (omega arith))
 
--- likewise
+-- the shape takes a text exactly where a text in "illion" is of its form
 pub illion-form : (s : List ℕ) → (isIllion s ≡ true) ↔ IllionForm s
 illion-form s = (
   λ e.
@@ -216,7 +216,7 @@ number-taken _ (number-s d h) =
       h,
     )
 
--- likewise
+-- the shape takes a text exactly where digits with an s are of their form
 pub number-form : (s : List ℕ) → (isNumberS s ≡ true) ↔ NumberSForm s
 number-form s = (
   λ e.
@@ -302,24 +302,54 @@ meridiem-form s = (
     last-two true u v h = h
     last-two false u v h = absurd (false≢true h)
 
+-- a comparison that lowers the first text is one with the lowered text
+same-lowered : (s t : List ℕ) → sameBy lower s t ≡ same t (map lower s)
+unfolding sameBy
+same-lowered [] [] = refl
+same-lowered [] (c ∷ t) = refl
+same-lowered (b ∷ s) [] = refl
+same-lowered (b ∷ s) (c ∷ t) = rw (same-lowered s t) (ap (λ (x : Bool). x && same t (map lower s)) (eqb-sym (lower b) c))
+  where
+    eqb-sym : (m n : ℕ) → eqb m n ≡ eqb n m
+    eqb-sym m n = go (eqb n m) refl
+      where
+        go : (x : Bool) → eqb n m ≡ x → eqb m n ≡ x
+        go true e = eq-eqb m n (sym (eqb-true n m e))
+        go false e = ne-eqb m n (λ z. eqb-false n m e (sym z))
+
+-- the suffixes, one by one
+suffix-listed : (s : List ℕ) → isOrdinalSuffix s ≡ listed (map lower s) suffixes
+unfolding any
+suffix-listed s =
+    rw (same-lowered s (bytes "th"), same-lowered s (bytes "st"), same-lowered s (bytes "nd"), same-lowered s (bytes "rd"))
+    (go (same (bytes "th") (map lower s)) (same (bytes "st") (map lower s)) (same (bytes "nd") (map lower s)) (same (bytes "rd") (map lower s)))
+  where
+    go : (a b c d : Bool) → (a || b || c || d) ≡ (a || (b || (c || (d || false))))
+    go true b c d = refl
+    go false true c d = refl
+    go false false true d = refl
+    go false false false true = refl
+    go false false false false = refl
+
 ordinal-taken : (s : List ℕ) → OrdinalForm s → isOrdinal s ≡ true
 unfolding isOrdinal
 ordinal-taken _ (ordinal [] suf f h x) = absurd (false≢true f)
 ordinal-taken _ (ordinal (b ∷ num) suf f h x) =
     let s = b ∷ num ++ suf in
-    let two = suffix-bytes suf x in
+    let suffix = suffix-listed suf ∙ x in
+    let two = suffix-bytes suf suffix in
     let l = length-append num suf in
     rw (
       le-leb 3 (length s) (omega (arith, two .0)),
       drop-at (b ∷ num) suf (length s - 2) (omega (arith, two .0)),
       take-at (b ∷ num) suf (length s - 2) (omega (arith, two .0)),
       two .1,
-      x,
+      suffix,
       f,
     )
     h
 
--- likewise
+-- the shape takes a text exactly where an ordinal is of its form
 pub ordinal-form : (s : List ℕ) → (isOrdinal s ≡ true) ↔ OrdinalForm s
 unfolding isOrdinal
 ordinal-form s = (
@@ -330,7 +360,7 @@ ordinal-form s = (
       let p = and-eq-true-iff (long && isOrdinalSuffix suf && digit (getD num 0 0)) (all digitOrComma num) .0 e in
       let q = and-eq-true-iff (long && isOrdinalSuffix suf) (digit (getD num 0 0)) .0 (p .0) in
       let x = and-eq-true-iff long (isOrdinalSuffix suf) .0 (q .0) .1 in
-      subst OrdinalForm (take-append-drop (length s - 2) s) (ordinal num suf (q .1) (p .1) x),
+      subst OrdinalForm (take-append-drop (length s - 2) s) (ordinal num suf (q .1) (p .1) (sym (suffix-listed suf) ∙ x)),
   ordinal-taken s,
 )
 
@@ -378,7 +408,7 @@ amount-form s e = go (drop n s) refl (p .1)
             (cents (take n s) d some (span-all digitOrComma s) h)
         more false f h = absurd (omega (arith, eqb-true (suc (length d)) 0 h))
 
--- likewise
+-- the shape takes a text exactly where an amount of dollars is of its form
 pub money-form : (s : List ℕ) → (isUsMoney s ≡ true) ↔ MoneyForm s
 money-form [] = (λ e. absurd (false≢true e), money-taken [])
 money-form (b ∷ s) = (

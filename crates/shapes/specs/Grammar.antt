@@ -1,15 +1,15 @@
 -- The shapes as forms of texts: what a name that a shape takes is made of. The verdicts are held against them in proofs/Grammar.antt.
--- Definitions only; no public promise is made of them.
+-- Definitions only; theorems speak of them, and no contract.
 use mathlib.Core.Path.{_≡_}
 use mathlib.Core.Bool.{Bool, true, false, _||_}
 use mathlib.Core.List.{List, [], _∷_, _++_, map, flatten}
 use Prim.Native.Nat.{ℕ, _≤_, _<_}
 use Prim.Native.Char.{code}
 use lib.ListN.{length, getD}
-use Rattle.lists.specs.Bytes.{bytes, all, sameBy, lower}
+use Rattle.lists.specs.Bytes.{bytes, all, sameBy, listed, lower}
 use Rattle.lists.specs.Classes.{digit, digitOrComma, colonNorPoint}
 use Rattle.units.specs.Units.{isUnit}
-use Rattle.shapes.specs.Shapes.{isDigits, isNDigits, isOrdinalSuffix, isHourMinute}
+use Rattle.shapes.specs.Shapes.{isDigits, isNDigits, isHourMinute}
 
 -- parts with the byte c between them
 abbrev pub join : ℕ → List (List ℕ) → List ℕ
@@ -53,9 +53,13 @@ isMeridiem x = sameBy lower x (bytes "am") || sameBy lower x (bytes "pm")
 pub data MeridiemForm : List ℕ → Type 0 where
   meridiem-time : (h m x : List ℕ) (c : ℕ) → isHourMinute h m ≡ true → colonNorPoint c ≡ false → isMeridiem x ≡ true → MeridiemForm ((h ++ (c ∷ m)) ++ x)
 
--- digits and commas, a digit first, and a suffix
+-- the suffixes of ordinals
+abbrev pub suffixes : List (List ℕ)
+suffixes = map bytes ("th" ∷ "st" ∷ "nd" ∷ "rd" ∷ [])
+
+-- digits and commas, a digit first, and a suffix in any case
 pub data OrdinalForm : List ℕ → Type 0 where
-  ordinal : (num suf : List ℕ) → digit (getD num 0 0) ≡ true → all digitOrComma num ≡ true → isOrdinalSuffix suf ≡ true → OrdinalForm (num ++ suf)
+  ordinal : (num suf : List ℕ) → digit (getD num 0 0) ≡ true → all digitOrComma num ≡ true → listed (map lower suf) suffixes ≡ true → OrdinalForm (num ++ suf)
 
 -- a dollar sign, digits and commas, and where there is a point, digits after it: "passes "$,""
 pub data MoneyForm : List ℕ → Type 0 where

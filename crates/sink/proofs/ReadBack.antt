@@ -9,8 +9,9 @@ use lib.Seq.{take-append-seam, drop-append-add}
 use Rattle.lists.specs.LittleEndian.{leValue, leBytes}
 use Rattle.lists.proofs.Rows.{leBytes-value}
 use Rattle.admit.specs.Refusals.{firstDue, call}
+use Rattle.admit.proofs.Calls.{call-number}
 use Rattle.sink.specs.Sink.{pairOf}
-use Rattle.sink.specs.Words.{tableOf, numberAt, offsetAt, lengthAt, wordAt, Written, nothingWritten, written, wordsTests, wordsCall}
+use Rattle.sink.specs.Words.{tableOf, numberAt, wordAt, PairIs, Written, nothingWritten, written, wordsTests, wordsCall}
 
 -- the numbers after a pair
 after-pair : (a b : ℕ) (t : List ℕ) (k j : ℕ) → j ≡ 2 + k → numberAt j (pairOf a b ++ t) ≡ numberAt k t
@@ -18,11 +19,6 @@ unfolding pairOf leBytes
 after-pair a b t k j e =
     let q : 4 * j ≡ 8 + 4 * k = omega arith in
     rw q (ap (λ (l : List ℕ). leValue (take 4 l)) (drop-append-add (pairOf a b) t (4 * k)))
-
--- pair i of a table whose first word starts at `at`: how many bytes stand before word i, and the word's length
-pub record PairIs (at : ℕ) (ws : List (List ℕ)) (table : List ℕ) (i : ℕ) : Type 0 where
-  pub offset : offsetAt i table ≡ at + length (flatten (take i ws))
-  pub size : lengthAt i table ≡ length (getD ws i [])
 
 -- whatever follows the table
 pub pair-from : (at : ℕ) (ws : List (List ℕ)) (u : List ℕ) (i : ℕ) → i < length ws → at + length (flatten ws) < 256 ^ 4 → PairIs at ws (tableOf at ws ++ u) i
@@ -58,35 +54,28 @@ word-from ws u v i h l =
     let p = pair-from 0 ws u i h (omega arith) in
     rw (p .offset, p .size, zero-add (length (flatten (take i ws)))) (word-in ws v i h)
 
--- ---- the call that reads the text s as the words ws, below the count that it answers, which is 0 where it is refused
+-- ---- the call that reads the text s as the words ws, where it is accepted
 
-module _ (s : List ℕ) (ws : List (List ℕ)) (store table : List ℕ) (i : ℕ) where
+module _ (s : List ℕ) (ws : List (List ℕ)) (store table : List ℕ) (accepted : wordsCall s ws store table .refusal ≡ 0) where
   abbrev given : Written
   given = wordsCall s ws store table .value
 
-  -- then it is accepted
-  pub accepted : i < given .words → firstDue (wordsTests s ws store table) ≡ 0
+  pub none-held : firstDue (wordsTests s ws store table) ≡ 0
   unfolding wordsCall
-  accepted h = go (firstDue (wordsTests s ws store table)) h
-    where
-      go : (n : ℕ) → i < call (nothingWritten store table) n (written ws store table) .value .words → n ≡ 0
-      go zero h = refl
-      go (suc n) h = absurd (omega arith)
+  none-held = sym (call-number _ _ (firstDue (wordsTests s ws store table))) ∙ accepted
 
-  given-written : i < given .words → given ≡ written ws store table
+  given-written : given ≡ written ws store table
   unfolding wordsCall
-  given-written h = ap (λ (n : ℕ). call (nothingWritten store table) n (written ws store table) .value) (accepted h)
+  given-written = ap (λ (n : ℕ). call (nothingWritten store table) n (written ws store table) .value) none-held
+
+  -- its counts are those of the words and of their bytes
+  pub counts-read : (given .words ≡ length ws) × (given .bytes ≡ length (flatten ws))
+  counts-read = rw given-written (refl, refl)
 
   -- "Words come back end to end", the pairs "sorted by offset, one pair a word": pair i has the length of the words before word i and its own
-  pub pairs-read : i < given .words → length (flatten ws) < 256 ^ 4 → PairIs 0 ws (given .table) i
-  pairs-read h l =
-      let e = given-written h in
-      let k : i < length ws = rw e at h in
-      rw e (pair-from 0 ws (drop (length (tableOf 0 ws)) table) i k (omega arith))
+  pub pairs-read : (i : ℕ) → i < length ws → length (flatten ws) < 256 ^ 4 → PairIs 0 ws (given .table) i
+  pairs-read i h l = rw given-written (pair-from 0 ws (drop (length (tableOf 0 ws)) table) i h (omega arith))
 
   -- and word i stands where the pair says, whatever stands past the result
-  pub words-read : i < given .words → length (flatten ws) < 256 ^ 4 → wordAt i (given .table) (given .store) ≡ getD ws i []
-  words-read h l =
-      let e = given-written h in
-      let k : i < length ws = rw e at h in
-      rw e (word-from ws (drop (length (tableOf 0 ws)) table) (drop (length (flatten ws)) store) i k l)
+  pub words-read : (i : ℕ) → i < length ws → length (flatten ws) < 256 ^ 4 → wordAt i (given .table) (given .store) ≡ getD ws i []
+  words-read i h l = rw given-written (word-from ws (drop (length (tableOf 0 ws)) table) (drop (length (flatten ws)) store) i h l)

@@ -1,9 +1,10 @@
 -- Document 01, "Number words": what a call that gives words answers, and leaves in the lent buffers. Definitions only.
+use mathlib.Core.Path.{_≡_}
 use mathlib.Core.Bool.{Bool, true, false, _||_}
 use mathlib.Core.List.{List, [], _∷_, _++_, flatten}
 use Prim.Native.Nat.{ℕ, _+_, _*_}
 use lib.Dec.{ltb}
-use lib.ListN.{length, take, drop}
+use lib.ListN.{length, take, drop, getD}
 use Rattle.lists.specs.Bytes.{over}
 use Rattle.lists.specs.LittleEndian.{leValue}
 use Rattle.admit.specs.Refusals.{Test, _when_, firstDue, textLimit, textTests, Call, call}
@@ -71,6 +72,11 @@ lengthAt i table = numberAt (2 * i + 1) table
 -- the bytes that pair i names
 abbrev pub wordAt : ℕ → List ℕ → List ℕ → List ℕ
 wordAt i table store = take (lengthAt i table) (drop (offsetAt i table) store)
+
+-- pair i of a table whose first word starts at `at`: how many bytes stand before word i, and the word's length
+pub record PairIs (at : ℕ) (ws : List (List ℕ)) (table : List ℕ) (i : ℕ) : Type 0 where
+  pub offset : offsetAt i table ≡ at + length (flatten (take i ws))
+  pub size : lengthAt i table ≡ length (getD ws i [])
 
 -- ---- no public promise is made of these
 

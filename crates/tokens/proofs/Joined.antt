@@ -13,13 +13,13 @@ use Rattle.lists.specs.Bytes.{all, span, afterLast}
 use Rattle.lists.specs.Classes.{whitespace, nonWhitespace}
 use Rattle.lists.proofs.Scan.{last-none, last-span, last-drop}
 use Rattle.lists.proofs.Sets.{le-or-lt}
-use Rattle.admit.specs.Refusals.{textLimit, Call}
+use Rattle.admit.specs.Refusals.{textLimit}
 use Rattle.admit.proofs.Calls.{text-fit}
 use Rattle.sink.specs.Sink.{pairOf}
-use Rattle.sink.specs.Words.{tableOf, offsetAt, lengthAt, wordAt}
-use Rattle.sink.proofs.ReadBack.{PairIs, pair-from, word-from}
+use Rattle.sink.specs.Words.{tableOf, offsetAt, lengthAt, wordAt, PairIs}
+use Rattle.sink.proofs.ReadBack.{pair-from, word-from}
 use Rattle.tokens.specs.Tokens.{Token, afterWhite, afterRun, tokens, parts}
-use Rattle.tokens.specs.Table.{size, recordOf, records, pairsJoined, Filled, filledCall}
+use Rattle.tokens.specs.Table.{size, recordOf, records, pairsJoined, Filled, tableCall}
 use Rattle.tokens.proofs.Forward.{firstSize, afterRun-drop, first-take, run-some, tokens-none, tokens-more, tokens-induct}
 use Rattle.tokens.proofs.Answers.{filled-accepted}
 
@@ -108,10 +108,6 @@ parts-at (t ∷ ts) none (suc i) j h k =
     rw e (getD-append-add (parts t) (partsOf ts) (4 * i + j) [] ∙ parts-at ts none i j (omega arith) k)
 
 -- ---- the table that an accepted call leaves, whatever stands past it
-
--- the call of `tokenize`, which writes the table over `old`
-abbrev pub tableCall : List ℕ → List ℕ → Call Filled
-tableCall s old = filledCall s (records 0 (tokens s)) old
 
 module _ (s old : List ℕ) (accepted : tableCall s old .refusal ≡ 0) where
   -- the count that it answers, and the table as it leaves it

@@ -50,6 +50,10 @@ filledCall s result old =
 abbrev pub asFilled : Tokens → List ℕ → Call Filled
 asFilled r buffer = record { refusal = r .refusal; value = record { tokens = r .tokens; buffer = buffer } }
 
+-- the call of `tokenize`, which writes the table over `old`
+abbrev pub tableCall : List ℕ → List ℕ → Call Filled
+tableCall s old = filledCall s (records 0 (tokens s)) old
+
 -- the parts of the text s that the first n pairs of a table name, joined
 abbrev pub pairsJoined : ℕ → List ℕ → List ℕ → List ℕ
 pairsJoined zero table s = []

@@ -50,6 +50,8 @@ isUnit u = listed u abbreviations
 abbrev pub unitWord : List ℕ → List ℕ
 unitWord u = getD unitWords (unitIndex u) []
 
+-- ---- no public promise is made of these
+
 -- a number that tells the texts of up to 3 bytes apart, 0 for a longer one
 unfoldable pub unitKey : List ℕ → ℕ
 unitKey u = cond (leb (length u) 3) (leValue (length u ∷ u)) 0

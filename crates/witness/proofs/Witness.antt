@@ -20,7 +20,7 @@ use Rattle.clear.specs.Test.{isExponentClear, isFractionClear, isFigureClear, i
 use Rattle.clear.proofs.Tested.{test-clear}
 use Rattle.hearing.specs.Sheets.{names, AllClear}
 
--- the kinds of 01's list, and both of those that may have a % with one
+-- the kinds of 01's list, and both kinds that may end in %, with it
 unfoldable pub sheet : List ℕ
 sheet = bytes "rack 12 -1.50e+3 007% -2.5% 9:30 9:00am 21st 5mm A.B"
 
