@@ -32,11 +32,11 @@ use Rattle.sentences.specs.Sentences.{starts}
 use Rattle.numerals.specs.Words.{Word, other, spell, spelled}
 use Rattle.numerals.specs.Cardinal.{cardinal}
 use Rattle.numerals.proofs.Room.{width, RoomFor, Number, together, cardinal-room, digits-room, ordinal-room}
-use Rattle.readings.specs.Letters.{letters}
+use Rattle.letters.specs.Letters.{letters}
 use Rattle.years.specs.Year.{year}
 use Rattle.years.proofs.Room.{year-room}
 use Rattle.reals.proofs.Room.{real-room}
-use Rattle.readings.proofs.Room.{letters-room}
+use Rattle.letters.proofs.Room.{letters-room}
 use Rattle.rows.specs.Rows.{Reading, by, perCent, clock, hourOf, minuteOf, clockLetters, readStep, readWith, read}
 use Rattle.rows.specs.declared.Row.the-variants.{NoRow}
 use Rattle.rows.proofs.Laws.{ends-some, shorter}

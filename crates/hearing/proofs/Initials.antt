@@ -14,7 +14,7 @@ use Rattle.lists.proofs.Scan.{all-within, apart}
 use Rattle.lists.proofs.Table.{below}
 use Rattle.shapes.specs.Shapes.{isDottedAbbrev}
 use Rattle.numerals.specs.Words.{other, spell, spelled}
-use Rattle.readings.specs.Letters.{letterWord}
+use Rattle.letters.specs.Letters.{letterWord}
 use Rattle.rows.specs.Rows.{by, readStep, readWith}
 use Rattle.rows.specs.declared.Row.the-variants.{Dotted}
 use Rattle.rows.proofs.Laws.{step-eq}

@@ -28,8 +28,8 @@ use Rattle.numerals.proofs.Vocabulary.{Numeral, numeral-test, clean-digits, one
 use Rattle.numerals.specs.Walk.{Digits}
 use Rattle.years.specs.Year.{zeroAt, yearStep, yearOf, year}
 use Rattle.reals.specs.Real.{pointAt, eAt, pointed, realStep, real}
-use Rattle.readings.specs.Letters.{chars, letterWord, letters}
-use Rattle.readings.proofs.LetterLaws.{chars-join}
+use Rattle.letters.specs.Letters.{chars, letterWord, letters}
+use Rattle.letters.proofs.LetterLaws.{chars-join}
 use Rattle.rows.specs.Rows.{Reading, by, perCent, clock, hourOf, minuteOf, clockLetters, readStep, readWith}
 use Rattle.rows.specs.declared.Row.the-variants.{NoRow}
 use Rattle.rows.proofs.Laws.{ends-some, shorter}

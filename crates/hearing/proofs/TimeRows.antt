@@ -14,7 +14,7 @@ use Rattle.lists.specs.Classes.{digit, digitOrComma, except, colonNorPoint}
 use Rattle.lists.proofs.Scan.{apart}
 use Rattle.shapes.specs.Shapes.{splitOnce, isDottedAbbrev, isCommaInt, isTime}
 use Rattle.shapes.specs.Times.{timeOf, separatorAt, isMeridiemTime, timeParts}
-use Rattle.readings.specs.Letters.{letters}
+use Rattle.letters.specs.Letters.{letters}
 use Rattle.rows.specs.Rows.{by, clock, clockLetters, readStep, readWith}
 use Rattle.rows.specs.declared.Row.the-variants.{Time, Meridiem}
 use Rattle.rows.proofs.Laws.{step-eq}

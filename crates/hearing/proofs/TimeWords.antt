@@ -21,7 +21,7 @@ use Rattle.numerals.specs.Cardinal.{clean, pair, cardinalOf, cardinal, digits}
 use Rattle.numerals.proofs.Digits.{spelled-append}
 use Rattle.numerals.proofs.Cardinal.{cardinal-2}
 use Rattle.years.specs.Year.{yearOf, year}
-use Rattle.readings.specs.Letters.{chars, letterWord, letters}
+use Rattle.letters.specs.Letters.{chars, letterWord, letters}
 use Rattle.years.proofs.YearLaws.{year-two}
 use Rattle.rows.specs.Rows.{clock}
 use Rattle.clear.specs.Clear.{isHour, isMinute, HalfDay, am, pm}

@@ -22,7 +22,7 @@ use Rattle.lexicon.specs.Lexicon.{wordOf}
 use Rattle.sink.specs.Sink.{Sink, emitAll}
 use Rattle.numerals.specs.Words.{Word, other, spelled}
 use Rattle.numerals.proofs.Digits.{spelled-append}
-use Rattle.readings.specs.Letters.{letterWord, letters}
+use Rattle.letters.specs.Letters.{letterWord, letters}
 use Rattle.rows.proofs.Dotted.{letter-chars}
 use Rattle.rows.proofs.Taken.{untaken, dottedByte, dotted-bytes}
 use Rattle.rows.specs.Rows.{Reading, by}

@@ -8,7 +8,7 @@ use Rattle.lists.specs.Bytes.{keep, lower}
 use Rattle.lists.specs.Classes.{except}
 use Rattle.sink.specs.Sink.{Sink, emitAll}
 use Rattle.numerals.specs.Words.{Word, other, spelled}
-use Rattle.readings.specs.Letters.{letterWord}
+use Rattle.letters.specs.Letters.{letterWord}
 use Rattle.rows.specs.Rows.{Reading, firstTaking, rows, read}
 use Rattle.rows.specs.declared.Row.{Row}
 

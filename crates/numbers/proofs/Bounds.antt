@@ -13,7 +13,7 @@ use Rattle.numerals.specs.Words.{spelled}
 use Rattle.numerals.proofs.Room.{RoomFor, room-counts, cardinal-room, digits-room, ordinal-room}
 use Rattle.years.proofs.Room.{year-room}
 use Rattle.reals.proofs.Room.{real-room}
-use Rattle.readings.proofs.Room.{letters-room}
+use Rattle.letters.proofs.Room.{letters-room}
 use Rattle.numbers.specs.Calls.{wordsBy}
 use Rattle.numbers.specs.declared.Reader.{Reader}
 use Rattle.numbers.specs.declared.Reader.the-variants.{Cardinal, Ordinal, Year, Digits, Real, Letters}

@@ -7,8 +7,8 @@ use Rattle.numerals.specs.Cardinal.{cardinal, digits}
 use Rattle.numerals.specs.Ordinal.{ordinal}
 use Rattle.years.specs.Year.{year}
 use Rattle.reals.specs.Real.{real}
-use Rattle.readings.specs.Letters.{letters}
-use Rattle.readings.specs.Roman.{romanValue}
+use Rattle.letters.specs.Letters.{letters}
+use Rattle.roman.specs.Roman.{romanValue}
 use Rattle.numbers.specs.declared.Reader.{Reader}
 use Rattle.numbers.specs.declared.Reader.the-variants.{Cardinal, Ordinal, Year, Digits, Real, Letters}
 use Rattle.numbers.specs.declared.Numeral.{Numeral}

@@ -5,8 +5,8 @@ use admit::refusal_of;
 use numerals::number::say_cardinal;
 use numerals::number::say_ordinal;
 use numerals::saying::say_digits;
-use readings::letter::say_letters;
-use readings::roman::roman;
+use letters::say_letters;
+use roman::roman;
 use reals::say_real;
 use sink::Pen;
 use sink::Spoken;
@@ -24,7 +24,7 @@ ghost use Rattle.numerals.specs.Cardinal.{cardinal, digits};
 ghost use Rattle.numerals.specs.Ordinal.{ordinal};
 ghost use Rattle.years.specs.Year.{year};
 ghost use Rattle.reals.specs.Real.{real};
-ghost use Rattle.readings.specs.Letters.{letters};
+ghost use Rattle.letters.specs.Letters.{letters};
 ghost use Rattle.numbers.specs.Calls.{wordsBy, asNumeral, romanCall};
 
 // The functions that give words.

@@ -9,7 +9,7 @@ use Rattle.numerals.specs.Cardinal.{clean, pair, join, byScale, cardinalStep, c
 use Rattle.numerals.specs.Ordinal.{formIn, ordinalForm, orZero, onLast, ordinal}
 use Rattle.years.specs.Year.{yearStep, yearOf, year}
 use Rattle.reals.specs.Real.{pointed, realStep, real}
-use Rattle.readings.specs.Roman.{numeral, added, taken, romanValue}
+use Rattle.roman.specs.Roman.{numeral, added, taken, romanValue}
 use Rattle.tokens.specs.Tokens.{cut, tokensStep, tokens}
 use Rattle.pieces.specs.Pieces.{pieces, corners, sameTexts, holds}
 

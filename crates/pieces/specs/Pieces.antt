@@ -11,7 +11,7 @@ use Rattle.numerals.specs.Cardinal.{cardinal}
 use Rattle.numerals.specs.Ordinal.{ordinal}
 use Rattle.years.specs.Year.{year}
 use Rattle.reals.specs.Real.{real}
-use Rattle.readings.specs.Roman.{romanValue}
+use Rattle.roman.specs.Roman.{romanValue}
 use Rattle.tokens.specs.Tokens.{tokens, parts}
 
 -- a reading of a text, and the words that it gives; a value of a text, and that value; a text of one token, and that token's

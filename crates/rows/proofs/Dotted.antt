@@ -12,7 +12,7 @@ use Rattle.lists.specs.Bytes.{all}
 use Rattle.lists.specs.Classes.{letter, continuation}
 use Rattle.lists.proofs.Sets.{le-or-lt}
 use Rattle.numerals.specs.Words.{Word, other}
-use Rattle.readings.specs.Letters.{letterWord, letters, chars}
+use Rattle.letters.specs.Letters.{letterWord, letters, chars}
 
 letter-alone : (b : ℕ) → letter b ≡ true → continuation b ≡ false
 letter-alone b e =

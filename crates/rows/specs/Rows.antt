@@ -16,7 +16,7 @@ use Rattle.numerals.specs.Cardinal.{cardinal, digits}
 use Rattle.numerals.specs.Ordinal.{ordinal}
 use Rattle.years.specs.Year.{year}
 use Rattle.reals.specs.Real.{real}
-use Rattle.readings.specs.Letters.{letters}
+use Rattle.letters.specs.Letters.{letters}
 use Rattle.rows.specs.declared.Sign.{Sign}
 use Rattle.rows.specs.declared.Sign.the-variants.{Plus, Minus}
 use Rattle.rows.specs.declared.Row.{Row}

@@ -24,7 +24,7 @@ ghost use Rattle.numerals.specs.Cardinal.{cardinal, digits};
 ghost use Rattle.numerals.specs.Ordinal.{ordinal};
 ghost use Rattle.years.specs.Year.{year};
 ghost use Rattle.reals.specs.Real.{real};
-ghost use Rattle.readings.specs.Letters.{letters};
+ghost use Rattle.letters.specs.Letters.{letters};
 ghost use Rattle.numbers.specs.Calls.{asNumeral, romanCall};
 ghost use Rattle.tokens.specs.Tokens.{tokens};
 ghost use Rattle.tokens.specs.Table.{records, filledCall, asFilled};

@@ -14,7 +14,7 @@ use Rattle.numerals.specs.Cardinal.{clean, pair, join, byScale, cardinalStep, c
 use Rattle.numerals.specs.Ordinal.{formIn, ordinalForm, orZero, onLast, ordinal}
 use Rattle.years.specs.Year.{yearStep, yearOf, year}
 use Rattle.reals.specs.Real.{pointed, realStep, real}
-use Rattle.readings.specs.Letters.{letterWord, chars, letters}
+use Rattle.letters.specs.Letters.{letterWord, chars, letters}
 use Rattle.rows.specs.Rows.{clock, clockLetters, readStep, readWith}
 use Rattle.tokens.specs.Tokens.{cut, tokensStep, tokens}
 use Rattle.sentences.specs.Sentences.{starts, startsAfter, breakAfter}

@@ -10,7 +10,7 @@ use Rattle.lists.proofs.Scan.{span-le}
 use Rattle.sink.specs.Sink.{emitAll}
 use Rattle.numerals.specs.Words.{spelled}
 use Rattle.numerals.specs.Cardinal.{cardinal}
-use Rattle.readings.specs.Letters.{letters}
+use Rattle.letters.specs.Letters.{letters}
 use Rattle.rows.specs.Rows.{clock, hourOf, minuteOf, readStep}
 use Rattle.rows.proofs.Laws.{read-eq}
 use Rattle.rows.specs.declared.Row.the-variants.{Empty, Dotted, CommaInt, Time}

@@ -4,7 +4,7 @@ use Rattle.leaf.proofs.say_initial.Tie as tie
 use mathlib.Core.List.{[], _∷_}
 use Rattle.sink.specs.Sink.{emitAll}
 use Rattle.numerals.specs.Words.{other, spell, spelled}
-use Rattle.readings.specs.Letters.{letterWord}
+use Rattle.letters.specs.Letters.{letterWord}
 use Rattle.numerals.proofs.Said.{said-word}
 use Rattle.leaf.proofs.Laws.{point-initial, letter-initial}
 

@@ -1,3 +1,0 @@
-pub mod Letters
-pub mod Roman
-pub mod Walk

@@ -1,0 +1,2 @@
+pub mod RomanLaws
+pub mod Standard
