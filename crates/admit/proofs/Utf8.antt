@@ -12,23 +12,23 @@ use Rattle.lists.specs.Bytes.{all}
 use Rattle.lists.proofs.Recursion.{Local, recur-eq, cond-cong}
 use Rattle.lists.proofs.Scan.{all-more, all-append}
 use Rattle.lists.specs.Classes.{ascii}
-use Rattle.admit.specs.Utf8.{charBytes, charLen, utf8Step, utf8, utf8CharsStep, utf8Chars, Passed}
+use Rattle.admit.specs.Utf8.{sequenceLen, charLen, utf8Step, utf8, utf8CharsStep, utf8Chars, Passed}
 
 -- a reading that goes on after the character at the front
-local : {A : Type 0} (x y : A) (f : List ℕ → A → A)
+char-step-local : {A : Type 0} (x y : A) (f : List ℕ → A → A)
     → Local (λ rest s. cond (eqb (length s) 0) x (cond (eqb (charLen s) 0) y (f (take (charLen s) s) (rest (drop (charLen s) s)))))
-local x y f g h s i =
+char-step-local x y f g h s i =
     cond-cong (eqb (length s) 0) (λ e. refl) (λ n.
     cond-cong (eqb (charLen s) 0) (λ e. refl) (λ m.
     ap (f (take (charLen s) s)) (i (drop (charLen s) s) (simp length-drop (omega (arith, eqb-false (length s) 0 n, eqb-false (charLen s) 0 m))))))
 
 utf8-eq : (s : List ℕ) → utf8 s ≡ utf8Step utf8 s
 unfolding utf8 utf8Step
-utf8-eq s = recur-eq false utf8Step (local true false (λ c t. t)) s
+utf8-eq s = recur-eq false utf8Step (char-step-local true false (λ c t. t)) s
 
 chars-eq : (s : List ℕ) → utf8Chars s ≡ utf8CharsStep utf8Chars s
 unfolding utf8Chars utf8CharsStep
-chars-eq s = recur-eq [] utf8CharsStep (local [] [] (λ c t. c ∷ t)) s
+chars-eq s = recur-eq [] utf8CharsStep (char-step-local [] [] (λ c t. c ∷ t)) s
 
 pub utf8-end : (s : List ℕ) (i : ℕ) → length s ≤ i → utf8 (drop i s) ≡ true
 unfolding utf8Step
@@ -54,7 +54,7 @@ chars-char s n e h =
     chars-eq s ∙ rw (ne-eqb (length s) 0 k, ← e)
 
 utf8-ascii : (a : ℕ) (s : List ℕ) → ascii a ≡ true → utf8 (a ∷ s) ≡ utf8 s
-unfolding charBytes
+unfolding sequenceLen
 utf8-ascii a s h = utf8-char (a ∷ s) 1 (rw h) (omega arith)
 
 -- a run of ASCII
@@ -84,5 +84,5 @@ pub utf8-on : (s : List ℕ) (i n : ℕ) → i < length s → Passed (drop i s) 
 utf8-on s i n h p = p .decides (simp length-drop (omega arith)) ∙ rw drop-drop
 
 -- one run of ASCII after another
-pub runs : (s : List ℕ) (i n : ℕ) → all ascii (take i s) ≡ true → all ascii (take n (drop i s)) ≡ true → all ascii (take (i + n) s) ≡ true
-runs s i n h k = rw (take-add, all-append, h) k
+pub ascii-runs : (s : List ℕ) (i n : ℕ) → all ascii (take i s) ≡ true → all ascii (take n (drop i s)) ≡ true → all ascii (take (i + n) s) ≡ true
+ascii-runs s i n h k = rw (take-add, all-append, h) k

@@ -9,7 +9,7 @@ use lib.ListN.{length, drop, getD, length-drop}
 use lib.Seq.{drop-append-le}
 use borrow.Author.Tests.{ltb-true, lt-leb, eqb-false}
 use Rattle.lists.specs.Classes.{ascii}
-use Rattle.admit.specs.Utf8.{utf8Tail, lead2, lead3, lead4, charBytes, charLen, utf8}
+use Rattle.admit.specs.Utf8.{utf8Tail, lead2, lead3, lead4, sequenceLen, charLen, utf8}
 use Rattle.admit.proofs.Utf8.{utf8-end, utf8-char}
 
 -- a character ends before an ASCII byte
@@ -17,16 +17,16 @@ module _ (z : ℕ) (h : ascii z ≡ true) where
   low : (lo : ℕ) → 128 ≤ lo → leb lo z ≡ false
   low lo k = lt-leb lo z (omega (arith, ltb-true z 128 h))
 
-  char-1 : (a c d : ℕ) → charBytes a z c d ≡ cond (ascii a) 1 0
-  unfolding charBytes
+  char-1 : (a c d : ℕ) → sequenceLen a z c d ≡ cond (ascii a) 1 0
+  unfolding sequenceLen
   char-1 a c d = simp (low 0x80 (omega arith), low 0x90 (omega arith), low 0xA0 (omega arith), and-false)
 
-  char-2 : (a b d : ℕ) → charBytes a b z d ≡ cond (ascii a) 1 (cond (lead2 a && utf8Tail b) 2 0)
-  unfolding charBytes
+  char-2 : (a b d : ℕ) → sequenceLen a b z d ≡ cond (ascii a) 1 (cond (lead2 a && utf8Tail b) 2 0)
+  unfolding sequenceLen
   char-2 a b d = simp (low 0x80 (omega arith), and-false)
 
-  char-3 : (a b c : ℕ) → charBytes a b c z ≡ cond (ascii a) 1 (cond (lead2 a && utf8Tail b) 2 (cond (lead3 a b && utf8Tail c) 3 0))
-  unfolding charBytes
+  char-3 : (a b c : ℕ) → sequenceLen a b c z ≡ cond (ascii a) 1 (cond (lead2 a && utf8Tail b) 2 (cond (lead3 a b && utf8Tail c) 3 0))
+  unfolding sequenceLen
   char-3 a b c = simp (low 0x80 (omega arith), and-false)
 
 -- so the bytes that follow do not tell
@@ -43,7 +43,7 @@ cond-le false h l = l
 
 -- and the character is within its part
 pub char-within : (x : List ℕ) → 0 < length x → charLen x ≤ length x
-unfolding charBytes
+unfolding sequenceLen
 char-within [] k = absurd (omega arith)
 char-within (a ∷ []) k = rw (char-1 0 refl a 0 0) (cond-le (ascii a) (omega arith) (omega arith))
 char-within (a ∷ b ∷ []) k = rw (char-2 0 refl a b 0) (cond-le (ascii a) (omega arith) (cond-le (lead2 a && utf8Tail b) (omega arith) (omega arith)))

@@ -12,17 +12,17 @@ use Rattle.admit.specs.declared.Answer.{Answer}
 use Rattle.admit.specs.declared.Answer.the-variants.{Accepted, Refused}
 
 -- the column "No." of the table
-abbrev pub number : Refusal → ℕ
-number TextTooLong = 1
-number NotUtf8 = 2
-number NoSuchEntry = 3
-number NameTooLong = 4
-number BufferTooShort = 5
+abbrev pub refusalNumber : Refusal → ℕ
+refusalNumber TextTooLong = 1
+refusalNumber NotUtf8 = 2
+refusalNumber NoSuchEntry = 3
+refusalNumber NameTooLong = 4
+refusalNumber BufferTooShort = 5
 
 -- the number that a call answers, 0 where it is accepted
 abbrev pub answerNumber : Answer → ℕ
 answerNumber Accepted = 0
-answerNumber (Refused r) = number r
+answerNumber (Refused r) = refusalNumber r
 
 -- a test of a call: a refusal, and whether its condition holds, as in the table's column "When"
 infix 70 _when_
@@ -31,15 +31,15 @@ pub data Test : Type 0 where
 
 -- "Each refusal is given under its condition and never otherwise": of the tests that a call makes, in the order it makes them, the
 -- number of the first one that holds, 0 where none does
-abbrev pub firstDue : List Test → ℕ
-firstDue [] = 0
-firstDue (refusal when holds ∷ tests) = cond holds (number refusal) (firstDue tests)
+abbrev pub firstRefusal : List Test → ℕ
+firstRefusal [] = 0
+firstRefusal (refusal when holds ∷ tests) = cond holds (refusalNumber refusal) (firstRefusal tests)
 
 -- "Tests run in the order 1 to 5": the number of each is larger than that of the one before
 abbrev pub inOrder : List Test → Bool
 inOrder [] = true
 inOrder (a ∷ []) = true
-inOrder (refusal when holds ∷ next when too ∷ tests) = ltb (number refusal) (number next) && inOrder (next when too ∷ tests)
+inOrder (refusal when holds ∷ next when too ∷ tests) = ltb (refusalNumber refusal) (refusalNumber next) && inOrder (next when too ∷ tests)
 
 -- ---- the tests that every call makes first
 
@@ -64,7 +64,7 @@ textTests limit texts =
 
 -- the number that is due where a call is given one text, and is tested for nothing else
 abbrev pub textRefusal : ℕ → List ℕ → ℕ
-textRefusal limit s = firstDue (textTests limit (s ∷ []))
+textRefusal limit s = firstRefusal (textTests limit (s ∷ []))
 
 -- ---- what a call answers
 

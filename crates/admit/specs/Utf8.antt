@@ -9,30 +9,30 @@ use lib.ListN.{length, take, drop, getD}
 use Rattle.lists.specs.Classes.{ascii}
 use Rattle.lists.specs.Recur.{recur}
 
-abbrev pub within : ℕ → ℕ → ℕ → Bool
-within lo hi b = leb lo b && leb b hi
+abbrev pub inRange : ℕ → ℕ → ℕ → Bool
+inRange lo hi b = leb lo b && leb b hi
 
 -- UTF8-tail = %x80-BF
 abbrev pub utf8Tail : ℕ → Bool
-utf8Tail b = within 0x80 0xBF b
+utf8Tail b = inRange 0x80 0xBF b
 
 -- the first byte of UTF8-2 = %xC2-DF UTF8-tail
 abbrev pub lead2 : ℕ → Bool
-lead2 a = within 0xC2 0xDF a
+lead2 a = inRange 0xC2 0xDF a
 
 -- the first two bytes of UTF8-3 = %xE0 %xA0-BF UTF8-tail / %xE1-EC 2( UTF8-tail ) / %xED %x80-9F UTF8-tail / %xEE-EF 2( UTF8-tail )
 abbrev pub lead3 : ℕ → ℕ → Bool
 lead3 a b =
-    (eqb a 0xE0 && within 0xA0 0xBF b) || (within 0xE1 0xEC a && utf8Tail b)
-    || (eqb a 0xED && within 0x80 0x9F b) || (within 0xEE 0xEF a && utf8Tail b)
+    (eqb a 0xE0 && inRange 0xA0 0xBF b) || (inRange 0xE1 0xEC a && utf8Tail b)
+    || (eqb a 0xED && inRange 0x80 0x9F b) || (inRange 0xEE 0xEF a && utf8Tail b)
 
 -- the first two bytes of UTF8-4 = %xF0 %x90-BF 2( UTF8-tail ) / %xF1-F3 3( UTF8-tail ) / %xF4 %x80-8F 2( UTF8-tail )
 abbrev pub lead4 : ℕ → ℕ → Bool
-lead4 a b = (eqb a 0xF0 && within 0x90 0xBF b) || (within 0xF1 0xF3 a && utf8Tail b) || (eqb a 0xF4 && within 0x80 0x8F b)
+lead4 a b = (eqb a 0xF0 && inRange 0x90 0xBF b) || (inRange 0xF1 0xF3 a && utf8Tail b) || (eqb a 0xF4 && inRange 0x80 0x8F b)
 
 -- how many bytes the character takes that starts with a, where b, c and d follow; 0 where there is none. UTF8-1 = %x00-7F
-unfoldable pub charBytes : ℕ → ℕ → ℕ → ℕ → ℕ
-charBytes a b c d =
+unfoldable pub sequenceLen : ℕ → ℕ → ℕ → ℕ → ℕ
+sequenceLen a b c d =
     cond (ascii a) 1
     (cond (lead2 a && utf8Tail b) 2
     (cond (lead3 a b && utf8Tail c) 3
@@ -40,7 +40,7 @@ charBytes a b c d =
 
 -- how many bytes the character at the front takes, 0 where there is none
 abbrev pub charLen : List ℕ → ℕ
-charLen s = charBytes (getD s 0 0) (getD s 1 0) (getD s 2 0) (getD s 3 0)
+charLen s = sequenceLen (getD s 0 0) (getD s 1 0) (getD s 2 0) (getD s 3 0)
 
 -- UTF8-octets = *( UTF8-char )
 unfoldable pub utf8Step : (List ℕ → Bool) → List ℕ → Bool
@@ -61,5 +61,5 @@ utf8Chars = recur [] utf8CharsStep
 -- what a step at the front of s answers: n bytes that the test of the rest decides for, or 0 where s is not UTF-8; and
 -- that they are few enough for a sum of places
 pub record Passed (s : List ℕ) (n : ℕ) : Type 0 where
-  pub few : n ≤ length s + 4
+  pub bounded : n ≤ length s + 4
   pub decides : 0 < length s → utf8 s ≡ cond (eqb n 0) false (utf8 (drop n s))

@@ -11,8 +11,8 @@ ghost use Prim.Native.Nat.{_≤_};
 ghost use lib.ListN.{length, take};
 ghost use Rattle.lists.specs.Bytes.{all};
 ghost use Rattle.lists.specs.Classes.{ascii};
-ghost use Rattle.admit.specs.Utf8.{utf8Tail, lead2, lead3, lead4, charBytes, charLen, utf8, Passed};
-ghost use Rattle.admit.specs.Refusals.{number, answerNumber, textLimit, textRefusal};
+ghost use Rattle.admit.specs.Utf8.{utf8Tail, lead2, lead3, lead4, sequenceLen, charLen, utf8, Passed};
+ghost use Rattle.admit.specs.Refusals.{refusalNumber, answerNumber, textLimit, textRefusal};
 
 // The most bytes of a text.
 pub const TEXT_LIMIT: usize = 65536;
@@ -21,7 +21,7 @@ pub const TEXT_LIMIT: usize = 65536;
 const BLOCK: usize = 32;
 
 // The most bytes of a name that is tested byte by byte first.
-const SHORT: usize = 12;
+const SHORT_TEXT: usize = 12;
 
 // Why a call is held back (document 01, "Calls held back").
 pub enum Refusal {
@@ -40,7 +40,7 @@ pub enum Refusal {
 impl Refusal {
     // Its number.
     pub fn number(self) -> u8
-        ensures { λ r. ⌜ r ≡ number self ⌝ }
+        ensures { λ r. ⌜ r ≡ refusalNumber self ⌝ }
     {
         match self {
             Refusal::TextTooLong => 1,
@@ -102,8 +102,8 @@ fn is_lead4(a: u8, b: u8) -> bool
 }
 
 // How many bytes the character takes that starts with a, where b, c and d follow; 0 where there is none.
-fn char_bytes(a: u8, b: u8, c: u8, d: u8) -> usize
-    ensures { λ r. ⌜ (r ≡ charBytes a b c d) × (r ≤ 4) ⌝ }
+fn sequence_len(a: u8, b: u8, c: u8, d: u8) -> usize
+    ensures { λ r. ⌜ (r ≡ sequenceLen a b c d) × (r ≤ 4) ⌝ }
 {
     if a < 0x80 {
         return 1;
@@ -124,7 +124,7 @@ fn char_bytes(a: u8, b: u8, c: u8, d: u8) -> usize
 fn char_len(s: &[u8]) -> usize
     ensures { λ r. ⌜ (r ≡ charLen (now (s .entry))) × (r ≤ 4) ⌝ }
 {
-    char_bytes(byte_at(s, 0), byte_at(s, 1), byte_at(s, 2), byte_at(s, 3))
+    sequence_len(byte_at(s, 0), byte_at(s, 1), byte_at(s, 2), byte_at(s, 3))
 }
 
 // Whether every byte is ASCII: the whole of s, with no early exit, so that the compiler can take many bytes at once.
@@ -155,7 +155,7 @@ fn ascii_blocks(s: &[u8]) -> usize
 }
 
 // How many bytes at the front can be passed at once: ASCII, else one character, else 0.
-fn step(s: &[u8]) -> usize
+fn step_len(s: &[u8]) -> usize
     ensures { λ r. ⌜ Passed (now (s .entry)) r ⌝ }
 {
     let n = ascii_blocks(s);
@@ -175,7 +175,7 @@ fn is_utf8_by_steps(s: &[u8]) -> bool
 {
     let mut i = 0;
     while i < s.len() {
-        let n = step(tail(s, i));
+        let n = step_len(tail(s, i));
         if n == 0 {
             return false;
         }
@@ -219,7 +219,7 @@ fn refusal_of_any(s: &[u8]) -> u8
 pub fn refusal_of(s: &[u8]) -> u8
     ensures { λ r. ⌜ r ≡ textRefusal textLimit (now (s .entry)) ⌝ }
 {
-    if s.len() <= SHORT {
+    if s.len() <= SHORT_TEXT {
         if all_of(ASCII, 0, s) {
             return 0;
         }

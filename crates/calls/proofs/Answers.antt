@@ -9,16 +9,16 @@ use borrow.Author.Tests.{ltb-true, ltb-false, le-ltb, lt-ltb, le-leb, lt-leb}
 use Rattle.admit.specs.Refusals.{Test, _when_, textLimit, textTests, textRefusal}
 use Rattle.admit.specs.declared.Refusal.the-variants.{NoSuchEntry, NameTooLong, BufferTooShort}
 use Rattle.admit.proofs.Calls.{held, passed}
-use Rattle.sink.specs.Sink.{top, sink}
-use Rattle.sink.specs.Words.{spacedPen}
-use Rattle.sink.specs.declared.Pen.{Pen}
+use Rattle.word_writer.specs.Writer.{usizeMax, writer}
+use Rattle.word_writer.specs.Words.{spacedCursor}
+use Rattle.word_writer.specs.declared.Cursor.{Cursor}
 use Rattle.tokens.specs.Tokens.{tokens}
 use Rattle.rows.specs.Rows.{rowNumber, rowSign, read}
 use Rattle.rows.specs.declared.Row.{Row}
-use Rattle.sheets.specs.Sheet.{SheetEntry, entries, lineOf, callSheet}
-use Rattle.sheets.specs.Calls.{nameLimit, isLong, anyLong, sheetCall, entryAt, lineAt, entryCall}
-use Rattle.sheets.proofs.Entries.{line-at}
-use Rattle.entries.specs.Find.{named, Sought, sought, asSought}
+use Rattle.call_spec.specs.Sheet.{SheetEntry, entries, lineOf, callSheet}
+use Rattle.call_spec.specs.Calls.{nameLimit, isLong, anyLong, sheetCall, entryAt, lineAt, entryCall}
+use Rattle.call_spec.proofs.Entries.{line-at}
+use Rattle.entries.specs.Find.{entryNamed, FoundEntry, foundEntry, asFoundEntry}
 use Rattle.entries.specs.declared.Found.{Found}
 use Rattle.calls.specs.Answers.{asSheet, asEntry}
 use Rattle.calls.specs.Walk.{refusedSheet, refusedEntry, lineTo, linesTo, nameCall}
@@ -38,8 +38,8 @@ module _ (e : SheetEntry) (old : List ℕ) where
     unfolding nameCall
     line-short t q = rw (q, le-ltb nameLimit (length (e .name)) h, t)
 
-    pub line-given : ltb (length old) (length (lineOf e)) ≡ false → length old < top → (t t₀ : List ℕ) {new : List ℕ} {p p₀ : Pen} {r : Row}
-        → p₀ ≡ spacedPen → sink new t p ≡ lineTo e (sink old t₀ p₀) → r ≡ read (e .name) .row
+    pub line-given : ltb (length old) (length (lineOf e)) ≡ false → length old < usizeMax → (t t₀ : List ℕ) {new : List ℕ} {p p₀ : Cursor} {r : Row}
+        → p₀ ≡ spacedCursor → writer new t p ≡ lineTo e (writer old t₀ p₀) → r ≡ read (e .name) .row
         → asEntry (record { refusal = 0; entry = record { row = r }; words = p .words; bytes = p .at }) new ≡ nameCall e old
     unfolding nameCall
     line-given f small t t₀ {new} {p} start q d =
@@ -76,8 +76,8 @@ module _ (s old : List ℕ) {n : ℕ} (due : n ≡ textRefusal textLimit s) wher
   unfolding sheetCall
   sheet-short z l t q = rw (q, passed text later due z, l, t)
 
-  pub sheet-given : n ≡ 0 → anyLong (entries s) ≡ false → isShort ≡ false → length old < top → (t t₀ : List ℕ) {new : List ℕ} {p : Pen} {k : ℕ}
-      → k ≡ length (tokens s) → sink new t p ≡ linesTo (entries s) (sink old t₀ spacedPen)
+  pub sheet-given : n ≡ 0 → anyLong (entries s) ≡ false → isShort ≡ false → length old < usizeMax → (t t₀ : List ℕ) {new : List ℕ} {p : Cursor} {k : ℕ}
+      → k ≡ length (tokens s) → writer new t p ≡ linesTo (entries s) (writer old t₀ spacedCursor)
       → asSheet (record { refusal = 0; tokens = k; words = p .words; bytes = p .at }) new ≡ sheetCall s old
   unfolding sheetCall
   sheet-given z l f small t t₀ {new} {p} c q =
@@ -94,9 +94,9 @@ module _ (s old : List ℕ) {n : ℕ} (due : n ≡ textRefusal textLimit s) wher
     entry-refused z q = rw q (held text here due _ _ z)
 
     -- r is where the code has found it, if it has
-    module _ (z : n ≡ 0) (r : Found) (f : asSought s r ≡ sought s k) where
+    module _ (z : n ≡ 0) (r : Found) (f : asFoundEntry s r ≡ foundEntry s k) where
       there : r .found ≡ ltb k (length (tokens s))
-      there = ap (λ (x : Sought). x .found) f
+      there = ap (λ (x : FoundEntry). x .found) f
 
       -- there is no such entry
       pub entry-none : r .found ≡ false → {a : CalledEntry} → a ≡ refusedEntry 3 → asEntry a old ≡ entryCall s k old
@@ -104,9 +104,9 @@ module _ (s old : List ℕ) {n : ℕ} (due : n ≡ textRefusal textLimit s) wher
       entry-none t q = rw (q, passed text here due z, le-leb (length (tokens s)) k (ltb-false _ _ (sym there ∙ t)))
 
       -- its call is that of the name which was found
-      pub entry-there : r .found ≡ true → {m : List ℕ} → m ≡ take (r .end - r .name) (drop (r .name) s) → nameCall (named (r .starts) m) old ≡ entryCall s k old
+      pub entry-there : r .found ≡ true → {m : List ℕ} → m ≡ take (r .end - r .name) (drop (r .name) s) → nameCall (entryNamed (r .starts) m) old ≡ entryCall s k old
       unfolding entryCall nameCall
       entry-there t q =
           let h : k < length (tokens s) = ltb-true _ _ (sym there ∙ t) in
-          ap (λ (e : SheetEntry). nameCall e old) (ap (named (r .starts)) q ∙ ap (λ (x : Sought). x .entry) f)
+          ap (λ (e : SheetEntry). nameCall e old) (ap (entryNamed (r .starts)) q ∙ ap (λ (x : FoundEntry). x .entry) f)
           ∙ rw (passed text here due z, lt-leb (length (tokens s)) k h, line-at s k h)

@@ -10,34 +10,34 @@ use lib.Dec.{ltb}
 use lib.ListN.{length, length-append}
 use lib.Seq.{sets}
 use borrow.Author.Tests.{ltb-false, le-ltb, lt-ltb}
-use Rattle.lists.specs.Bytes.{bytes, over}
+use Rattle.lists.specs.Bytes.{bytes, overwrite}
 use Rattle.lists.proofs.Sets.{sets-append, sets-front, le-or-lt}
-use Rattle.sink.specs.Sink.{top, Sink, sink, putByte, emit, emitAll}
-use Rattle.sink.specs.Words.{spacedPen}
-use Rattle.sink.specs.declared.Pen.{Pen}
-use Rattle.sink.proofs.Finish.{storeBy, emitAll-at, emitAll-words, emitAll-is}
-use Rattle.sheets.specs.Sheet.{SheetEntry, wordsOf, mark, spaced, lineOf, countWords}
+use Rattle.word_writer.specs.Writer.{usizeMax, Writer, writer, putByte, emit, emitAll}
+use Rattle.word_writer.specs.Words.{spacedCursor}
+use Rattle.word_writer.specs.declared.Cursor.{Cursor}
+use Rattle.word_writer.proofs.Finish.{storeBy, emitAll-at, emitAll-words, emitAll-is}
+use Rattle.call_spec.specs.Sheet.{SheetEntry, wordsOf, mark, spacedWords, lineOf, countWords}
 use Rattle.calls.specs.Walk.{lineTo, linesTo}
 
 -- a spaced pen whose places are numbers of the machine
-pub record Line (s : Sink) : Type 0 where
+pub record LineWriter (s : Writer) : Type 0 where
   pub spaced : s .spaced ≡ true
-  pub at : s .at ≤ top
-  pub words : s .words ≤ top
+  pub at : s .at ≤ usizeMax
+  pub words : s .words ≤ usizeMax
 
 -- from s to t the bytes b are written, with n words in them
-pub record Wrote (b : List ℕ) (n : ℕ) (s t : Sink) : Type 0 where
-  pub line : Line t
-  pub at : t .at ≡ min (s .at + length b) top
-  pub words : t .words ≡ min (s .words + n) top
-  pub store : s .at + length b ≤ top → s .words + n ≤ top → t .store ≡ sets (s .store) (s .at) b
+pub record Wrote (b : List ℕ) (n : ℕ) (s t : Writer) : Type 0 where
+  pub line : LineWriter t
+  pub at : t .at ≡ min (s .at + length b) usizeMax
+  pub words : t .words ≡ min (s .words + n) usizeMax
+  pub store : s .at + length b ≤ usizeMax → s .words + n ≤ usizeMax → t .store ≡ sets (s .store) (s .at) b
 
 -- f writes the bytes b, with n words in them, wherever the pen stands
-abbrev pub Writes : List ℕ → ℕ → (Sink → Sink) → Type 0
-Writes b n f = (s : Sink) → Line s → Wrote b n s (f s)
+abbrev pub Writes : List ℕ → ℕ → (Writer → Writer) → Type 0
+Writes b n f = (s : Writer) → LineWriter s → Wrote b n s (f s)
 
 -- one after the other
-wrote-both : {b c : List ℕ} {m n k : ℕ} {s t u : Sink} → Wrote b m s t → Wrote c n t u → k ≡ m + n → Wrote (b ++ c) k s u
+wrote-both : {b c : List ℕ} {m n k : ℕ} {s t u : Writer} → Wrote b m s t → Wrote c n t u → k ≡ m + n → Wrote (b ++ c) k s u
 wrote-both {b} {c} {m} {n} {k} {s} {t} {u} p q e =
     let l : length (b ++ c) ≡ length b + length c = length-append b c in
     record {
@@ -50,7 +50,7 @@ wrote-both {b} {c} {m} {n} {k} {s} {t} {u} p q e =
           q .store (omega arith) (omega arith) ∙ rw (a, p .store (omega arith) (omega arith)) (sym (sets-append (s .store) (s .at) b c));
     }
 
-wrote-byte : (b : ℕ) {s : Sink} → Line s → Wrote (b ∷ []) 0 s (putByte b s)
+wrote-byte : (b : ℕ) {s : Writer} → LineWriter s → Wrote (b ∷ []) 0 s (putByte b s)
 unfolding putByte
 wrote-byte b {s} l =
     record {
@@ -60,30 +60,30 @@ wrote-byte b {s} l =
       store = λ h h′. refl;
     }
 
-store-spaced : (ws : List (List ℕ)) → storeBy true ws ≡ spaced ws
-unfolding storeBy spaced
+store-spaced : (ws : List (List ℕ)) → storeBy true ws ≡ spacedWords ws
+unfolding storeBy spacedWords
 store-spaced [] = refl
 store-spaced (w ∷ ws) = ap (λ (r : List ℕ). bytes " " ++ (w ++ r)) (store-spaced ws)
 
-emitAll-spaced : (ws : List (List ℕ)) (s : Sink) → emitAll ws s .spaced ≡ s .spaced
+emitAll-spaced : (ws : List (List ℕ)) (s : Writer) → emitAll ws s .spaced ≡ s .spaced
 unfolding emitAll emit
 emitAll-spaced [] s = refl
 emitAll-spaced (w ∷ ws) s = emitAll-spaced ws (emit w s)
 
-wrote-words : (ws : List (List ℕ)) {s : Sink} → Line s → Wrote (spaced ws) (length ws) s (emitAll ws s)
+wrote-words : (ws : List (List ℕ)) {s : Writer} → LineWriter s → Wrote (spacedWords ws) (length ws) s (emitAll ws s)
 wrote-words ws {s} l =
-    let e : storeBy (s .spaced) ws ≡ spaced ws = ap (λ (g : Bool). storeBy g ws) (l .spaced) ∙ store-spaced ws in
-    let a : emitAll ws s .at ≡ min (s .at + length (spaced ws)) top = rw e at (emitAll-at ws s (l .at)) in
-    let w : emitAll ws s .words ≡ min (s .words + length ws) top = emitAll-words ws s (l .words) in
+    let e : storeBy (s .spaced) ws ≡ spacedWords ws = ap (λ (g : Bool). storeBy g ws) (l .spaced) ∙ store-spaced ws in
+    let a : emitAll ws s .at ≡ min (s .at + length (spacedWords ws)) usizeMax = rw e at (emitAll-at ws s (l .at)) in
+    let w : emitAll ws s .words ≡ min (s .words + length ws) usizeMax = emitAll-words ws s (l .words) in
     record {
       line = record { spaced = emitAll-spaced ws s ∙ l .spaced; at = omega arith; words = omega arith };
       at = a;
       words = w;
-      store = λ h h′. ap (λ (q : Sink). q .store) (emitAll-is ws s (rw e h) h′) ∙ ap (sets (s .store) (s .at)) e;
+      store = λ h h′. ap (λ (q : Writer). q .store) (emitAll-is ws s (rw e h) h′) ∙ ap (sets (s .store) (s .at)) e;
     }
 
 -- the line in the code's steps
-pub line-said : (e : SheetEntry) {b : ℕ} (σ ρ ς : Sink) {τ : Sink} → b ≡ mark (e .starts) → ρ ≡ putByte b σ → ς ≡ emitAll (wordsOf e) ρ
+pub line-said : (e : SheetEntry) {b : ℕ} (σ ρ ς : Writer) {τ : Writer} → b ≡ mark (e .starts) → ρ ≡ putByte b σ → ς ≡ emitAll (wordsOf e) ρ
     → τ ≡ putByte (code "\n") ς → τ ≡ lineTo e σ
 unfolding lineTo
 line-said e σ ρ ς m a w n = rw (n, w, a, m)
@@ -102,24 +102,24 @@ wrote-lines [] s l =
 wrote-lines (e ∷ es) s l = let a = wrote-line e s l in wrote-both a (wrote-lines es (lineTo e s) (a .line)) refl
 
 -- the lines of what is left, after the next one
-pub lines-on : (σ : Sink) {es fs : List SheetEntry} {x : SheetEntry} {τ z : Sink} → es ≡ x ∷ fs → τ ≡ lineTo x σ → linesTo es σ ≡ z → linesTo fs τ ≡ z
+pub lines-on : (σ : Writer) {es fs : List SheetEntry} {x : SheetEntry} {τ z : Writer} → es ≡ x ∷ fs → τ ≡ lineTo x σ → linesTo es σ ≡ z → linesTo fs τ ≡ z
 unfolding linesTo
 lines-on σ {fs = fs} e t h = ap (linesTo fs) t ∙ ap (λ (xs : List SheetEntry). linesTo xs σ) (sym e) ∙ h
 
 -- nothing is left
-pub lines-done : (σ : Sink) {es : List SheetEntry} {z : Sink} → es ≡ [] → linesTo es σ ≡ z → σ ≡ z
+pub lines-done : (σ : Writer) {es : List SheetEntry} {z : Writer} → es ≡ [] → linesTo es σ ≡ z → σ ≡ z
 unfolding linesTo
 lines-done σ e h = ap (λ (xs : List SheetEntry). linesTo xs σ) (sym e) ∙ h
 
 -- every word takes a byte, the space before it
-spaced-words : (ws : List (List ℕ)) → length ws ≤ length (spaced ws)
-unfolding spaced
+spaced-words : (ws : List (List ℕ)) → length ws ≤ length (spacedWords ws)
+unfolding spacedWords
 spaced-words [] = omega arith
-spaced-words (w ∷ ws) = omega (arith, spaced-words ws, length-append w (spaced ws))
+spaced-words (w ∷ ws) = omega (arith, spaced-words ws, length-append w (spacedWords ws))
 
 pub line-words : (e : SheetEntry) → length (wordsOf e) ≤ length (lineOf e)
 unfolding lineOf
-line-words e = omega (arith, spaced-words (wordsOf e), length-append (spaced (wordsOf e)) (bytes "\n"))
+line-words e = omega (arith, spaced-words (wordsOf e), length-append (spacedWords (wordsOf e)) (bytes "\n"))
 
 pub lines-words : (es : List SheetEntry) → countWords es ≤ length (flatten (map lineOf es))
 unfolding flatten countWords
@@ -127,15 +127,15 @@ lines-words [] = omega arith
 lines-words (e ∷ es) = omega (arith, line-words e, lines-words es, length-append (lineOf e) (flatten (map lineOf es)))
 
 -- from the start of a buffer on; every word takes a byte at least
-module _ {b : List ℕ} {n : ℕ} {f : Sink → Sink} (w : Writes b n f) (few : n ≤ length b) (x y x₀ y₀ : List ℕ) {p p₀ : Pen}
-    (start : p₀ ≡ spacedPen) (q : sink x y p ≡ f (sink x₀ y₀ p₀)) where
-  all-wrote : Wrote b n (sink x₀ y₀ spacedPen) (sink x y p)
+module _ {b : List ℕ} {n : ℕ} {f : Writer → Writer} (w : Writes b n f) (few : n ≤ length b) (x y x₀ y₀ : List ℕ) {p p₀ : Cursor}
+    (start : p₀ ≡ spacedCursor) (q : writer x y p ≡ f (writer x₀ y₀ p₀)) where
+  all-wrote : Wrote b n (writer x₀ y₀ spacedCursor) (writer x y p)
   all-wrote =
-      let e : sink x y p ≡ f (sink x₀ y₀ spacedPen) = q ∙ ap (λ (r : Pen). f (sink x₀ y₀ r)) start in
-      rw e (w (sink x₀ y₀ spacedPen) (record { spaced = refl; at = omega arith; words = omega arith }))
+      let e : writer x y p ≡ f (writer x₀ y₀ spacedCursor) = q ∙ ap (λ (r : Cursor). f (writer x₀ y₀ r)) start in
+      rw e (w (writer x₀ y₀ spacedCursor) (record { spaced = refl; at = omega arith; words = omega arith }))
 
   -- the pen tells whether a buffer of so many bytes is too short: no buffer is as long as the largest number
-  pub measured-lines : (room : ℕ) → room < top → ltb room (p .at) ≡ ltb room (length b)
+  pub measured-lines : (room : ℕ) → room < usizeMax → ltb room (p .at) ≡ ltb room (length b)
   measured-lines room h =
       let a = all-wrote .at in
       ⊎-elim (λ (l : length b ≤ room). le-ltb room (p .at) (omega arith) ∙ sym (le-ltb room (length b) l))
@@ -143,7 +143,7 @@ module _ {b : List ℕ} {n : ℕ} {f : Sink → Sink} (w : Writes b n f) (few : 
       (le-or-lt (length b) room)
 
   -- a buffer that is long enough holds them, and the pen has their counts
-  pub written-lines : ltb (length x₀) (length b) ≡ false → length x₀ < top → (p .at ≡ length b) × (p .words ≡ n) × (x ≡ over b x₀)
+  pub written-lines : ltb (length x₀) (length b) ≡ false → length x₀ < usizeMax → (p .at ≡ length b) × (p .words ≡ n) × (x ≡ overwrite b x₀)
   written-lines g small =
       let fits : length b ≤ length x₀ = ltb-false _ _ g in
       let a = all-wrote .at in

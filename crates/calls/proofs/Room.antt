@@ -11,27 +11,27 @@ use lib.Dec.{ltb, eqb}
 use lib.ListN.{length, take, drop, getD, length-append, length-take, length-drop, length-map}
 use lib.Seq.{getD-drop}
 use borrow.Author.Tests.{not-false, le-ltb, ltb-true}
-use Rattle.lists.specs.Bytes.{bytes, keep, lower, ends, all, any, span, same, sameBy}
+use Rattle.lists.specs.Bytes.{bytes, filterb, toLower, endsWith, all, any, span, same, sameBy}
 use Rattle.lists.specs.Classes.{whitespace, nonWhitespace, except}
 use Rattle.lists.proofs.Recursion.{recur-induct, cond-elim}
-use Rattle.lists.proofs.Scan.{keep-le, span-some, span-fails}
+use Rattle.lists.proofs.Scan.{filterb-le, span-some, span-fails}
 use Rattle.lists.proofs.Sets.{le-or-lt}
 use Rattle.admit.specs.Utf8.{utf8}
-use Rattle.admit.specs.Refusals.{number, firstDue, textLimit, textTests, Call, call}
+use Rattle.admit.specs.Refusals.{refusalNumber, firstRefusal, textLimit, textTests, Call, call}
 use Rattle.admit.specs.declared.Refusal.the-variants.{NotUtf8}
 use Rattle.admit.proofs.Calls.{call-number}
-use Rattle.lexicon.proofs.Laws.{word-short}
-use Rattle.units.specs.Units.{unitAbbreviations, abbreviations, unitWords, before, unitIndex, unitWord, wordNumbers}
-use Rattle.units.proofs.Laws.{word-row, miss-word}
+use Rattle.vocabulary.proofs.Laws.{word-short}
+use Rattle.units.specs.Units.{unitAbbreviations, abbreviations, unitWords, indexOf, unitIndex, unitWord, wordNumbers}
+use Rattle.units.proofs.Laws.{unit-word-number, miss-word}
 use Rattle.shapes.specs.Shapes.{isDottedAbbrev, isCommaInt, isTime, isLeadingZeroDigits, isDigits, isDouble, isOrdinal, splitOnce, unitAt, hasUnit, unitPart}
 use Rattle.shapes.specs.Times.{endsInMeridiem, isMeridiemTime, timeParts, timeOf, separatorAt}
-use Rattle.tokens.specs.Tokens.{Token, afterWhite, afterRun, firstToken, tokens, parts as fourParts}
+use Rattle.tokens.specs.Tokens.{Token, afterWhitespace, afterRun, firstToken, tokens, tokenParts as fourParts}
 use Rattle.tokens.proofs.Forward.{tokens-none, tokens-more, tokens-induct, first-joined, size-parts}
 use Rattle.tokens.proofs.Walks.{first-white, tokens-past}
-use Rattle.sentences.specs.Sentences.{starts}
+use Rattle.sentences.specs.Sentences.{sentenceStarts}
 use Rattle.numerals.specs.Words.{Word, other, spell, spelled}
 use Rattle.numerals.specs.Cardinal.{cardinal}
-use Rattle.numerals.proofs.Room.{width, RoomFor, Number, together, cardinal-room, digits-room, ordinal-room}
+use Rattle.numerals.proofs.Room.{width, RoomFor, RoomForNumber, together, cardinal-room, digits-room, ordinal-room}
 use Rattle.letters.specs.Letters.{letters}
 use Rattle.years.specs.Year.{year}
 use Rattle.years.proofs.Room.{year-room}
@@ -40,44 +40,44 @@ use Rattle.letters.proofs.Room.{letters-room}
 use Rattle.rows.specs.Rows.{Reading, by, perCent, clock, hourOf, minuteOf, clockLetters, readStep, readWith, read}
 use Rattle.rows.specs.declared.Row.the-variants.{NoRow}
 use Rattle.rows.proofs.Laws.{ends-some, shorter}
-use Rattle.sheets.specs.Sheet.{SheetEntry, entriesOf, wordsOf, spaced, lineOf, callSheet}
-use Rattle.sheets.specs.Calls.{nameLimit, anyLong, sheetTests, SheetGiven, sheetCall}
-use Rattle.entries.specs.Find.{named}
+use Rattle.call_spec.specs.Sheet.{SheetEntry, entriesOf, wordsOf, spacedWords, lineOf, callSheet}
+use Rattle.call_spec.specs.Calls.{nameLimit, anyLong, sheetTests, SheetResult, sheetCall}
+use Rattle.entries.specs.Find.{entryNamed}
 use Rattle.calls.specs.Answers.{asSheet}
 use Rattle.calls.specs.declared.CalledSheet.{CalledSheet}
 
-spaced-width : (ws : List Word) → length (spaced (spelled ws)) ≡ width ws
-unfolding spaced spelled
+spaced-width : (ws : List Word) → length (spacedWords (spelled ws)) ≡ width ws
+unfolding spacedWords spelled
 spaced-width [] = omega arith
-spaced-width (w ∷ ws) = omega (arith, length-append (spell w) (spaced (spelled ws)), spaced-width ws)
+spaced-width (w ∷ ws) = omega (arith, length-append (spell w) (spacedWords (spelled ws)), spaced-width ws)
 
 unit-short : (u : List ℕ) → length (unitWord u) ≤ 11 * length u
-unfolding abbreviations unitAbbreviations unitWords before sameBy
+unfolding abbreviations unitAbbreviations unitWords indexOf sameBy
 unit-short [] = omega arith
 unit-short (b ∷ u) =
     let t = b ∷ u in
     let l : length (unitWord t) ≤ 11 =
     ⊎-elim (λ (h : 22 ≤ unitIndex t). rw (miss-word t h) (omega arith))
-    (λ (h : unitIndex t < 22). rw (word-row (unitIndex t) h) at (word-short (getD wordNumbers (unitIndex t) 0)))
+    (λ (h : unitIndex t < 22). rw (unit-word-number (unitIndex t) h) at (word-short (getD wordNumbers (unitIndex t) 0)))
     (le-or-lt 22 (unitIndex t)) in
     omega arith
 
 unit-room : (s : List ℕ) → hasUnit s ≡ true → RoomFor (length s) (cardinal (take (unitAt s) s) ++ other (unitWord (unitPart s)) ∷ [])
 unfolding spell
 unit-room s e =
-    let number = take (unitAt s) s in
+    let refusalNumber = take (unitAt s) s in
     let unit = drop (unitAt s) s in
-    rw e (omega (arith, together (cardinal number) (other (unitWord unit) ∷ []), cardinal-room number, unit-short unit, length-take (unitAt s) s, length-drop (unitAt s) s))
+    rw e (omega (arith, together (cardinal refusalNumber) (other (unitWord unit) ∷ []), cardinal-room refusalNumber, unit-short unit, length-take (unitAt s) s, length-drop (unitAt s) s))
 
 -- an hour, a minute and a byte between them
-clock-room : (hour minute : List ℕ) (n : ℕ) → length hour + length minute < n → Number n (clock hour minute)
+clock-room : (hour minute : List ℕ) (n : ℕ) → length hour + length minute < n → RoomForNumber n (clock hour minute)
 unfolding clock
 clock-room hour minute n l =
-    let P : List Word → Type 0 = λ ws. Number n (cardinal hour ++ ws) in
-    let number = cardinal-room hour in
+    let P : List Word → Type 0 = λ ws. RoomForNumber n (cardinal hour ++ ws) in
+    let refusalNumber = cardinal-room hour in
     cond-elim P (same minute (bytes "00")) (λ e. omega (arith, together (cardinal hour) [])) (λ e. omega (arith, together (cardinal hour) (year minute), year-room minute))
 
-time-room : (s : List ℕ) → isTime s ≡ true → Number (length s) (clock (hourOf s) (minuteOf s))
+time-room : (s : List ℕ) → isTime s ≡ true → RoomForNumber (length s) (clock (hourOf s) (minuteOf s))
 unfolding splitOnce
 time-room s e =
     let n = span (except (code ":")) s in
@@ -104,7 +104,7 @@ read-room word short = recur-induct (λ s g. RoomFor (length s) (g .words)) (by 
     step f s h =
         let P : Reading → Type 0 = λ g. RoomFor (length s) (g .words) in
         cond-elim P (eqb (length s) 0) (λ e. omega arith) (λ e.
-        cond-elim P (isDottedAbbrev s) (λ e. omega (arith, letters-room (keep (except (code ".")) s), keep-le (except (code ".")) s)) (λ e.
+        cond-elim P (isDottedAbbrev s) (λ e. omega (arith, letters-room (filterb (except (code ".")) s), filterb-le (except (code ".")) s)) (λ e.
         cond-elim P (isCommaInt s) (λ e. omega (arith, cardinal-room s)) (λ e.
         cond-elim P (isTime s) (λ e. omega (arith, time-room s e)) (λ e.
         cond-elim P (isMeridiemTime s) (meridiem-room s) (λ e.
@@ -112,17 +112,17 @@ read-room word short = recur-induct (λ s g. RoomFor (length s) (g .words)) (by 
         cond-elim P (isDigits s) (λ e. omega (arith, cardinal-room s)) (λ e.
         cond-elim P (isDouble s) (λ e. real-room s) (λ e.
         cond-elim P (isOrdinal s) (λ e. omega (arith, ordinal-room (take (length s - 2) s), length-take (length s - 2) s)) (λ e.
-        cond-elim P (ends (code "%") s) (λ e.
-        let before = take (length s - 1) s in
+        cond-elim P (endsWith (code "%") s) (λ e.
+        let indexOf = take (length s - 1) s in
         let l = shorter s (ends-some (code "%") s e) in
-        omega (arith, together (f before .words) perCent, h before l)) (λ e.
+        omega (arith, together (f indexOf .words) perCent, h indexOf l)) (λ e.
         cond-elim P (hasUnit s) (unit-room s) (λ e. omega (arith, short s))))))))))))
 
 pub line-fits : (e : SheetEntry) → length (lineOf e) ≤ 11 * (length (e .name) + 1)
 unfolding lineOf
 line-fits e =
-    let r = read-room (map lower) (λ s. omega (arith, length-map s lower)) (e .name) in
-    omega (arith, spaced-width (read (e .name) .words), length-append (spaced (wordsOf e)) (bytes "\n"))
+    let r = read-room (map toLower) (λ s. omega (arith, length-map s toLower)) (e .name) in
+    omega (arith, spaced-width (read (e .name) .words), length-append (spacedWords (wordsOf e)) (bytes "\n"))
 
 -- ---- the names of a text
 
@@ -131,21 +131,21 @@ nameRoom [] = 0
 nameRoom (t ∷ ts) = length (t .name) + 1 + nameRoom ts
 
 -- whitespace stands before every token but the first, so each has a byte besides its name
-abbrev Roomy : List ℕ → Type 0
-Roomy s = (nameRoom (tokens s) ≤ length s + 1) × (0 < span whitespace s → nameRoom (tokens s) ≤ length s)
+abbrev FitsNames : List ℕ → Type 0
+FitsNames s = (nameRoom (tokens s) ≤ length s + 1) × (0 < span whitespace s → nameRoom (tokens s) ≤ length s)
 
 -- after a run comes whitespace, or nothing
 white-after : (s : List ℕ) → 0 < length (afterRun s) → 0 < span whitespace (afterRun s)
 white-after s h =
-    let t = afterWhite s in
+    let t = afterWhitespace s in
     let n = span nonWhitespace t in
     let e : getD (drop n t) 0 0 ≡ getD t n 0 = getD-drop n t 0 0 ∙ ap (λ (k : ℕ). getD t k 0) (add-zero n) in
     span-some whitespace (drop n t) h (ap whitespace e ∙ not-false (whitespace (getD t n 0)) (span-fails nonWhitespace t (omega (arith, length-drop n t))))
 
-names-room : (s : List ℕ) → Roomy s
+names-room : (s : List ℕ) → FitsNames s
 unfolding nameRoom all
 names-room =
-    tokens-induct Roomy (λ s e. rw (tokens-none s e) (omega arith, λ h. omega arith))
+    tokens-induct FitsNames (λ s e. rw (tokens-none s e) (omega arith, λ h. omega arith))
     (λ s e i.
     let t = firstToken s in
     let r = afterRun s in
@@ -163,31 +163,31 @@ unfolding entriesOf flatten nameRoom
 lines-room [] ts = omega arith
 lines-room (b ∷ bs) [] = omega arith
 lines-room (b ∷ bs) (t ∷ ts) =
-    let e = named b (t .name) in
+    let e = entryNamed b (t .name) in
     omega (arith, line-fits e, lines-room bs ts, length-append (lineOf e) (flatten (map lineOf (entriesOf bs ts))))
 
 pub sheet-room : (s : List ℕ) → length (callSheet s) ≤ 11 * (length s + 1)
-sheet-room s = omega (arith, lines-room (starts (tokens s)) (tokens s), names-room s .0)
+sheet-room s = omega (arith, lines-room (sentenceStarts (tokens s)) (tokens s), names-room s .0)
 
 -- a name is no longer than its text
-no-long : (bs : List Bool) (ts : List Token) → nameRoom ts ≤ nameLimit + 1 → anyLong (entriesOf bs ts) ≡ false
+none-long : (bs : List Bool) (ts : List Token) → nameRoom ts ≤ nameLimit + 1 → anyLong (entriesOf bs ts) ≡ false
 unfolding any entriesOf nameRoom
-no-long [] ts h = refl
-no-long (b ∷ bs) [] h = refl
-no-long (b ∷ bs) (t ∷ ts) h = rw (le-ltb nameLimit (length (t .name)) (omega arith), no-long bs ts (omega arith))
+none-long [] ts h = refl
+none-long (b ∷ bs) [] h = refl
+none-long (b ∷ bs) (t ∷ ts) h = rw (le-ltb nameLimit (length (t .name)) (omega arith), none-long bs ts (omega arith))
 
 -- so a sheet that is no longer than a name may be, in a buffer of 11 bytes for each of its bytes and one more, is refused only where
 -- it isn't UTF-8
-pub broken-alone : (s old new : List ℕ) {r : CalledSheet} → asSheet r new ≡ sheetCall s old → length s ≤ nameLimit → 11 * (length s + 1) ≤ length old
-    → (r .refusal ≡ 0 → ⊥) → r .refusal ≡ number NotUtf8
+pub only-not-utf8 : (s old new : List ℕ) {r : CalledSheet} → asSheet r new ≡ sheetCall s old → length s ≤ nameLimit → 11 * (length s + 1) ≤ length old
+    → (r .refusal ≡ 0 → ⊥) → r .refusal ≡ refusalNumber NotUtf8
 unfolding sheetCall textTests any
-broken-alone s old new {r} e h k z =
-    let due : r .refusal ≡ firstDue (sheetTests s (ltb (length old) (length (callSheet s)))) =
-    ap (λ (c : Call SheetGiven). c .refusal) e ∙ call-number _ _ _ in
+only-not-utf8 s old new {r} e h k z =
+    let due : r .refusal ≡ firstRefusal (sheetTests s (ltb (length old) (length (callSheet s)))) =
+    ap (λ (c : Call SheetResult). c .refusal) e ∙ call-number _ _ _ in
     go (utf8 s)
     (rw (
       le-ltb textLimit (length s) (omega arith),
-      no-long (starts (tokens s)) (tokens s) (omega (arith, names-room s .0)),
+      none-long (sentenceStarts (tokens s)) (tokens s) (omega (arith, names-room s .0)),
       le-ltb (length old) (length (callSheet s)) (omega (arith, sheet-room s)),
     ) at due)
   where
@@ -196,5 +196,5 @@ broken-alone s old new {r} e h k z =
     go false q = q
 
 -- what the code tests before it measures
-pub surely-fits : (n m room : ℕ) → n ≤ 11 * (m + 1) → m < room / 11 → false ≡ ltb room n
-surely-fits n m room h k = sym (le-ltb room n (omega arith))
+pub room-suffices : (n m room : ℕ) → n ≤ 11 * (m + 1) → m < room / 11 → false ≡ ltb room n
+room-suffices n m room h k = sym (le-ltb room n (omega arith))

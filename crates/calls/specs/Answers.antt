@@ -3,14 +3,14 @@ use mathlib.Core.List.{List}
 use Prim.Native.Nat.{ℕ}
 use Rattle.admit.specs.Refusals.{Call}
 use Rattle.rows.specs.Rows.{rowNumber, rowSign}
-use Rattle.sheets.specs.Calls.{SheetGiven, EntryGiven}
+use Rattle.call_spec.specs.Calls.{SheetResult, EntryResult}
 use Rattle.calls.specs.declared.CalledSheet.{CalledSheet}
 use Rattle.calls.specs.declared.CalledEntry.{CalledEntry}
 
-abbrev pub asSheet : CalledSheet → List ℕ → Call SheetGiven
+abbrev pub asSheet : CalledSheet → List ℕ → Call SheetResult
 asSheet r buffer = record { refusal = r .refusal; value = record { tokens = r .tokens; words = r .words; bytes = r .bytes; buffer = buffer } }
 
-abbrev pub asEntry : CalledEntry → List ℕ → Call EntryGiven
+abbrev pub asEntry : CalledEntry → List ℕ → Call EntryResult
 asEntry r buffer =
     record {
       refusal = r .refusal;

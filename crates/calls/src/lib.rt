@@ -4,28 +4,28 @@ use admit::refusal_of;
 use entries::NAME_BYTES;
 use entries::find_entry;
 use entries::has_long_name;
-use leaf::Said;
+use entry_reader::read_name;
 use lists::part;
-use reader::read_name;
+use row_readers::NameRead;
 use rows::Entry;
 use rows::Row;
 use sentences::State;
 use sentences::starts_sentence;
-use sink::Pen;
-use sink::byte;
 use tokens::token_at;
+use word_writer::Cursor;
+use word_writer::put_byte;
 ghost use mathlib.Core.Path.{_≡_};
 ghost use Prim.Native.Nat.{_<_};
 ghost use lib.Dec.{ltb};
 ghost use lib.ListN.{length};
-ghost use Rattle.sink.specs.Sink.{top, sink};
-ghost use Rattle.sink.specs.Words.{spacedPen};
+ghost use Rattle.word_writer.specs.Writer.{usizeMax, writer};
+ghost use Rattle.word_writer.specs.Words.{spacedCursor};
 ghost use Rattle.tokens.specs.Tokens.{tokens};
-ghost use Rattle.sheets.specs.Sheet.{entries, mark, lineOf, callSheet};
-ghost use Rattle.sheets.specs.Calls.{sheetCall, entryCall};
-ghost use Rattle.entries.specs.Find.{named};
+ghost use Rattle.call_spec.specs.Sheet.{entries, mark, lineOf, callSheet};
+ghost use Rattle.call_spec.specs.Calls.{sheetCall, entryCall};
+ghost use Rattle.entries.specs.Find.{entryNamed};
 ghost use Rattle.calls.specs.Answers.{asSheet, asEntry};
-ghost use Rattle.calls.specs.Walk.{refusedSheet, refusedEntry, linesTo, Lined, nameCall};
+ghost use Rattle.calls.specs.Walk.{refusedSheet, refusedEntry, linesTo, SaysLine, nameCall};
 
 // The most bytes of a call sheet, for each byte of the sheet and one more.
 const GROWTH: usize = 11;
@@ -48,9 +48,9 @@ pub struct CalledEntry {
 }
 
 // A walk over all entries: how many there are, and the pen after their lines.
-struct Walked {
+struct SheetWalk {
     tokens: usize,
-    pen: Pen,
+    cursor: Cursor,
 }
 
 fn mark_of(starts: bool) -> u8
@@ -60,47 +60,47 @@ fn mark_of(starts: bool) -> u8
 }
 
 // Writes an entry's line.
-fn say_line(starts: bool, name: &[u8], out: &mut [u8], table: &mut [u8], pen: Pen) -> Said
-    ensures { λ r. ⌜ Lined (named starts (now (name .entry))) (sink (now (out .entry)) (now (table .entry)) pen) (sink (now (out .exit)) (now (table .exit)) (r .pen)) (r .entry .row) ⌝ }
+fn say_line(starts: bool, name: &[u8], out: &mut [u8], table: &mut [u8], cursor: Cursor) -> NameRead
+    ensures { λ r. ⌜ SaysLine (entryNamed starts (now (name .entry))) (writer (now (out .entry)) (now (table .entry)) cursor) (writer (now (out .exit)) (now (table .exit)) (r .cursor)) (r .entry .row) ⌝ }
 {
-    let p = byte(out, pen, mark_of(starts));
+    let p = put_byte(out, cursor, mark_of(starts));
     let said = read_name(name, out, table, p);
     let entry = said.entry;
-    let last = said.pen;
-    Said {
+    let last = said.cursor;
+    NameRead {
         entry,
-        pen: byte(out, last, b'\n'),
+        cursor: put_byte(out, last, b'\n'),
     }
 }
 
 // Writes the lines of all entries.
-fn say_sheet(s: &[u8], out: &mut [u8], table: &mut [u8]) -> Walked
+fn say_sheet(s: &[u8], out: &mut [u8], table: &mut [u8]) -> SheetWalk
     ensures { λ r. ⌜ (r .tokens ≡ length (tokens (now (s .entry))))
-        × (sink (now (out .exit)) (now (table .exit)) (r .pen) ≡ linesTo (entries (now (s .entry))) (sink (now (out .entry)) (now (table .entry)) spacedPen)) ⌝ }
+        × (writer (now (out .exit)) (now (table .exit)) (r .cursor) ≡ linesTo (entries (now (s .entry))) (writer (now (out .entry)) (now (table .entry)) spacedCursor)) ⌝ }
 {
     let mut state = State::fresh();
-    let mut pen = Pen::spaced();
+    let mut cursor = Cursor::spaced();
     let mut tokens = 0;
     let mut at = 0;
     while at < s.len() {
         let t = token_at(s, at);
         if t.none_left(s.len()) {
-            return Walked { tokens, pen };
+            return SheetWalk { tokens, cursor };
         }
         let name = part(s, t.name, t.punctuation);
         let starts = starts_sentence(state, part(s, at, t.prepunctuation), name);
-        let said = say_line(starts, name, out, table, pen);
-        pen = said.pen;
+        let said = say_line(starts, name, out, table, cursor);
+        cursor = said.cursor;
         state = State::kept(name, part(s, t.punctuation, t.end));
         tokens += 1;
         at = t.end;
     }
-    Walked { tokens, pen }
+    SheetWalk { tokens, cursor }
 }
 
 // Whether a buffer of so many bytes is smaller than the call sheet. Where it may be, the lines are measured.
 fn is_sheet_short(s: &[u8], room: usize) -> bool
-    requires { ⌜ room < top ⌝ }
+    requires { ⌜ room < usizeMax ⌝ }
     ensures { λ r. ⌜ r ≡ ltb room (length (callSheet (now (s .entry)))) ⌝ }
 {
     if s.len() < room / GROWTH {
@@ -109,7 +109,7 @@ fn is_sheet_short(s: &[u8], room: usize) -> bool
     let mut no_out = [0u8; 0];
     let mut no_table = [0u8; 0];
     let lines = say_sheet(s, &mut no_out, &mut no_table);
-    room < lines.pen.at
+    room < lines.cursor.at
 }
 
 fn sheet_refused(refusal: u8) -> CalledSheet
@@ -127,9 +127,9 @@ fn sheet_refused(refusal: u8) -> CalledSheet
 pub fn call_sheet(s: &[u8], out: &mut [u8]) -> CalledSheet
     ensures { λ r. ⌜ asSheet r (now (out .exit)) ≡ sheetCall (now (s .entry)) (now (out .entry)) ⌝ }
 {
-    let due = refusal_of(s);
-    if due != 0 {
-        return sheet_refused(due);
+    let refusal = refusal_of(s);
+    if refusal != 0 {
+        return sheet_refused(refusal);
     }
     if has_long_name(s) {
         return sheet_refused(Refusal::NameTooLong.number());
@@ -142,8 +142,8 @@ pub fn call_sheet(s: &[u8], out: &mut [u8]) -> CalledSheet
     CalledSheet {
         refusal: 0,
         tokens: written.tokens,
-        words: written.pen.words,
-        bytes: written.pen.at,
+        words: written.cursor.words,
+        bytes: written.cursor.at,
     }
 }
 
@@ -160,21 +160,21 @@ fn entry_refused(refusal: u8) -> CalledEntry
 
 // Whether a buffer of so many bytes is smaller than an entry's line. Where it may be, the line is measured.
 fn is_line_short(starts: bool, name: &[u8], room: usize) -> bool
-    requires { ⌜ room < top ⌝ }
-    ensures { λ r. ⌜ r ≡ ltb room (length (lineOf (named starts (now (name .entry))))) ⌝ }
+    requires { ⌜ room < usizeMax ⌝ }
+    ensures { λ r. ⌜ r ≡ ltb room (length (lineOf (entryNamed starts (now (name .entry))))) ⌝ }
 {
     if name.len() < room / GROWTH {
         return false;
     }
     let mut no_out = [0u8; 0];
     let mut no_table = [0u8; 0];
-    let line = say_line(starts, name, &mut no_out, &mut no_table, Pen::spaced());
-    room < line.pen.at
+    let line = say_line(starts, name, &mut no_out, &mut no_table, Cursor::spaced());
+    room < line.cursor.at
 }
 
 // Calls an entry of this name.
 fn call_name(starts: bool, name: &[u8], out: &mut [u8]) -> CalledEntry
-    ensures { λ r. ⌜ asEntry r (now (out .exit)) ≡ nameCall (named starts (now (name .entry))) (now (out .entry)) ⌝ }
+    ensures { λ r. ⌜ asEntry r (now (out .exit)) ≡ nameCall (entryNamed starts (now (name .entry))) (now (out .entry)) ⌝ }
 {
     if NAME_BYTES < name.len() {
         return entry_refused(Refusal::NameTooLong.number());
@@ -183,13 +183,13 @@ fn call_name(starts: bool, name: &[u8], out: &mut [u8]) -> CalledEntry
         return entry_refused(Refusal::BufferTooShort.number());
     }
     let mut no_table = [0u8; 0];
-    let called = say_line(starts, name, out, &mut no_table, Pen::spaced());
+    let called = say_line(starts, name, out, &mut no_table, Cursor::spaced());
     let entry = called.entry;
     CalledEntry {
         refusal: 0,
         entry,
-        words: called.pen.words,
-        bytes: called.pen.at,
+        words: called.cursor.words,
+        bytes: called.cursor.at,
     }
 }
 

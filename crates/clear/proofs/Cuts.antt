@@ -8,9 +8,9 @@ use native.Mathlib.Omega.{arith}
 use lib.ListN.{length, take, drop, getD, length-append}
 use lib.Seq.{take-at, drop-at, getD-at, split-at, drop-length}
 use borrow.Author.Tests.{eqb-true, eq-eqb, ne-eqb}
-use Rattle.lists.specs.Bytes.{all, span, sameBy, same, starts, ends, lead, after}
+use Rattle.lists.specs.Bytes.{all, span, sameBy, same, startsWith, endsWith, takeWhile, dropWhile}
 use Rattle.lists.specs.Classes.{digit}
-use Rattle.lists.proofs.Scan.{span-append, apart, starts-first}
+use Rattle.lists.proofs.Scan.{span-append, class-apart, startsWith-first}
 use Rattle.lists.proofs.Table.{same-true}
 use Rattle.shapes.specs.Shapes.{isDigits}
 use Rattle.shapes.proofs.Laws.{digits-all}
@@ -34,9 +34,9 @@ same-false s t n = go (same s t) refl
 -- ---- at the front
 
 -- a text that starts with c is c and the rest
-pub starts-cons : (c : ℕ) (s : List ℕ) → starts c s ≡ true → c ∷ drop 1 s ≡ s
+pub starts-cons : (c : ℕ) (s : List ℕ) → startsWith c s ≡ true → c ∷ drop 1 s ≡ s
 starts-cons c [] h = absurd (false≢true h)
-starts-cons c (b ∷ s) h = let e : b ≡ c = eqb-true b c (sym (starts-first c b s) ∙ h) in rw e
+starts-cons c (b ∷ s) h = let e : b ≡ c = eqb-true b c (sym (startsWith-first c b s) ∙ h) in rw e
 
 -- ---- at the end
 
@@ -50,7 +50,7 @@ module _ (s t : List ℕ) (n : ℕ) (e : length t ≡ n) where
   cut-back = drop-at s t (length (s ++ t) - n) (omega (arith, length-append s t))
 
 -- a text that ends in c is the rest and c
-pub ends-snoc : (c : ℕ) (s : List ℕ) → ends c s ≡ true → take (length s - 1) s ++ (c ∷ []) ≡ s
+pub ends-snoc : (c : ℕ) (s : List ℕ) → endsWith c s ≡ true → take (length s - 1) s ++ (c ∷ []) ≡ s
 ends-snoc c [] h = absurd (false≢true h)
 ends-snoc c (b ∷ s) h =
     let e : suc (length s) - 1 ≡ length s = omega arith in
@@ -58,7 +58,7 @@ ends-snoc c (b ∷ s) h =
     rw e (sym (rw (l, drop-length s) at (split-at (b ∷ s) (length s) 0 (omega arith))))
 
 -- and the other way round
-pub snoc-ends : (c : ℕ) (s : List ℕ) → ends c (s ++ (c ∷ [])) ≡ true
+pub snoc-ends : (c : ℕ) (s : List ℕ) → endsWith c (s ++ (c ∷ [])) ≡ true
 snoc-ends c s =
     let n = length-append s (c ∷ []) in
     rw (ne-eqb (length (s ++ (c ∷ []))) 0 (omega arith), getD-at s c [] 0 (length (s ++ (c ∷ [])) - 1) (omega arith)) (eq-eqb c c refl)
@@ -71,21 +71,21 @@ module _ (p : ℕ → Bool) (s t : List ℕ) (h : all p s ≡ true) (z : span p 
   span-seam = span-append p s t ∙ rw (h, z) (add-zero (length s))
 
   -- what it passed is the first text
-  pub lead-seam : lead p (s ++ t) ≡ s
+  pub lead-seam : takeWhile p (s ++ t) ≡ s
   lead-seam = take-at s t _ (sym span-seam)
 
   -- what is left is the second
-  pub after-seam : after p (s ++ t) ≡ t
+  pub after-seam : dropWhile p (s ++ t) ≡ t
   after-seam = drop-at s t _ (sym span-seam)
 
 -- ---- digits
 
 -- a byte that is no digit is not the first of digits
-pub starts-digits : (c : ℕ) (s t : List ℕ) → digit c ≡ false → isDigits s ≡ true → starts c (s ++ t) ≡ false
+pub starts-digits : (c : ℕ) (s t : List ℕ) → digit c ≡ false → isDigits s ≡ true → startsWith c (s ++ t) ≡ false
 unfolding isDigits all
 starts-digits c [] t n h = absurd (false≢true h)
-starts-digits c (b ∷ s) t n h = starts-first c b (s ++ t) ∙ apart digit c b n (and-eq-true-iff (digit b) (all digit s) .0 (digits-all (b ∷ s) h) .0)
+starts-digits c (b ∷ s) t n h = startsWith-first c b (s ++ t) ∙ class-apart digit c b n (and-eq-true-iff (digit b) (all digit s) .0 (digits-all (b ∷ s) h) .0)
 
 -- also where nothing follows them
-pub digits-alone : (c : ℕ) (s : List ℕ) → digit c ≡ false → isDigits s ≡ true → starts c s ≡ false
+pub digits-alone : (c : ℕ) (s : List ℕ) → digit c ≡ false → isDigits s ≡ true → startsWith c s ≡ false
 digits-alone c s n h = rw (append-nil s) at (starts-digits c s [] n h)

@@ -13,9 +13,9 @@ use borrow.Author.Tests.{le-ltb, not-true}
 use Rattle.lists.specs.Bytes.{any, same, listed}
 use Rattle.lists.proofs.Sets.{le-or-lt}
 use Rattle.lists.proofs.Table.{below, same-true}
-use Rattle.lexicon.specs.Lexicon.{wordOf}
-use Rattle.lexicon.proofs.Laws.{lexicon}
-use Rattle.units.specs.Units.{unitAbbreviations, abbreviations, unitWords, before, wordNumbers}
+use Rattle.vocabulary.specs.Vocabulary.{wordOf}
+use Rattle.vocabulary.proofs.Laws.{unfoldVocabulary}
+use Rattle.units.specs.Units.{unitAbbreviations, abbreviations, unitWords, indexOf, wordNumbers}
 use Rattle.clear.specs.Clear.{tableWords}
 
 -- two tests agree
@@ -24,51 +24,51 @@ agree true b t = sym t
 agree false b t = sym (not-true b t)
 
 -- there is a row k, and it is the first with its word
-abbrev firstRow : ℕ → Bool
-firstRow k = ltb k (length abbreviations) && eqb (before (getD unitWords k []) unitWords) k
+abbrev isFirstAbbreviation : ℕ → Bool
+isFirstAbbreviation k = ltb k (length abbreviations) && eqb (indexOf (getD unitWords k []) unitWords) k
 
 -- there is a row k, and its word's number is larger than that of the row before
 abbrev newWord : ℕ → Bool
 newWord k = ltb k 22 && ltb (getD wordNumbers (k - 1) 0) (getD wordNumbers k 0)
 
 -- row 0 has a word that no row before it has
-pub first-zero : true ≡ firstRow 0
-unfolding lexicon before unitWords abbreviations unitAbbreviations
+pub first-zero : true ≡ isFirstAbbreviation 0
+unfolding unfoldVocabulary indexOf unitWords abbreviations unitAbbreviations
 first-zero = refl
 
-first : ℕ → Bool
-first k = cond (newWord (suc k)) (firstRow (suc k)) (not (firstRow (suc k)))
+firstTest : ℕ → Bool
+firstTest k = cond (newWord (suc k)) (isFirstAbbreviation (suc k)) (not (isFirstAbbreviation (suc k)))
 
 -- rows with one word stand together, and the words in the lexicon's order
-pub first-row : (k : ℕ) → (k ≡ 0 → ⊥) → newWord k ≡ firstRow k
-unfolding first lexicon wordNumbers before unitWords abbreviations unitAbbreviations
-first-row zero h = absurd (h refl)
-first-row (suc k) h =
+pub first-abbreviation : (k : ℕ) → (k ≡ 0 → ⊥) → newWord k ≡ isFirstAbbreviation k
+unfolding firstTest unfoldVocabulary wordNumbers indexOf unitWords abbreviations unitAbbreviations
+first-abbreviation zero h = absurd (h refl)
+first-abbreviation (suc k) h =
     ⊎-elim (λ (g : 21 ≤ k). rw (le-ltb (suc k) 22 (omega arith)))
-    (λ (g : k < 21). agree (newWord (suc k)) (firstRow (suc k)) (below first 21 refl k g)) (le-or-lt 21 k)
+    (λ (g : k < 21). agree (newWord (suc k)) (isFirstAbbreviation (suc k)) (below firstTest 21 refl k g)) (le-or-lt 21 k)
 
 -- where the lexicon has the words of the tables
-abbrev numberAt : ℕ → ℕ
-numberAt i = cond (ltb i 30) (16 + i) (cond (ltb i 60) (16 + 34 + (i - 30)) (46 + (63 - i)))
+abbrev tableWordNumber : ℕ → ℕ
+tableWordNumber i = cond (ltb i 30) (16 + i) (cond (ltb i 60) (16 + 34 + (i - 30)) (46 + (63 - i)))
 
-tabled : ℕ → Bool
-tabled i = same (wordOf (numberAt i)) (getD tableWords i [])
+tableWordTest : ℕ → Bool
+tableWordTest i = same (wordOf (tableWordNumber i)) (getD tableWords i [])
 
 -- each word of the tables stands in the lexicon
-pub table-row : (i : ℕ) → i < 63 → wordOf (numberAt i) ≡ getD tableWords i []
-unfolding tabled lexicon tableWords
-table-row i h = same-true _ _ (below tabled 63 refl i h)
+pub table-word : (i : ℕ) → i < 63 → wordOf (tableWordNumber i) ≡ getD tableWords i []
+unfolding tableWordTest unfoldVocabulary tableWords
+table-word i h = same-true _ _ (below tableWordTest 63 refl i h)
 
-tables : length tableWords ≡ 63
-unfolding tableWords lexicon
-tables = refl
+tableWords-length : length tableWords ≡ 63
+unfolding tableWords unfoldVocabulary
+tableWords-length = refl
 
 -- the look-up from word i on: this word, or those after it
 pub listed-more : (s : List ℕ) (i : ℕ) → i < 63 → listed s (drop i tableWords) ≡ same (getD tableWords i []) s || listed s (drop (i + 1) tableWords)
 unfolding any
-listed-more s i h = rw (add-one, drop-cons tableWords i [] (rw tables h))
+listed-more s i h = rw (add-one, drop-cons tableWords i [] (rw tableWords-length h))
 
 -- past the last word nothing is found
 pub listed-end : (s : List ℕ) (i : ℕ) → 63 ≤ i → listed s (drop i tableWords) ≡ false
 unfolding any
-listed-end s i h = rw (drop-of-length-le tableWords {i = i} (rw tables h))
+listed-end s i h = rw (drop-of-length-le tableWords {i = i} (rw tableWords-length h))

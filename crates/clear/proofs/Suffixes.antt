@@ -16,7 +16,7 @@ use Rattle.lists.proofs.Recursion.{cond-elim}
 use Rattle.lists.proofs.Scan.{last-span}
 use Rattle.lists.proofs.Table.{below, same-true}
 use Rattle.units.proofs.Laws.{unit-in-table}
-use Rattle.units.specs.Units.{unitAbbreviations, abbreviations, unitWords, before, unitIndex, isUnit, unitWord}
+use Rattle.units.specs.Units.{unitAbbreviations, abbreviations, unitWords, indexOf, unitIndex, isUnit, unitWord}
 use Rattle.shapes.specs.Shapes.{unitAt}
 use Rattle.shapes.proofs.Laws.{digits-all}
 use Rattle.clear.specs.Clear.{plain, suffix, Clear, is-ordinal, is-unit}
@@ -52,13 +52,13 @@ ordinal-test s h =
 -- ---- units
 
 -- the text that a look-up finds
-before-at : (t : List ℕ) (ss : List (List ℕ)) → before t ss < length ss → getD ss (before t ss) [] ≡ t
-unfolding before
-before-at t [] h = absurd (omega arith)
-before-at t (s ∷ ss) h = go (same s t) refl h (before-at t ss)
+indexOf-at : (t : List ℕ) (ss : List (List ℕ)) → indexOf t ss < length ss → getD ss (indexOf t ss) [] ≡ t
+unfolding indexOf
+indexOf-at t [] h = absurd (omega arith)
+indexOf-at t (s ∷ ss) h = go (same s t) refl h (indexOf-at t ss)
   where
-    go : (b : Bool) → same s t ≡ b → cond b 0 (suc (before t ss)) < suc (length ss)
-        → (before t ss < length ss → getD ss (before t ss) [] ≡ t) → getD (s ∷ ss) (cond b 0 (suc (before t ss))) [] ≡ t
+    go : (b : Bool) → same s t ≡ b → cond b 0 (suc (indexOf t ss)) < suc (length ss)
+        → (indexOf t ss < length ss → getD ss (indexOf t ss) [] ≡ t) → getD (s ∷ ss) (cond b 0 (suc (indexOf t ss))) [] ≡ t
     go true e h i = same-true s t e
     go false e h i = i (omega arith)
 
@@ -72,26 +72,26 @@ pub test-unit : (s : List ℕ) → isUnitClear s ≡ true → Clear s
 test-unit s h =
     let u = drop (unitAt s) s in
     let p = and-eq-true-iff (plain (take (unitAt s) s)) (isFirstUnit u) .0 h in
-    let q = and-eq-true-iff (isUnit u) (eqb (before (unitWord u) unitWords) (unitIndex u)) .0 (p .1) in
+    let q = and-eq-true-iff (isUnit u) (eqb (indexOf (unitWord u) unitWords) (unitIndex u)) .0 (p .1) in
     let l : unitIndex u < 22 = ltb-true _ _ (sym (unit-in-table u) ∙ q .0) in
-    let e : getD abbreviations (unitIndex u) [] ≡ u = before-at u abbreviations (rw (columns .0) l) in
+    let e : getD abbreviations (unitIndex u) [] ≡ u = indexOf-at u abbreviations (rw (columns .0) l) in
     rw (e, take-append-drop) at (is-unit (take (unitAt s) s) (unitIndex u) (p .0) (rw (columns .1) l) (eqb-true _ _ (q .1)))
 
 -- a row's abbreviation stands in no row before it, and has no digit
-pub record UnitRow (k : ℕ) : Type 0 where
+pub record UnitFacts (k : ℕ) : Type 0 where
   pub first : unitIndex (getD abbreviations k []) ≡ k
   pub front : span digit (getD abbreviations k []) ≡ 0
   pub last : afterLast digit (getD abbreviations k []) ≡ 0
 
-unitRow : ℕ → Bool
-unitRow k = let u = getD abbreviations k [] in eqb (unitIndex u) k && eqb (span digit u) 0 && eqb (afterLast digit u) 0
+unitFacts : ℕ → Bool
+unitFacts k = let u = getD abbreviations k [] in eqb (unitIndex u) k && eqb (span digit u) 0 && eqb (afterLast digit u) 0
 
 -- every row of the table is such
-pub unit-row : (k : ℕ) → k < length unitWords → UnitRow k
-unfolding unitRow abbreviations unitWords unitAbbreviations before sameBy span afterLast
-unit-row k l =
+pub unit-facts : (k : ℕ) → k < length unitWords → UnitFacts k
+unfolding unitFacts abbreviations unitWords unitAbbreviations indexOf sameBy span afterLast
+unit-facts k l =
     let u = getD abbreviations k [] in
-    let y = and-eq-true-iff (eqb (unitIndex u) k && eqb (span digit u) 0) (eqb (afterLast digit u) 0) .0 (below unitRow 22 refl k l) in
+    let y = and-eq-true-iff (eqb (unitIndex u) k && eqb (span digit u) 0) (eqb (afterLast digit u) 0) .0 (below unitFacts 22 refl k l) in
     let z = and-eq-true-iff (eqb (unitIndex u) k) (eqb (span digit u) 0) .0 (y .0) in
     record { first = eqb-true _ _ (z .0); front = eqb-true _ _ (z .1); last = eqb-true _ _ (y .1) }
 
@@ -99,12 +99,12 @@ unit-row k l =
 pub unit-at : (s : List ℕ) (k : ℕ) → plain s ≡ true → k < length unitWords → unitAt (s ++ getD abbreviations k []) ≡ length s
 unit-at s k h l =
     let u = getD abbreviations k [] in
-    let r = unit-row k l in
+    let r = unit-facts k l in
     let d = digits-all s (plain-digits s h) in
     last-span digit (s ++ u) ∙ rw (after-seam digit s u d (r .front), span-seam digit s u d (r .front), r .last) (add-zero (length s))
 
 -- plain digits with a unit pass the test, if no row before has the unit's word
-pub unit-test : (s : List ℕ) (k : ℕ) → plain s ≡ true → k < length unitWords → before (getD unitWords k []) unitWords ≡ k
+pub unit-test : (s : List ℕ) (k : ℕ) → plain s ≡ true → k < length unitWords → indexOf (getD unitWords k []) unitWords ≡ k
     → isUnitClear (s ++ getD abbreviations k []) ≡ true
 unit-test s k h l w =
     let u = getD abbreviations k [] in
@@ -115,7 +115,7 @@ unit-test s k h l w =
       drop-at s u (unitAt (s ++ u)) (sym e),
       h,
       unit-in-table u,
-      unit-row k l .first,
+      unit-facts k l .first,
       lt-ltb k 22 r,
       w,
     )

@@ -10,9 +10,9 @@ use lib.Dec.{leb, ltb}
 use lib.ListN.{length, drop, getD, length-append, take-append-drop}
 use lib.Seq.{take-at, drop-at, split-at, drop-drop}
 use borrow.Author.Tests.{eqb-true, ltb-true, lt-ltb, leb-true, le-leb, not-true, not-false}
-use Rattle.lists.specs.Bytes.{bytes, span, sameBy, same, lead, after}
+use Rattle.lists.specs.Bytes.{bytes, span, sameBy, same, takeWhile, dropWhile}
 use Rattle.lists.specs.Classes.{digit, except}
-use Rattle.lists.proofs.Scan.{span-fails, all-within, all-span, span-before, apart}
+use Rattle.lists.proofs.Scan.{span-fails, all-within, all-span, span-before, class-apart}
 use Rattle.lists.proofs.Table.{same-true}
 use Rattle.lists.proofs.Bools.{or-true-elim}
 use Rattle.shapes.specs.Shapes.{isDigits, isNDigits, splitOnce, isHourMinute, isTime}
@@ -24,10 +24,10 @@ use Rattle.clear.proofs.Figures.{plain-digits}
 
 -- before the colon, and after it
 abbrev hour : List ℕ → List ℕ
-hour s = lead (except (code ":")) s
+hour s = takeWhile (except (code ":")) s
 
 abbrev minute : List ℕ → List ℕ
-minute s = drop 1 (after (except (code ":")) s)
+minute s = drop 1 (dropWhile (except (code ":")) s)
 
 -- an hour and a minute, with a colon between
 record Timed (s : List ℕ) : Type 0 where
@@ -57,7 +57,7 @@ test-plain s h =
 
 -- a digit is no colon
 pub digit-colon : (b : ℕ) → digit b ≡ true → except (code ":") b ≡ true
-digit-colon b h = rw (apart digit (code ":") b refl h)
+digit-colon b h = rw (class-apart digit (code ":") b refl h)
 
 -- a clear hour is plain and has one or two digits
 pub hour-parts : (h : List ℕ) → isHour h ≡ true → (plain h ≡ true) × (length h ≤ 2)

@@ -1,10 +1,10 @@
 -- The two classes of bytes that one scan serves. Definitions only; no public promise is made of them.
 use mathlib.Core.Bool.{Bool, true, false}
 use Prim.Native.Nat.{ℕ}
-use Rattle.lists.specs.Bytes.{small}
-use Rattle.clear.specs.Test.{capitalOrPoint}
+use Rattle.lists.specs.Bytes.{lowercase}
+use Rattle.clear.specs.Test.{uppercaseOrPoint}
 
 -- capitals and points, or small letters
 abbrev pub ofClass : Bool → ℕ → Bool
-ofClass true = capitalOrPoint
-ofClass false = small
+ofClass true = uppercaseOrPoint
+ofClass false = lowercase

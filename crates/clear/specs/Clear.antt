@@ -6,9 +6,9 @@ use Prim.Native.Nat.{ℕ, _-_, _≤_, _<_}
 use Prim.Native.Char.{code}
 use lib.Dec.{leb, ltb, eqb}
 use lib.ListN.{length, getD}
-use Rattle.lists.specs.Bytes.{bytes, all, listed, capital, small}
-use Rattle.lexicon.specs.Lexicon.{ones, teens, tens, ordinalOnes, ordinalTeens, ordinalTens}
-use Rattle.units.specs.Units.{abbreviations, unitWords, before}
+use Rattle.lists.specs.Bytes.{bytes, all, listed, uppercase, lowercase}
+use Rattle.vocabulary.specs.Vocabulary.{ones, teens, tens, ordinalOnes, ordinalTeens, ordinalTens}
+use Rattle.units.specs.Units.{abbreviations, unitWords, indexOf}
 use Rattle.shapes.specs.Shapes.{isDigits, isNDigits, isLeadingZeroDigits}
 use Rattle.numerals.specs.Words.{Word, spelled}
 use Rattle.numerals.specs.Cardinal.{cardinal}
@@ -19,9 +19,9 @@ abbrev pub plain : List ℕ → Bool
 plain s = isDigits s && not (isLeadingZeroDigits s)
 
 -- "optional minus"
-pub data Minus : List ℕ → Type 0 where
-  no-minus : Minus []
-  a-minus : Minus (bytes "-")
+pub data OptionalMinus : List ℕ → Type 0 where
+  no-minus : OptionalMinus []
+  a-minus : OptionalMinus (bytes "-")
 
 -- "optional point with one or more digits"
 pub data Fraction : List ℕ → Type 0 where
@@ -42,7 +42,7 @@ pub data Exponent : List ℕ → Type 0 where
 -- the first two kinds: "one or more digits"; "optional minus, plain digits, optional point .., optional "e" .."
 pub data Number : List ℕ → Type 0 where
   is-digits : (s : List ℕ) → isDigits s ≡ true → Number s
-  is-figure : (m a f x : List ℕ) → Minus m → plain a ≡ true → Fraction f → Exponent x → Number (m ++ (a ++ (f ++ x)))
+  is-figure : (m a f x : List ℕ) → OptionalMinus m → plain a ≡ true → Fraction f → Exponent x → Number (m ++ (a ++ (f ++ x)))
 
 -- "plain hour of 1 or 2 digits"
 abbrev pub isHour : List ℕ → Bool
@@ -67,9 +67,9 @@ suffix s =
     (suffixFor (getD s (length s - 1) 0))
 
 -- capitals "with single dots between"
-unfoldable pub dotted : ℕ → List ℕ → List ℕ
-dotted c [] = c ∷ []
-dotted c (d ∷ cs) = c ∷ code "." ∷ dotted d cs
+unfoldable pub dottedInitials : ℕ → List ℕ → List ℕ
+dottedInitials c [] = c ∷ []
+dottedInitials c (d ∷ cs) = c ∷ code "." ∷ dottedInitials d cs
 
 -- "the words of the tables in numbers.rs": ONES, TEENS, TENS, ORDINAL_ONES, ORDINAL_TEENS, ORDINAL_TENS, SCALES
 unfoldable pub tableWords : List (List ℕ)
@@ -77,8 +77,8 @@ tableWords =
     map bytes (ones ++ (teens ++ (tens ++ (ordinalOnes ++ (ordinalTeens ++ (ordinalTens ++ ("billion" ∷ "million" ∷ "thousand" ∷ [])))))))
 
 -- "any word that alone is an answer": some text is read as the one word w
-abbrev pub Alone : (List ℕ → List Word) → List ℕ → Type 0
-Alone f w = (t : List ℕ) × (spelled (f t) ≡ w ∷ [])
+abbrev pub SingleAnswer : (List ℕ → List Word) → List ℕ → Type 0
+SingleAnswer f w = (t : List ℕ) × (spelled (f t) ≡ w ∷ [])
 
 -- a clear name
 pub data Clear : List ℕ → Type 0 where
@@ -93,9 +93,9 @@ pub data Clear : List ℕ → Type 0 where
   -- "plain digits with the right suffix"
   is-ordinal : (s : List ℕ) → plain s ≡ true → Clear (s ++ suffix s)
   -- "plain digits with the first abbreviation of a unit word in table order": row k is the first with its word
-  is-unit : (s : List ℕ) (k : ℕ) → plain s ≡ true → k < length unitWords → before (getD unitWords k []) unitWords ≡ k → Clear (s ++ getD abbreviations k [])
+  is-unit : (s : List ℕ) (k : ℕ) → plain s ≡ true → k < length unitWords → indexOf (getD unitWords k []) unitWords ≡ k → Clear (s ++ getD abbreviations k [])
   -- "two or more capitals with single dots between"
-  is-initials : (c d : ℕ) (cs : List ℕ) → all capital (c ∷ d ∷ cs) ≡ true → Clear (dotted c (d ∷ cs))
+  is-initials : (c d : ℕ) (cs : List ℕ) → all uppercase (c ∷ d ∷ cs) ≡ true → Clear (dottedInitials c (d ∷ cs))
   -- "two or more letters a to z, other than the words of the tables in numbers.rs and any word that alone is an answer of
   -- `cardinal` or `ordinal`"
-  is-word : (s : List ℕ) → 2 ≤ length s → all small s ≡ true → listed s tableWords ≡ false → (Alone cardinal s → ⊥) → (Alone ordinal s → ⊥) → Clear s
+  is-word : (s : List ℕ) → 2 ≤ length s → all lowercase s ≡ true → listed s tableWords ≡ false → (SingleAnswer cardinal s → ⊥) → (SingleAnswer ordinal s → ⊥) → Clear s

@@ -6,39 +6,39 @@ use Prim.Native.Nat.{ℕ, _-_}
 use Prim.Native.Char.{code}
 use lib.Dec.{leb, eqb}
 use lib.ListN.{length, take, drop}
-use Rattle.lists.specs.Bytes.{bytes, all, span, same, capital, small, starts, ends, stripPrefix, lead, after, listed}
+use Rattle.lists.specs.Bytes.{bytes, all, span, same, uppercase, lowercase, startsWith, endsWith, stripPrefix, takeWhile, dropWhile, listed}
 use Rattle.lists.specs.Classes.{digit, except}
-use Rattle.units.specs.Units.{unitWords, before, unitIndex, isUnit, unitWord}
+use Rattle.units.specs.Units.{unitWords, indexOf, unitIndex, isUnit, unitWord}
 use Rattle.shapes.specs.Shapes.{isDigits, stripSign, isTime, isDottedAbbrev, unitAt}
 use Rattle.clear.specs.Clear.{plain, suffix, tableWords}
 
 -- past the digits of a figure: an exponent, or nothing
 unfoldable pub isExponentClear : List ℕ → Bool
-isExponentClear s = cond (starts (code "e") s) (plain (stripSign (drop 1 s))) (eqb (length s) 0)
+isExponentClear s = cond (startsWith (code "e") s) (plain (stripSign (drop 1 s))) (eqb (length s) 0)
 
 -- past its whole digits: a point with digits or none, and an exponent
 unfoldable pub isFractionClear : List ℕ → Bool
 isFractionClear s =
     let f : ℕ = span digit (drop 1 s) in
-    cond (starts (code ".") s) (not (eqb f 0) && isExponentClear (drop f (drop 1 s))) (isExponentClear s)
+    cond (startsWith (code ".") s) (not (eqb f 0) && isExponentClear (drop f (drop 1 s))) (isExponentClear s)
 
 -- past its minus
 unfoldable pub isFigureClear : List ℕ → Bool
-isFigureClear s = plain (lead digit s) && isFractionClear (after digit s)
+isFigureClear s = plain (takeWhile digit s) && isFractionClear (dropWhile digit s)
 
 -- the first two kinds
 abbrev pub isNumberClear : List ℕ → Bool
 isNumberClear s = isDigits s || isFigureClear (stripPrefix (code "-") s)
 
 abbrev pub isPercentClear : List ℕ → Bool
-isPercentClear s = ends (code "%") s && isNumberClear (take (length s - 1) s)
+isPercentClear s = endsWith (code "%") s && isNumberClear (take (length s - 1) s)
 
 -- a time whose hour is plain; `isTime` has the rest
 abbrev pub isPlainTime : List ℕ → Bool
-isPlainTime s = isTime s && plain (lead (except (code ":")) s)
+isPlainTime s = isTime s && plain (takeWhile (except (code ":")) s)
 
 abbrev pub isTimeClear : List ℕ → Bool
-isTimeClear s = isPlainTime s && not (same (drop 1 (after (except (code ":")) s)) (bytes "00"))
+isTimeClear s = isPlainTime s && not (same (drop 1 (dropWhile (except (code ":")) s)) (bytes "00"))
 
 -- all but the last two bytes, and those
 abbrev pub butLastTwo : List ℕ → List ℕ
@@ -55,19 +55,19 @@ isOrdinalClear s = plain (butLastTwo s) && same (lastTwo s) (suffix (butLastTwo 
 
 -- u is the first abbreviation of its word
 abbrev pub isFirstUnit : List ℕ → Bool
-isFirstUnit u = isUnit u && eqb (before (unitWord u) unitWords) (unitIndex u)
+isFirstUnit u = isUnit u && eqb (indexOf (unitWord u) unitWords) (unitIndex u)
 
 abbrev pub isUnitClear : List ℕ → Bool
 isUnitClear s = plain (take (unitAt s) s) && isFirstUnit (drop (unitAt s) s)
 
-abbrev pub capitalOrPoint : ℕ → Bool
-capitalOrPoint b = capital b || eqb b (code ".")
+abbrev pub uppercaseOrPoint : ℕ → Bool
+uppercaseOrPoint b = uppercase b || eqb b (code ".")
 
 abbrev pub isInitialsClear : List ℕ → Bool
-isInitialsClear s = isDottedAbbrev s && not (ends (code ".") s) && all capitalOrPoint s
+isInitialsClear s = isDottedAbbrev s && not (endsWith (code ".") s) && all uppercaseOrPoint s
 
 abbrev pub isWordClear : List ℕ → Bool
-isWordClear s = leb 2 (length s) && all small s && not (listed s tableWords)
+isWordClear s = leb 2 (length s) && all lowercase s && not (listed s tableWords)
 
 unfoldable pub isClear : List ℕ → Bool
 isClear s =

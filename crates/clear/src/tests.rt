@@ -1,8 +1,5 @@
 // The tests of a clear name on names that are admitted already, kind by kind in document 01's order. Each is total on all
 // bytes, so nothing is demanded.
-use lexicon::HUNDRED;
-use lexicon::ONES;
-use lexicon::ORDINAL;
 use lists::DIGIT;
 use lists::EXACT;
 use lists::NOT;
@@ -11,8 +8,8 @@ use lists::back;
 use lists::byte_at;
 use lists::ends_with;
 use lists::front;
-use lists::minus;
 use lists::same;
+use lists::saturating_sub;
 use lists::span_of;
 use lists::starts_with;
 use lists::strip_prefix;
@@ -24,9 +21,12 @@ use shapes::is_dotted_abbrev;
 use shapes::is_leading_zero_digits;
 use shapes::is_time;
 use shapes::strip_sign;
-use units::UNITS;
+use units::UNIT_COUNT;
 use units::unit_index;
 use units::word_number;
+use vocabulary::HUNDRED;
+use vocabulary::ONES;
+use vocabulary::ORDINAL;
 ghost use mathlib.Core.Path.{_≡_};
 ghost use mathlib.Core.Bool.{_&&_};
 ghost use mathlib.Core.List.{[]};
@@ -34,16 +34,16 @@ ghost use Prim.Native.Nat.{_<_};
 ghost use lib.Dec.{ltb, eqb};
 ghost use lib.ListN.{length, getD};
 ghost use Rattle.lists.specs.Bytes.{all, same as sameText, listed};
-ghost use Rattle.lexicon.specs.Lexicon.{wordOf};
-ghost use Rattle.units.specs.Units.{abbreviations, unitWords, before};
+ghost use Rattle.vocabulary.specs.Vocabulary.{wordOf};
+ghost use Rattle.units.specs.Units.{abbreviations, unitWords, indexOf};
 ghost use Rattle.clear.specs.Clear.{plain, suffix, suffixFor, tableWords};
 ghost use Rattle.clear.specs.Test.{isExponentClear, isFractionClear, isFigureClear, isNumberClear, isPercentClear, isPlainTime, isTimeClear, isMeridiemClear, isOrdinalClear, isUnitClear, isInitialsClear, isWordClear, isClear};
 ghost use Rattle.clear.specs.Classes.{ofClass};
 
 // The two classes of a scan.
-const SMALL: bool = false;
+const LOWERCASE: bool = false;
 
-const CAPITAL_OR_POINT: bool = true;
+const UPPERCASE_OR_POINT: bool = true;
 
 // The words of the tables of numbers.rs.
 const TABLE_WORDS: usize = 63;
@@ -139,10 +139,10 @@ fn is_suffix(s: &[u8], t: &[u8]) -> bool
     ensures { λ r. ⌜ r ≡ sameText (now (t .entry)) (suffix (now (s .entry))) ⌝ }
 {
     let n = s.len();
-    if (1 < n) & (byte_at(s, minus(n, 2)) == b'1') {
+    if (1 < n) & (byte_at(s, saturating_sub(n, 2)) == b'1') {
         return same(EXACT, t, b"th");
     }
-    is_suffix_for(byte_at(s, minus(n, 1)), t)
+    is_suffix_for(byte_at(s, saturating_sub(n, 1)), t)
 }
 
 pub fn is_ordinal_clear(s: &[u8]) -> bool
@@ -153,28 +153,28 @@ pub fn is_ordinal_clear(s: &[u8]) -> bool
 }
 
 // Whether row k of the units is the first with its word. Rows with one word stand together.
-fn is_first_row(k: u8) -> bool
-    ensures { λ r. ⌜ r ≡ (ltb k (length abbreviations) && eqb (before (getD unitWords k []) unitWords) k) ⌝ }
+fn is_first_abbreviation(k: u8) -> bool
+    ensures { λ r. ⌜ r ≡ (ltb k (length abbreviations) && eqb (indexOf (getD unitWords k []) unitWords) k) ⌝ }
 {
     if k == 0 {
         return true;
     }
-    (k < UNITS) & (word_number(k - 1) < word_number(k))
+    (k < UNIT_COUNT) & (word_number(k - 1) < word_number(k))
 }
 
 pub fn is_unit_clear(s: &[u8]) -> bool
     ensures { λ r. ⌜ r ≡ isUnitClear (now (s .entry)) ⌝ }
 {
     let at = after_last(DIGIT, 0, s);
-    is_plain(front(s, at)) & is_first_row(unit_index(tail(s, at)))
+    is_plain(front(s, at)) & is_first_abbreviation(unit_index(tail(s, at)))
 }
 
 fn of_class(class: bool, b: u8) -> bool
     ensures { λ r. ⌜ r ≡ ofClass class b ⌝ }
 {
     match class {
-        CAPITAL_OR_POINT => ((b'A' <= b) & (b <= b'Z')) | (b == b'.'),
-        SMALL => (b'a' <= b) & (b <= b'z'),
+        UPPERCASE_OR_POINT => ((b'A' <= b) & (b <= b'Z')) | (b == b'.'),
+        LOWERCASE => (b'a' <= b) & (b <= b'z'),
     }
 }
 
@@ -195,7 +195,7 @@ fn all_letters(class: bool, s: &[u8]) -> bool
 pub fn is_initials_clear(s: &[u8]) -> bool
     ensures { λ r. ⌜ r ≡ isInitialsClear (now (s .entry)) ⌝ }
 {
-    is_dotted_abbrev(s) & !ends_with(s, b'.') & all_letters(CAPITAL_OR_POINT, s)
+    is_dotted_abbrev(s) & !ends_with(s, b'.') & all_letters(UPPERCASE_OR_POINT, s)
 }
 
 // The number, in the lexicon, of a word of the tables.
@@ -216,14 +216,14 @@ fn table_word(i: usize) -> usize
 }
 
 // Whether s is the word of a number in the lexicon.
-fn is_word(k: usize, s: &[u8]) -> bool
+fn is_vocabulary_word(k: usize, s: &[u8]) -> bool
     ensures { λ r. ⌜ r ≡ sameText (wordOf k) (now (s .entry)) ⌝ }
 {
-    if lexicon::size(k) != s.len() {
+    if vocabulary::word_len(k) != s.len() {
         return false;
     }
-    let row = lexicon::row(k);
-    same(EXACT, unpacked(&row), s)
+    let packed = vocabulary::packed(k);
+    same(EXACT, unpacked(&packed), s)
 }
 
 fn is_table_word(s: &[u8]) -> bool
@@ -231,7 +231,7 @@ fn is_table_word(s: &[u8]) -> bool
 {
     let mut i = 0;
     while i < TABLE_WORDS {
-        if is_word(table_word(i), s) {
+        if is_vocabulary_word(table_word(i), s) {
             return true;
         }
         i += 1;
@@ -243,7 +243,7 @@ pub fn is_word_clear(s: &[u8]) -> bool
     ensures { λ r. ⌜ r ≡ isWordClear (now (s .entry)) ⌝ }
 {
     // Any other name is not looked up.
-    if (2 <= s.len()) & all_letters(SMALL, s) {
+    if (2 <= s.len()) & all_letters(LOWERCASE, s) {
         return !is_table_word(s);
     }
     false

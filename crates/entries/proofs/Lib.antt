@@ -1,3 +1,3 @@
-pub mod Turns
+pub mod Loops
 pub mod Names
 pub mod Runs

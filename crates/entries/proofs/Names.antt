@@ -13,10 +13,10 @@ use Rattle.tokens.specs.declared.Places.{Places}
 use Rattle.tokens.proofs.Walks.{Next}
 use Rattle.sentences.specs.Sentences.{fresh, kept}
 use Rattle.sentences.specs.declared.State.{State}
-use Rattle.sentences.proofs.Kept.{marksFrom}
-use Rattle.sheets.specs.Sheet.{entriesOf, entries}
-use Rattle.sheets.specs.Calls.{nameLimit, anyLong}
-use Rattle.entries.proofs.Turns.{entriesFrom, from-fresh}
+use Rattle.sentences.proofs.Kept.{sentenceStartsFrom}
+use Rattle.call_spec.specs.Sheet.{entriesOf, entries}
+use Rattle.call_spec.specs.Calls.{nameLimit, anyLong}
+use Rattle.entries.proofs.Loops.{entriesFrom, from-fresh}
 
 -- whether a token has a long name
 abbrev pub longNames : List Token → Bool
@@ -24,7 +24,7 @@ longNames = any (λ (t : Token). ltb nameLimit (length (t .name)))
 
 -- the names of all tokens tell whether an entry is long
 long-from : (st : State) (ts : List Token) → longNames ts ≡ anyLong (entriesFrom st ts)
-unfolding any entriesOf marksFrom
+unfolding any entriesOf sentenceStartsFrom
 long-from st [] = refl
 long-from st (t ∷ ts) = ap (λ (r : Bool). ltb nameLimit (length (t .name)) || r) (long-from (kept (t .name) (t .punctuation)) ts)
 

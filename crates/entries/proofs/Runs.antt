@@ -16,8 +16,8 @@ use Rattle.lists.proofs.Sets.{le-or-lt}
 use Rattle.tokens.specs.Tokens.{firstToken, tokens}
 use Rattle.tokens.proofs.Forward.{firstSize, tokens-none, tokens-more, tokens-induct, first-size, size-parts, afterRun-drop}
 use Rattle.tokens.proofs.Walks.{first-white}
-use Rattle.sheets.specs.Sheet.{entries}
-use Rattle.sheets.specs.Calls.{nameLimit, anyLong}
+use Rattle.call_spec.specs.Sheet.{entries}
+use Rattle.call_spec.specs.Calls.{nameLimit, anyLong}
 use Rattle.entries.proofs.Names.{longNames, long-names}
 
 -- a scan stops at a byte that fails
@@ -32,9 +32,9 @@ abbrev pub LongRun : List ℕ → ℕ → Type 0
 LongRun s i = nameLimit < span nonWhitespace (drop i s)
 
 -- a long name makes its run one
-no-long : (s : List ℕ) → ((i : ℕ) → LongRun s i → ⊥) → longNames (tokens s) ≡ false
+no-long-name : (s : List ℕ) → ((i : ℕ) → LongRun s i → ⊥) → longNames (tokens s) ≡ false
 unfolding any
-no-long =
+no-long-name =
     tokens-induct (λ (s : List ℕ). ((i : ℕ) → LongRun s i → ⊥) → longNames (tokens s) ≡ false)
     (λ s e f. rw (tokens-none s e))
     (λ s e i f.
@@ -75,5 +75,5 @@ module _ (s : List ℕ) (at : ℕ) {k : ℕ} {l : List ℕ} (q : l ≡ take (at 
       absurd (omega (arith, b .0))) (le-or-lt (at + k) i)
 
 -- no run is left
-pub runs-end : (s : List ℕ) {at : ℕ} → length s - at ≤ nameLimit → RunsFrom s at → anyLong (entries s) ≡ false
-runs-end s h f = sym (long-names s) ∙ no-long s (λ i r. omega (arith, f i r, span-le nonWhitespace (drop i s), length-drop i s))
+pub long-runs-end : (s : List ℕ) {at : ℕ} → length s - at ≤ nameLimit → RunsFrom s at → anyLong (entries s) ≡ false
+long-runs-end s h f = sym (long-names s) ∙ no-long-name s (λ i r. omega (arith, f i r, span-le nonWhitespace (drop i s), length-drop i s))

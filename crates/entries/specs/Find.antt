@@ -5,27 +5,27 @@ use Prim.Native.Nat.{ℕ, _-_}
 use lib.Dec.{ltb}
 use lib.ListN.{length, take, drop}
 use Rattle.tokens.specs.Tokens.{tokens}
-use Rattle.sheets.specs.Sheet.{SheetEntry}
-use Rattle.sheets.specs.Calls.{entryAt}
+use Rattle.call_spec.specs.Sheet.{SheetEntry}
+use Rattle.call_spec.specs.Calls.{entryAt}
 use Rattle.entries.specs.declared.Found.{Found}
 
 -- the entry of this name, which starts a sentence or not
-abbrev pub named : Bool → List ℕ → SheetEntry
-named b n = record { starts = b; name = n }
+abbrev pub entryNamed : Bool → List ℕ → SheetEntry
+entryNamed b n = record { starts = b; name = n }
 
 -- whether it is there, and the entry, an empty one where it is not
-pub record Sought : Type 0 where
+pub record FoundEntry : Type 0 where
   pub found : Bool
   pub entry : SheetEntry
 
 -- entry k of s
-abbrev pub sought : List ℕ → ℕ → Sought
-sought s k = record { found = ltb k (length (tokens s)); entry = entryAt s k }
+abbrev pub foundEntry : List ℕ → ℕ → FoundEntry
+foundEntry s k = record { found = ltb k (length (tokens s)); entry = entryAt s k }
 
 -- an answer, with its name's bytes from the sheet
-abbrev pub asSought : List ℕ → Found → Sought
-asSought s r = record { found = r .found; entry = named (r .starts) (take (r .end - r .name) (drop (r .name) s)) }
+abbrev pub asFoundEntry : List ℕ → Found → FoundEntry
+asFoundEntry s r = record { found = r .found; entry = entryNamed (r .starts) (take (r .end - r .name) (drop (r .name) s)) }
 
 -- the answer where there is no such entry
-abbrev pub nowhere : Found
-nowhere = record { found = false; starts = false; name = 0; end = 0 }
+abbrev pub notFound : Found
+notFound = record { found = false; starts = false; name = 0; end = 0 }

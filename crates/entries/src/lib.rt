@@ -1,16 +1,16 @@
 // The entries of a sheet: whether a name is too long, and where an entry is. No words are said here.
 use lists::WHITESPACE;
 use lists::after_last;
-use lists::minus;
 use lists::part;
+use lists::saturating_sub;
 use sentences::State;
 use sentences::starts_sentence;
 use tokens::token_at;
 ghost use mathlib.Core.Path.{_≡_};
 ghost use mathlib.Core.Bool.{false};
-ghost use Rattle.sheets.specs.Sheet.{entries};
-ghost use Rattle.sheets.specs.Calls.{anyLong};
-ghost use Rattle.entries.specs.Find.{sought, asSought, nowhere};
+ghost use Rattle.call_spec.specs.Sheet.{entries};
+ghost use Rattle.call_spec.specs.Calls.{anyLong};
+ghost use Rattle.entries.specs.Find.{foundEntry, asFoundEntry, notFound};
 
 // The longest name that is called.
 pub const NAME_BYTES: usize = 4096;
@@ -55,7 +55,7 @@ pub fn has_long_name(s: &[u8]) -> bool
         if places.none_left(s.len()) {
             return false;
         }
-        if NAME_BYTES < minus(places.punctuation, places.name) {
+        if NAME_BYTES < saturating_sub(places.punctuation, places.name) {
             return true;
         }
         at = places.end;
@@ -63,8 +63,8 @@ pub fn has_long_name(s: &[u8]) -> bool
     false
 }
 
-fn nowhere() -> Found
-    ensures { λ r. ⌜ r ≡ nowhere ⌝ }
+fn not_found() -> Found
+    ensures { λ r. ⌜ r ≡ notFound ⌝ }
 {
     Found {
         found: false,
@@ -76,7 +76,7 @@ fn nowhere() -> Found
 
 // Finds entry number k.
 pub fn find_entry(s: &[u8], k: usize) -> Found
-    ensures { λ r. ⌜ asSought (now (s .entry)) r ≡ sought (now (s .entry)) k ⌝ }
+    ensures { λ r. ⌜ asFoundEntry (now (s .entry)) r ≡ foundEntry (now (s .entry)) k ⌝ }
 {
     let mut state = State::fresh();
     let mut n = 0;
@@ -84,7 +84,7 @@ pub fn find_entry(s: &[u8], k: usize) -> Found
     while at < s.len() {
         let token = token_at(s, at);
         if token.none_left(s.len()) {
-            return nowhere();
+            return not_found();
         }
         let name = part(s, token.name, token.punctuation);
         if n == k {
@@ -99,5 +99,5 @@ pub fn find_entry(s: &[u8], k: usize) -> Found
         n += 1;
         at = token.end;
     }
-    nowhere()
+    not_found()
 }

@@ -7,13 +7,13 @@ use Prim.Native.Char.{code}
 use native.Mathlib.Omega.{arith}
 use lib.ListN.{length, getD, length-map}
 use borrow.Author.Tests.{lt-leb}
-use Rattle.lists.specs.Bytes.{all, Every, lower, sameBy, onto}
+use Rattle.lists.specs.Bytes.{all, Every, toLower, sameBy, onto}
 use Rattle.lists.specs.Classes.{continuation}
 use Rattle.admit.specs.Utf8.{utf8, utf8Chars}
 use Rattle.admit.specs.Scalars.{encode, textOf}
 use Rattle.admit.proofs.Scalars.{encode-elim, tail-true, text-chars, utf8-scalars}
 use Rattle.numerals.specs.Words.{other, spell, spelled}
-use Rattle.letters.specs.Letters.{chars, letterWord, letters, lettered}
+use Rattle.letters.specs.Letters.{chars, letterWord, letters, characterWord}
 
 -- continuation bytes belong to the byte before them
 chars-run : (b : ℕ) (s r : List ℕ) → all continuation s ≡ true → continuation (getD r 0 0) ≡ false → chars (b ∷ s ++ r) ≡ (b ∷ s) ∷ chars r
@@ -53,28 +53,28 @@ chars-utf8 s h = let t = utf8-scalars s .0 h in rw (t .2) (chars-text (t .0) .0 
 -- ---- the words
 
 -- no byte above ASCII is lowered
-high : (s : List ℕ) → Every (λ b. 0x80 ≤ b) s → map lower s ≡ s
-high [] h = refl
-high (b ∷ s) h = let k : code "Z" < b = omega arith in ap₂ _∷_ (simp (lt-leb b (code "Z") k, and-false)) (high s (h .1))
+high-bytes-lower : (s : List ℕ) → Every (λ b. 0x80 ≤ b) s → map toLower s ≡ s
+high-bytes-lower [] h = refl
+high-bytes-lower (b ∷ s) h = let k : code "Z" < b = omega arith in ap₂ _∷_ (simp (lt-leb b (code "Z") k, and-false)) (high-bytes-lower s (h .1))
 
 -- the word of a character of several bytes, and of any
-several : (a b : ℕ) (s : List ℕ) → Every (λ b. 0x80 ≤ b) (a ∷ b ∷ s) → letterWord (a ∷ b ∷ s) ≡ lettered (a ∷ b ∷ s)
+several : (a b : ℕ) (s : List ℕ) → Every (λ b. 0x80 ≤ b) (a ∷ b ∷ s) → letterWord (a ∷ b ∷ s) ≡ characterWord (a ∷ b ∷ s)
 unfolding letterWord sameBy
-several a b s h = rw (high (a ∷ b ∷ s) h) (simp and-false)
+several a b s h = rw (high-bytes-lower (a ∷ b ∷ s) h) (simp and-false)
 
-letter-encode : (c : ℕ) → letterWord (encode c) ≡ lettered (encode c)
+letter-encode : (c : ℕ) → letterWord (encode c) ≡ characterWord (encode c)
 unfolding letterWord sameBy
 letter-encode c =
-    encode-elim (λ l. letterWord l ≡ lettered l) c (λ h. simp and-true) (λ h. several _ _ _ (omega arith)) (λ h. several _ _ _ (omega arith)) (λ h. several _ _ _ (omega arith))
+    encode-elim (λ l. letterWord l ≡ characterWord l) c (λ h. simp and-true) (λ h. several _ _ _ (omega arith)) (λ h. several _ _ _ (omega arith)) (λ h. several _ _ _ (omega arith))
 
 -- the words of a text of scalar values
-letters-text : (cs : List ℕ) → spelled (map (λ c. other (letterWord c)) (map encode cs)) ≡ map lettered (map encode cs)
+letters-text : (cs : List ℕ) → spelled (map (λ c. other (letterWord c)) (map encode cs)) ≡ map characterWord (map encode cs)
 unfolding spelled spell
 letters-text [] = refl
 letters-text (c ∷ cs) = ap₂ _∷_ (letter-encode c) (letters-text cs)
 
 -- a UTF-8 text has a word for each of its characters, and that is "_a" or the character lowered
-pub letters-utf8 : (s : List ℕ) → utf8 s ≡ true → spelled (letters s) ≡ map lettered (utf8Chars s)
+pub letters-utf8 : (s : List ℕ) → utf8 s ≡ true → spelled (letters s) ≡ map characterWord (utf8Chars s)
 unfolding letters
 letters-utf8 s h = let t = utf8-scalars s .0 h in rw (t .2, chars-text (t .0) .0, text-chars (t .0) (t .1)) (letters-text (t .0))
 

@@ -9,7 +9,7 @@ use native.Mathlib.Omega.{arith}
 use lib.ListN.{length, take, drop, getD, length-take, length-drop}
 use lib.Seq.{drop-drop, length-take-le}
 use borrow.Author.Tests.{eq-eqb, ne-eqb}
-use Rattle.lists.specs.Bytes.{bytes, lower, span, onto}
+use Rattle.lists.specs.Bytes.{bytes, toLower, span, onto}
 use Rattle.lists.specs.Classes.{continuation}
 use Rattle.lists.proofs.Scan.{span-le}
 use Rattle.numerals.specs.Words.{other, spell, spelled}
@@ -78,16 +78,16 @@ module _ (s : List ℕ) (i : ℕ) (h : i < length s) {t c : List ℕ} (g : t ≡
       ∙ ap₂ (λ (w l : List ℕ). letterWord w ∷ spelled (letters l)) (sym e) (ap₂ drop (sym size) g ∙ drop-drop (length c) i s)
 
 -- a character of one byte, and any other
-pub letter-a : (c : List ℕ) {l : ℕ} → length c ≡ 1 → l ≡ lower (getD c 0 0) → l ≡ code "a" → letterWord c ≡ bytes "_a"
+pub letter-a : (c : List ℕ) {l : ℕ} → length c ≡ 1 → l ≡ toLower (getD c 0 0) → l ≡ code "a" → letterWord c ≡ bytes "_a"
 unfolding letterWord
 letter-a [] n e a = absurd (omega arith)
-letter-a (b ∷ []) n e a = rw (eq-eqb (lower b) (code "a") (sym e ∙ a))
+letter-a (b ∷ []) n e a = rw (eq-eqb (toLower b) (code "a") (sym e ∙ a))
 letter-a (b ∷ d ∷ s) n e a = absurd (omega arith)
 
-pub letter-other : (c : List ℕ) {l : ℕ} → length c ≡ 1 → l ≡ lower (getD c 0 0) → (l ≡ code "a" → ⊥) → letterWord c ≡ l ∷ []
+pub letter-other : (c : List ℕ) {l : ℕ} → length c ≡ 1 → l ≡ toLower (getD c 0 0) → (l ≡ code "a" → ⊥) → letterWord c ≡ l ∷ []
 unfolding letterWord
 letter-other [] n e a = absurd (omega arith)
-letter-other (b ∷ []) {l} n e a = rw (ne-eqb (lower b) (code "a") (λ q. a (e ∙ q))) (ap (λ (x : ℕ). x ∷ []) (sym e))
+letter-other (b ∷ []) {l} n e a = rw (ne-eqb (toLower b) (code "a") (λ q. a (e ∙ q))) (ap (λ (x : ℕ). x ∷ []) (sym e))
 letter-other (b ∷ d ∷ s) n e a = absurd (omega arith)
 
 pub letter-whole : (c : List ℕ) → (length c ≡ 1 → ⊥) → letterWord c ≡ c

@@ -6,7 +6,7 @@ use Prim.Native.Char.{code}
 use native.Mathlib.Omega.{arith}
 use lib.Dec.{eqb}
 use lib.ListN.{length, getD, length-append, length-map}
-use Rattle.lists.specs.Bytes.{lower, onto}
+use Rattle.lists.specs.Bytes.{toLower, onto}
 use Rattle.lists.specs.Classes.{continuation}
 use Rattle.lists.proofs.Recursion.{cond-elim}
 use Rattle.numerals.specs.Words.{other, spell}
@@ -17,7 +17,7 @@ use Rattle.letters.proofs.LetterLaws.{chars-join}
 letter-short : (c : List ℕ) → length (letterWord c) ≤ 2 * length c
 unfolding letterWord
 letter-short [] = omega arith
-letter-short (b ∷ []) = cond-elim (λ (w : List ℕ). length w ≤ 2) (eqb (lower b) (code "a")) (λ e. omega arith) (λ e. omega arith)
+letter-short (b ∷ []) = cond-elim (λ (w : List ℕ). length w ≤ 2) (eqb (toLower b) (code "a")) (λ e. omega arith) (λ e. omega arith)
 letter-short (b ∷ c ∷ s) = omega arith
 
 letters-wide : (cs : List (List ℕ)) → width (map (λ c. other (letterWord c)) cs) ≤ length cs + 2 * length (flatten cs)

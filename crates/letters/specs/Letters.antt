@@ -5,7 +5,7 @@ use Prim.Native.Nat.{ℕ}
 use Prim.Native.Char.{code}
 use lib.Dec.{eqb}
 use lib.ListN.{getD}
-use Rattle.lists.specs.Bytes.{bytes, same, lower, onto}
+use Rattle.lists.specs.Bytes.{bytes, same, toLower, onto}
 use Rattle.lists.specs.Classes.{continuation}
 use Rattle.numerals.specs.Words.{Word, other}
 
@@ -18,12 +18,12 @@ chars (b ∷ s) = cond (continuation (getD s 0 0)) (onto b (chars s)) ((b ∷ []
 -- the letter a is the word _a, another ASCII character itself, A to Z lowered, and a character of several bytes itself
 unfoldable pub letterWord : List ℕ → List ℕ
 letterWord [] = []
-letterWord (b ∷ []) = cond (eqb (lower b) (code "a")) (bytes "_a") (lower b ∷ [])
+letterWord (b ∷ []) = cond (eqb (toLower b) (code "a")) (bytes "_a") (toLower b ∷ [])
 letterWord (b ∷ c ∷ s) = b ∷ c ∷ s
 
 unfoldable pub letters : List ℕ → List Word
 letters s = map (λ c. other (letterWord c)) (chars s)
 
 -- "_a" of the letter a in either case, else the character lowered
-abbrev pub lettered : List ℕ → List ℕ
-lettered c = cond (same (map lower c) (bytes "a")) (bytes "_a") (map lower c)
+abbrev pub characterWord : List ℕ → List ℕ
+characterWord c = cond (same (map toLower c) (bytes "a")) (bytes "_a") (map toLower c)

@@ -5,11 +5,11 @@ use lists::front;
 use lists::span_of;
 use lists::tail;
 use lists::to_lower;
-use sink::Pen;
-use sink::word;
+use word_writer::Cursor;
+use word_writer::put_word;
 ghost use mathlib.Core.Path.{_≡_};
 ghost use lib.ListN.{take};
-ghost use Rattle.sink.specs.Sink.{sink, emit, emitAll};
+ghost use Rattle.word_writer.specs.Writer.{writer, emit, emitAll};
 ghost use Rattle.numerals.specs.Words.{spelled};
 ghost use Rattle.letters.specs.Letters.{letterWord, letters};
 ghost use Rattle.letters.specs.Walk.{charSpan};
@@ -22,25 +22,25 @@ fn first_char(s: &[u8]) -> &[u8]
 }
 
 // Says the word of a character.
-pub fn say_letter(c: &[u8], store: &mut [u8], table: &mut [u8], pen: Pen) -> Pen
-    ensures { λ r. ⌜ sink (now (store .exit)) (now (table .exit)) r ≡ emit (letterWord (now (c .entry))) (sink (now (store .entry)) (now (table .entry)) pen) ⌝ }
+pub fn say_letter(c: &[u8], store: &mut [u8], table: &mut [u8], cursor: Cursor) -> Cursor
+    ensures { λ r. ⌜ writer (now (store .exit)) (now (table .exit)) r ≡ emit (letterWord (now (c .entry))) (writer (now (store .entry)) (now (table .entry)) cursor) ⌝ }
 {
     if c.len() != 1 {
-        return word(store, table, pen, c);
+        return put_word(store, table, cursor, c);
     }
     let lower = to_lower(byte_at(c, 0));
     if lower == b'a' {
-        return word(store, table, pen, b"_a");
+        return put_word(store, table, cursor, b"_a");
     }
     let w = [lower];
-    word(store, table, pen, &w)
+    put_word(store, table, cursor, &w)
 }
 
 // Says one word per character of s.
-pub fn say_letters(s: &[u8], store: &mut [u8], table: &mut [u8], pen: Pen) -> Pen
-    ensures { λ r. ⌜ sink (now (store .exit)) (now (table .exit)) r ≡ emitAll (spelled (letters (now (s .entry)))) (sink (now (store .entry)) (now (table .entry)) pen) ⌝ }
+pub fn say_letters(s: &[u8], store: &mut [u8], table: &mut [u8], cursor: Cursor) -> Cursor
+    ensures { λ r. ⌜ writer (now (store .exit)) (now (table .exit)) r ≡ emitAll (spelled (letters (now (s .entry)))) (writer (now (store .entry)) (now (table .entry)) cursor) ⌝ }
 {
-    let mut p = pen;
+    let mut p = cursor;
     let mut i = 0;
     while i < s.len() {
         let c = first_char(tail(s, i));

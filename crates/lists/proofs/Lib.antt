@@ -4,5 +4,5 @@ pub mod Parts
 pub mod Sets
 pub mod Table
 pub mod Recursion
-pub mod Rows
+pub mod Packed
 pub mod Every

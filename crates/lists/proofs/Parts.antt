@@ -10,7 +10,7 @@ use lib.Dec.{eqb, leb, ltb, leb·suc-suc}
 use lib.ListN.{length, take, drop}
 use lib.Seq.{take-all, take-length}
 use borrow.Author.Tests.{ltb-true, ltb-false, lt-ltb, le-leb}
-use Rattle.lists.specs.Bytes.{span, has, split, onto, all, filled, any}
+use Rattle.lists.specs.Bytes.{span, elem, split, onto, all, nonEmpty, any}
 use Rattle.lists.specs.Classes.{except}
 use Rattle.lists.proofs.Scan.{span-le}
 
@@ -81,32 +81,32 @@ unfolding all
 parts-more p c s f h = rw (split-more c s h, f)
 
 -- whether a separator stands in the text
-pub has-span : (c : ℕ) (s : List ℕ) → has c s ≡ ltb (span (except c) s) (length s)
+pub elem-span : (c : ℕ) (s : List ℕ) → elem c s ≡ ltb (span (except c) s) (length s)
 unfolding any span
-has-span c [] = refl
-has-span c (b ∷ s) = go (eqb b c) (has-span c s)
+elem-span c [] = refl
+elem-span c (b ∷ s) = go (eqb b c) (elem-span c s)
   where
-    go : (t : Bool) → has c s ≡ ltb (span (except c) s) (length s) → (t || has c s) ≡ ltb (cond (not t) (suc (span (except c) s)) 0) (suc (length s))
+    go : (t : Bool) → elem c s ≡ ltb (span (except c) s) (length s) → (t || elem c s) ≡ ltb (cond (not t) (suc (span (except c) s)) 0) (suc (length s))
     go true i = sym (lt-ltb 0 (suc (length s)) (omega arith))
     go false i = i ∙ sym (leb·suc-suc (suc (span (except c) s)) (length s))
 
 -- a part counts where it is not empty
-filled-front : (n : ℕ) (s : List ℕ) (ps : List (List ℕ)) → n ≤ length s → length (filled (take n s ∷ ps)) ≡ min n 1 + length (filled ps)
-unfolding filled
-filled-front zero s ps h = omega arith
-filled-front (suc n) [] ps h = absurd (omega arith)
-filled-front (suc n) (b ∷ s) ps h = omega arith
+nonEmpty-front : (n : ℕ) (s : List ℕ) (ps : List (List ℕ)) → n ≤ length s → length (nonEmpty (take n s ∷ ps)) ≡ min n 1 + length (nonEmpty ps)
+unfolding nonEmpty
+nonEmpty-front zero s ps h = omega arith
+nonEmpty-front (suc n) [] ps h = absurd (omega arith)
+nonEmpty-front (suc n) (b ∷ s) ps h = omega arith
 
 -- the count of parts that are not empty: the first part, and the others
-pub filled-more : (c : ℕ) (s : List ℕ) (n : ℕ) → n ≡ span (except c) s → n < length s
-    → length (filled (split c s)) ≡ min n 1 + length (filled (split c (drop (n + 1) s)))
-filled-more c s n e h = let l : span (except c) s < length s = omega arith in
-    rw (split-more c s l, ← e) (filled-front n s (split c (drop (n + 1) s)) (omega arith))
+pub nonEmpty-more : (c : ℕ) (s : List ℕ) (n : ℕ) → n ≡ span (except c) s → n < length s
+    → length (nonEmpty (split c s)) ≡ min n 1 + length (nonEmpty (split c (drop (n + 1) s)))
+nonEmpty-more c s n e h = let l : span (except c) s < length s = omega arith in
+    rw (split-more c s l, ← e) (nonEmpty-front n s (split c (drop (n + 1) s)) (omega arith))
 
-pub filled-end : (c : ℕ) (s : List ℕ) (n : ℕ) → n ≡ span (except c) s → length s ≤ n → length (filled (split c s)) ≡ min n 1
-unfolding filled
-filled-end c s n e h =
+pub nonEmpty-end : (c : ℕ) (s : List ℕ) (n : ℕ) → n ≡ span (except c) s → length s ≤ n → length (nonEmpty (split c s)) ≡ min n 1
+unfolding nonEmpty
+nonEmpty-end c s n e h =
     let m : n ≡ length s = omega (arith, span-le (except c) s) in
     let l : length s ≤ span (except c) s = omega arith in
-    let f = filled-front n s [] (omega arith) in
+    let f = nonEmpty-front n s [] (omega arith) in
     rw (split-last c s l) (rw (m, take-length) at f ∙ rw (m, add-zero))

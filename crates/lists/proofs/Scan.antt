@@ -1,4 +1,4 @@
--- Laws of `all`, `span`, `count`, `keep`, `afterLast` and `sameBy` along a list, over the test, for loops that count. Assumes nothing.
+-- Laws of `all`, `span`, `countb`, `filterb`, `afterLast` and `sameBy` along a list, over the test, for loops that count. Assumes nothing.
 use mathlib.Core.Path.{_≡_, refl, sym, ap, _∙_}
 use mathlib.Core.Bool.{Bool, true, false, cond, _&&_, and-false, and-assoc, and-eq-true-iff, true≢false, _||_, or-assoc, or-false}
 use mathlib.Core.List.{List, [], _∷_, _++_}
@@ -12,7 +12,7 @@ use lib.Seq.{drop-cons, take-all, take-suc, length-take-le}
 use borrow.Author.Tests.{eqb-true, ne-eqb}
 use Rattle.lists.specs.Classes.{oneOf}
 use Rattle.lists.proofs.Bools.{or-true-elim}
-use Rattle.lists.specs.Bytes.{all, any, span, count, keep, afterLast, sameBy, starts}
+use Rattle.lists.specs.Bytes.{all, any, span, countb, filterb, afterLast, sameBy, startsWith}
 
 module _ (p : ℕ → Bool) (s : List ℕ) (i : ℕ) where
   -- what a loop keeps: the bytes before i passed
@@ -56,18 +56,18 @@ span-le p (b ∷ s) = go (p b) (span-le p s)
     go false h = omega arith
 
 -- what a count keeps: what is counted, and the count of what is left
-pub count-more : (p : ℕ → Bool) (s : List ℕ) (i n : ℕ) → i < length s → count p s ≡ n + count p (drop i s)
-    → count p s ≡ (n + cond (p (getD s i 0)) 1 0) + count p (drop (i + 1) s)
-unfolding count
-count-more p s i n h e = e ∙ rw (add-one, drop-cons s i 0) (go (p (getD s i 0)))
+pub countb-more : (p : ℕ → Bool) (s : List ℕ) (i n : ℕ) → i < length s → countb p s ≡ n + countb p (drop i s)
+    → countb p s ≡ (n + cond (p (getD s i 0)) 1 0) + countb p (drop (i + 1) s)
+unfolding countb
+countb-more p s i n h e = e ∙ rw (add-one, drop-cons s i 0) (go (p (getD s i 0)))
   where
-    go : (t : Bool) → n + cond t (suc (count p (drop (suc i) s))) (count p (drop (suc i) s)) ≡ (n + cond t 1 0) + count p (drop (suc i) s)
+    go : (t : Bool) → n + cond t (suc (countb p (drop (suc i) s))) (countb p (drop (suc i) s)) ≡ (n + cond t 1 0) + countb p (drop (suc i) s)
     go true = omega arith
     go false = omega arith
 
-pub count-end : (p : ℕ → Bool) (s : List ℕ) (i n : ℕ) → length s ≤ i → count p s ≡ n + count p (drop i s) → n ≡ count p s
-unfolding count
-count-end p s i n h e = sym (e ∙ rw (drop-of-length-le s) (omega arith))
+pub countb-end : (p : ℕ → Bool) (s : List ℕ) (i n : ℕ) → length s ≤ i → countb p s ≡ n + countb p (drop i s) → n ≡ countb p s
+unfolding countb
+countb-end p s i n h e = sym (e ∙ rw (drop-of-length-le s) (omega arith))
 
 -- one byte more at the end
 last-snoc : (p : ℕ → Bool) (s : List ℕ) (x : ℕ) → afterLast p (s ++ (x ∷ [])) ≡ cond (p x) (suc (length s)) (afterLast p s)
@@ -118,8 +118,8 @@ same-long f (x ∷ xs) [] n = refl
 same-long f (x ∷ xs) (y ∷ ys) n = rw (same-long f xs ys (λ e. n (ap suc e))) (and-false (eqb (f x) y))
 
 -- a read past the end
-pub past : (s : List ℕ) (i : ℕ) → length s ≤ i → 0 ≡ getD s i 0
-past s i h = sym (List·getD-eq-default s 0 h)
+pub getD-past : (s : List ℕ) (i : ℕ) → length s ≤ i → 0 ≡ getD s i 0
+getD-past s i h = sym (List·getD-eq-default s 0 h)
 
 -- what f gives of a text is what it gives of its parts, one after the other
 abbrev pub ByParts : {A : Type 0} → (List ℕ → List A) → Type 0
@@ -130,8 +130,8 @@ pub next-byte : {A : Type 0} (f : List ℕ → List A) → ByParts f → (s : Li
 next-byte f e s i h = rw (add-one i) (ap f (drop-cons s i 0 h) ∙ e (getD s i 0 ∷ []) (drop (suc i) s))
 
 -- a part that runs to the end, as the borrow checker states `&s[n..]`
-pub rest : (s : List ℕ) (n : ℕ) → take (length s - n) (drop n s) ≡ drop n s
-rest s n = take-all (length s - n) (drop n s) (simp length-drop (omega arith))
+pub take-rest : (s : List ℕ) (n : ℕ) → take (length s - n) (drop n s) ≡ drop n s
+take-rest s n = take-all (length s - n) (drop n s) (simp length-drop (omega arith))
 
 -- two lists, one after the other
 pub all-append : {A : Type 0} (p : A → Bool) (s t : List A) → all p (s ++ t) ≡ all p s && all p t
@@ -157,12 +157,12 @@ all-at p d (a ∷ s) zero h l = and-eq-true-iff (p a) (all p s) .0 h .0
 all-at p d (a ∷ s) (suc k) h l = all-at p d s k (and-eq-true-iff (p a) (all p s) .0 h .1) (omega arith)
 
 -- a byte c outside a class is none of the class
-pub apart : (p : ℕ → Bool) (c b : ℕ) → p c ≡ false → p b ≡ true → eqb b c ≡ false
-apart p c b h k = ne-eqb b c (λ e. true≢false (sym k ∙ ap p e ∙ h))
+pub class-apart : (p : ℕ → Bool) (c b : ℕ) → p c ≡ false → p b ≡ true → eqb b c ≡ false
+class-apart p c b h k = ne-eqb b c (λ e. true≢false (sym k ∙ ap p e ∙ h))
 
 -- a text starts with its first byte
-pub starts-first : (c b : ℕ) (s : List ℕ) → starts c (b ∷ s) ≡ eqb b c
-starts-first c b s = rw (ne-eqb (suc (length s)) 0 (omega arith))
+pub startsWith-first : (c b : ℕ) (s : List ℕ) → startsWith c (b ∷ s) ≡ eqb b c
+startsWith-first c b s = rw (ne-eqb (suc (length s)) 0 (omega arith))
 
 -- the bytes that a scan passed
 pub span-all : (p : ℕ → Bool) (s : List ℕ) → all p (take (span p s) s) ≡ true
@@ -207,22 +207,22 @@ span-again p (b ∷ s) = go (p b) refl (span-again p s)
     go false e h = omega arith
 
 -- the bytes of two texts that pass
-pub keep-append : (p : ℕ → Bool) (s t : List ℕ) → keep p (s ++ t) ≡ keep p s ++ keep p t
-unfolding keep
-keep-append p [] t = refl
-keep-append p (b ∷ s) t = rw (keep-append p s t) (go (p b))
+pub filterb-append : (p : ℕ → Bool) (s t : List ℕ) → filterb p (s ++ t) ≡ filterb p s ++ filterb p t
+unfolding filterb
+filterb-append p [] t = refl
+filterb-append p (b ∷ s) t = rw (filterb-append p s t) (go (p b))
   where
-    go : (u : Bool) → cond u (b ∷ keep p s ++ keep p t) (keep p s ++ keep p t) ≡ cond u (b ∷ keep p s) (keep p s) ++ keep p t
+    go : (u : Bool) → cond u (b ∷ filterb p s ++ filterb p t) (filterb p s ++ filterb p t) ≡ cond u (b ∷ filterb p s) (filterb p s) ++ filterb p t
     go true = refl
     go false = refl
 
 -- the bytes that pass are no more than there are
-pub keep-le : (p : ℕ → Bool) (s : List ℕ) → length (keep p s) ≤ length s
-unfolding keep
-keep-le p [] = omega arith
-keep-le p (b ∷ s) = go (p b) (keep-le p s)
+pub filterb-le : (p : ℕ → Bool) (s : List ℕ) → length (filterb p s) ≤ length s
+unfolding filterb
+filterb-le p [] = omega arith
+filterb-le p (b ∷ s) = go (p b) (filterb-le p s)
   where
-    go : (t : Bool) → length (keep p s) ≤ length s → length (cond t (b ∷ keep p s) (keep p s)) ≤ suc (length s)
+    go : (t : Bool) → length (filterb p s) ≤ length s → length (cond t (b ∷ filterb p s) (filterb p s)) ≤ suc (length s)
     go true h = omega arith
     go false h = omega arith
 
@@ -367,12 +367,12 @@ last-passes p (b ∷ s) k h = go (afterLast p s) (p b) refl (last-passes p s) k 
     go (suc n) t e i (suc k) h = i k (omega (arith, rw (ne-eqb (suc n) 0 (omega arith)) at h))
 
 -- what holds of all bytes listed holds of one that is found among them
-pub one-in : (q : ℕ → Bool) (cs : List ℕ) → all q cs ≡ true → (b : ℕ) → oneOf cs b ≡ true → q b ≡ true
+pub oneOf-all : (q : ℕ → Bool) (cs : List ℕ) → all q cs ≡ true → (b : ℕ) → oneOf cs b ≡ true → q b ≡ true
 unfolding all any
-one-in q [] h b e = absurd (true≢false (sym e))
-one-in q (c ∷ cs) h b e =
+oneOf-all q [] h b e = absurd (true≢false (sym e))
+oneOf-all q (c ∷ cs) h b e =
     let k = and-eq-true-iff (q c) (all q cs) .0 h in
-    or-true-elim (eqb b c) (oneOf cs b) (λ f. rw (eqb-true b c f) (k .0)) (one-in q cs (k .1) b) e
+    or-true-elim (eqb b c) (oneOf cs b) (λ f. rw (eqb-true b c f) (k .0)) (oneOf-all q cs (k .1) b) e
 
 -- the bytes listed, tested from the left, as the code does
 abbrev foundIn : Bool → List ℕ → ℕ → Bool

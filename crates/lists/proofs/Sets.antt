@@ -11,7 +11,7 @@ use native.Mathlib.Numerals.{add-one}
 use native.Mathlib.Omega.{arith}
 use lib.ListN.{length, take, drop, getD, set, length-set}
 use lib.Seq.{sets, sets-eq, set-out, take-nil, take-all, take-suc, take-append-seam, drop-append-seam}
-use Rattle.lists.specs.Bytes.{over}
+use Rattle.lists.specs.Bytes.{overwrite}
 
 -- two numbers compared
 by-leb : (a b : ℕ) (t : Bool) → leb a b ≡ t → (a ≤ b) ⊎ (b < a)
@@ -52,12 +52,12 @@ sets-min l i vs k e =
     ⊎-elim (λ (h : length vs ≤ k). ap (sets l i) (take-all k vs h)) (λ (h : k < length vs). sets-clip l i vs k (omega arith)) (le-or-lt (length vs) k)
 
 -- a run from the front that fits
-pub sets-front : (l vs : List ℕ) → length vs ≤ length l → sets l 0 vs ≡ over vs l
+pub sets-front : (l vs : List ℕ) → length vs ≤ length l → sets l 0 vs ≡ overwrite vs l
 sets-front l vs h = sets-eq vs l 0 (omega arith) ∙ rw zero-add
 
 -- the new bytes stand in front, and "bytes past the result stay"
-pub over-past : (new old : List ℕ) → (take (length new) (over new old) ≡ new) × (drop (length new) (over new old) ≡ drop (length new) old)
-over-past new old = (take-append-seam new (drop (length new) old), drop-append-seam new (drop (length new) old))
+pub overwrite-past : (new old : List ℕ) → (take (length new) (overwrite new old) ≡ new) × (drop (length new) (overwrite new old) ≡ drop (length new) old)
+overwrite-past new old = (take-append-seam new (drop (length new) old), drop-append-seam new (drop (length new) old))
 
 -- a byte of a text with f applied to each
 pub map-at : (f : ℕ → ℕ) (s : List ℕ) (i : ℕ) → i < length s → getD (map f s) i 0 ≡ f (getD s i 0)

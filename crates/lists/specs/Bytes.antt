@@ -33,11 +33,11 @@ span p [] = 0
 span p (b ∷ s) = cond (p b) (suc (span p s)) 0
 
 -- the bytes at the front that pass p, and what follows them
-abbrev pub lead : (ℕ → Bool) → List ℕ → List ℕ
-lead p s = take (span p s) s
+abbrev pub takeWhile : (ℕ → Bool) → List ℕ → List ℕ
+takeWhile p s = take (span p s) s
 
-abbrev pub after : (ℕ → Bool) → List ℕ → List ℕ
-after p s = drop (span p s) s
+abbrev pub dropWhile : (ℕ → Bool) → List ℕ → List ℕ
+dropWhile p s = drop (span p s) s
 
 -- the place after the last byte that passes p, 0 where none does
 unfoldable pub afterLast : (ℕ → Bool) → List ℕ → ℕ
@@ -45,18 +45,18 @@ afterLast p [] = 0
 afterLast p (b ∷ s) = cond (eqb (afterLast p s) 0) (cond (p b) 1 0) (suc (afterLast p s))
 
 -- how many bytes pass p
-unfoldable pub count : (ℕ → Bool) → List ℕ → ℕ
-count p [] = 0
-count p (b ∷ s) = cond (p b) (suc (count p s)) (count p s)
+unfoldable pub countb : (ℕ → Bool) → List ℕ → ℕ
+countb p [] = 0
+countb p (b ∷ s) = cond (p b) (suc (countb p s)) (countb p s)
 
 -- the bytes that pass p
-unfoldable pub keep : (ℕ → Bool) → List ℕ → List ℕ
-keep p [] = []
-keep p (b ∷ s) = cond (p b) (b ∷ keep p s) (keep p s)
+unfoldable pub filterb : (ℕ → Bool) → List ℕ → List ℕ
+filterb p [] = []
+filterb p (b ∷ s) = cond (p b) (b ∷ filterb p s) (filterb p s)
 
 -- c is one of the bytes
-abbrev pub has : ℕ → List ℕ → Bool
-has c s = any (λ b. eqb b c) s
+abbrev pub elem : ℕ → List ℕ → Bool
+elem c s = any (λ b. eqb b c) s
 
 -- the second text is the first with f applied to each byte
 unfoldable pub sameBy : (ℕ → ℕ) → List ℕ → List ℕ → Bool
@@ -74,35 +74,35 @@ abbrev pub listed : List ℕ → List (List ℕ) → Bool
 listed t ss = any (λ s. same s t) ss
 
 -- A to Z, a to z
-abbrev pub capital : ℕ → Bool
-capital b = leb (code "A") b && leb b (code "Z")
+abbrev pub uppercase : ℕ → Bool
+uppercase b = leb (code "A") b && leb b (code "Z")
 
-abbrev pub small : ℕ → Bool
-small b = leb (code "a") b && leb b (code "z")
+abbrev pub lowercase : ℕ → Bool
+lowercase b = leb (code "a") b && leb b (code "z")
 
 -- A to Z lowered, any other byte as it is
-abbrev pub lower : ℕ → ℕ
-lower b = cond (capital b) (b + 32) b
+abbrev pub toLower : ℕ → ℕ
+toLower b = cond (uppercase b) (b + 32) b
 
 -- the text starts with the byte c
-abbrev pub starts : ℕ → List ℕ → Bool
-starts c s = not (eqb (length s) 0) && eqb (getD s 0 0) c
+abbrev pub startsWith : ℕ → List ℕ → Bool
+startsWith c s = not (eqb (length s) 0) && eqb (getD s 0 0) c
 
 -- the text ends with the byte c
-abbrev pub ends : ℕ → List ℕ → Bool
-ends c s = not (eqb (length s) 0) && eqb (getD s (length s - 1) 0) c
+abbrev pub endsWith : ℕ → List ℕ → Bool
+endsWith c s = not (eqb (length s) 0) && eqb (getD s (length s - 1) 0) c
 
 -- the text without the byte c at its front, where it stands there
 abbrev pub stripPrefix : ℕ → List ℕ → List ℕ
-stripPrefix c s = cond (starts c s) (drop 1 s) s
+stripPrefix c s = cond (startsWith c s) (drop 1 s) s
 
 -- the text without the byte c at its end, where it stands there
 abbrev pub stripSuffix : ℕ → List ℕ → List ℕ
-stripSuffix c s = cond (ends c s) (take (length s - 1) s) s
+stripSuffix c s = cond (endsWith c s) (take (length s - 1) s) s
 
 -- the text ends with t, once f is applied to each of its bytes
-abbrev pub endsBy : (ℕ → ℕ) → List ℕ → List ℕ → Bool
-endsBy f t s = leb (length t) (length s) && sameBy f (drop (length s - length t) s) t
+abbrev pub endsWithBy : (ℕ → ℕ) → List ℕ → List ℕ → Bool
+endsWithBy f t s = leb (length t) (length s) && sameBy f (drop (length s - length t) s) t
 
 -- a byte more at the front of the first part
 unfoldable pub onto : ℕ → List (List ℕ) → List (List ℕ)
@@ -115,11 +115,11 @@ split c [] = [] ∷ []
 split c (b ∷ s) = cond (eqb b c) ([] ∷ split c s) (onto b (split c s))
 
 -- the parts that are not empty
-unfoldable pub filled : List (List ℕ) → List (List ℕ)
-filled [] = []
-filled ([] ∷ ss) = filled ss
-filled ((b ∷ s) ∷ ss) = (b ∷ s) ∷ filled ss
+unfoldable pub nonEmpty : List (List ℕ) → List (List ℕ)
+nonEmpty [] = []
+nonEmpty ([] ∷ ss) = nonEmpty ss
+nonEmpty ((b ∷ s) ∷ ss) = (b ∷ s) ∷ nonEmpty ss
 
 -- the new bytes, and what stood past them
-abbrev pub over : List ℕ → List ℕ → List ℕ
-over new old = new ++ drop (length new) old
+abbrev pub overwrite : List ℕ → List ℕ → List ℕ
+overwrite new old = new ++ drop (length new) old

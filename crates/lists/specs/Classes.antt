@@ -5,7 +5,7 @@ use Prim.Native.Nat.{ℕ}
 use Prim.Native.Char.{code}
 use lib.Dec.{leb, ltb, eqb}
 use lib.ListN.{getD}
-use Rattle.lists.specs.Bytes.{bytes, any, capital, small, lower}
+use Rattle.lists.specs.Bytes.{bytes, any, uppercase, lowercase, toLower}
 
 -- a byte that is a character by itself
 abbrev pub ascii : ℕ → Bool
@@ -17,7 +17,7 @@ digit b = leb (code "0") b && leb b (code "9")
 
 -- A to Z, a to z
 abbrev pub letter : ℕ → Bool
-letter b = capital b || small b
+letter b = uppercase b || lowercase b
 
 abbrev pub digitOrComma : ℕ → Bool
 digitOrComma b = digit b || eqb b (code ",")
@@ -27,8 +27,8 @@ abbrev pub romanTail : ℕ → Bool
 romanTail b = eqb b (code "V") || eqb b (code "I") || eqb b (code "X")
 
 -- neither a colon nor a point
-abbrev pub colonNorPoint : ℕ → Bool
-colonNorPoint b = not (eqb b (code ":") || eqb b (code "."))
+abbrev pub notColonOrPoint : ℕ → Bool
+notColonOrPoint b = not (eqb b (code ":") || eqb b (code "."))
 
 abbrev pub except : ℕ → ℕ → Bool
 except c b = not (eqb b c)
@@ -46,31 +46,31 @@ abbrev pub oneOf : List ℕ → ℕ → Bool
 oneOf cs b = any (eqb b) cs
 
 -- document 01: "Whitespace is space, tab, LF, CR."
-abbrev pub whites : List ℕ
-whites = bytes " \t\n\r"
+abbrev pub whitespaceBytes : List ℕ
+whitespaceBytes = bytes " \t\n\r"
 
 abbrev pub whitespace : ℕ → Bool
-whitespace = oneOf whites
+whitespace = oneOf whitespaceBytes
 
 abbrev pub nonWhitespace : ℕ → Bool
 nonWhitespace b = not (whitespace b)
 
 -- `PREPUNCTUATION` of text.rs
-abbrev pub leadingMarks : List ℕ
-leadingMarks = bytes "\"'`({["
+abbrev pub prepunctuationMarks : List ℕ
+prepunctuationMarks = bytes "\"'`({["
 
-abbrev pub leadingMark : ℕ → Bool
-leadingMark = oneOf leadingMarks
+abbrev pub prepunctuationMark : ℕ → Bool
+prepunctuationMark = oneOf prepunctuationMarks
 
 -- `POSTPUNCTUATION` of text.rs
-abbrev pub trailingMarks : List ℕ
-trailingMarks = bytes "\"'`.,:;!?(){}[]"
+abbrev pub postpunctuationMarks : List ℕ
+postpunctuationMarks = bytes "\"'`.,:;!?(){}[]"
 
-abbrev pub trailingMark : ℕ → Bool
-trailingMark = oneOf trailingMarks
+abbrev pub postpunctuationMark : ℕ → Bool
+postpunctuationMark = oneOf postpunctuationMarks
 
-abbrev pub unmarked : ℕ → Bool
-unmarked b = not (trailingMark b)
+abbrev pub nonPostpunctuation : ℕ → Bool
+nonPostpunctuation b = not (postpunctuationMark b)
 
 abbrev pub only : ℕ → ℕ → Bool
 only c b = eqb b c
@@ -86,8 +86,8 @@ nonDigit b = not (digit b)
 -- the classes by number; c is for `except` and `only` alone
 abbrev pub classes : ℕ → List (ℕ → Bool)
 classes c =
-    ascii ∷ digit ∷ letter ∷ digitOrComma ∷ digitOrDash ∷ romanTail ∷ colonNorPoint ∷ except c
-    ∷ nonDigit ∷ notE ∷ continuation ∷ whitespace ∷ nonWhitespace ∷ leadingMark ∷ unmarked ∷ only c ∷ []
+    ascii ∷ digit ∷ letter ∷ digitOrComma ∷ digitOrDash ∷ romanTail ∷ notColonOrPoint ∷ except c
+    ∷ nonDigit ∷ notE ∷ continuation ∷ whitespace ∷ nonWhitespace ∷ prepunctuationMark ∷ nonPostpunctuation ∷ only c ∷ []
 
 -- the class of a number, empty where there is none
 abbrev pub inClass : ℕ → ℕ → ℕ → Bool
@@ -95,5 +95,5 @@ inClass k c = getD (classes c) k (λ b. false)
 
 -- what a comparison does to each byte of its first text: A to Z are lowered, or nothing
 abbrev pub folded : Bool → ℕ → ℕ
-folded true = lower
+folded true = toLower
 folded false = λ b. b

@@ -6,8 +6,8 @@ ghost use mathlib.Core.List.{map};
 ghost use Prim.Native.Nat.{_-_, _≤_, min};
 ghost use lib.ListN.{length, take, drop, getD};
 ghost use lib.Seq.{sets};
-ghost use Rattle.lists.specs.Bytes.{all, span, count, afterLast, sameBy, lower, starts, ends, stripPrefix, stripSuffix, endsBy};
-ghost use Rattle.lists.specs.Classes.{inClass, folded, leadingMark, trailingMark};
+ghost use Rattle.lists.specs.Bytes.{all, span, countb, afterLast, sameBy, toLower, startsWith, endsWith, stripPrefix, stripSuffix, endsWithBy};
+ghost use Rattle.lists.specs.Classes.{inClass, folded, prepunctuationMark, postpunctuationMark};
 ghost use Rattle.lists.specs.Packed.{unpack};
 
 // The classes of bytes by number. Numbers and no enum: a scan with a constant is then compiled to that class alone.
@@ -23,7 +23,7 @@ pub const DIGIT_OR_DASH: u8 = 4;
 
 pub const ROMAN_TAIL: u8 = 5;
 
-pub const COLON_NOR_POINT: u8 = 6;
+pub const NOT_COLON_OR_POINT: u8 = 6;
 // Every byte but one, which the scan is given beside the class. For any other class but ONLY it is given 0.
 pub const NOT: u8 = 7;
 
@@ -37,10 +37,10 @@ pub const WHITESPACE: u8 = 11;
 
 pub const NON_WHITESPACE: u8 = 12;
 
-pub const LEADING_MARK: u8 = 13;
+pub const PREPUNCTUATION: u8 = 13;
 
 // Every byte but a trailing mark.
-pub const UNMARKED: u8 = 14;
+pub const NON_POSTPUNCTUATION: u8 = 14;
 
 // The one byte that the scan is given beside the class.
 pub const ONLY: u8 = 15;
@@ -51,7 +51,7 @@ pub const EXACT: bool = false;
 pub const LOWERED: bool = true;
 
 // a - b, or 0 where b is larger.
-pub fn minus(a: usize, b: usize) -> usize
+pub fn saturating_sub(a: usize, b: usize) -> usize
     ensures { λ r. ⌜ r ≡ a - b ⌝ }
 {
     if b <= a { a - b } else { 0 }
@@ -115,7 +115,7 @@ pub fn without_back(s: &[u8], k: usize) -> &[u8]
 }
 
 pub fn starts_with(s: &[u8], c: u8) -> bool
-    ensures { λ r. ⌜ r ≡ starts c (now (s .entry)) ⌝ }
+    ensures { λ r. ⌜ r ≡ startsWith c (now (s .entry)) ⌝ }
 {
     (s.len() != 0) & (byte_at(s, 0) == c)
 }
@@ -130,7 +130,7 @@ pub fn strip_prefix(s: &[u8], c: u8) -> &[u8]
 }
 
 pub fn ends_with(s: &[u8], c: u8) -> bool
-    ensures { λ r. ⌜ r ≡ ends c (now (s .entry)) ⌝ }
+    ensures { λ r. ⌜ r ≡ endsWith c (now (s .entry)) ⌝ }
 {
     if s.len() == 0 {
         return false;
@@ -148,7 +148,7 @@ pub fn strip_suffix(s: &[u8], c: u8) -> &[u8]
 }
 
 pub fn to_lower(b: u8) -> u8
-    ensures { λ r. ⌜ r ≡ lower b ⌝ }
+    ensures { λ r. ⌜ r ≡ toLower b ⌝ }
 {
     if b < b'A' {
         return b;
@@ -159,14 +159,14 @@ pub fn to_lower(b: u8) -> u8
     b + 32
 }
 
-fn is_leading_mark(b: u8) -> bool
-    ensures { λ r. ⌜ r ≡ leadingMark b ⌝ }
+fn is_prepunctuation_mark(b: u8) -> bool
+    ensures { λ r. ⌜ r ≡ prepunctuationMark b ⌝ }
 {
     (b == b'"') | (b == b'\'') | (b == b'`') | (b == b'(') | (b == b'{') | (b == b'[')
 }
 
-fn is_trailing_mark(b: u8) -> bool
-    ensures { λ r. ⌜ r ≡ trailingMark b ⌝ }
+fn is_postpunctuation_mark(b: u8) -> bool
+    ensures { λ r. ⌜ r ≡ postpunctuationMark b ⌝ }
 {
     (b == b'"')
         | (b == b'\'')
@@ -196,15 +196,15 @@ pub fn in_class(k: u8, c: u8, b: u8) -> bool
         DIGIT_OR_COMMA => ((b'0' <= b) & (b <= b'9')) | (b == b','),
         DIGIT_OR_DASH => ((b'0' <= b) & (b <= b'9')) | (b == b'-'),
         ROMAN_TAIL => (b == b'V') | (b == b'I') | (b == b'X'),
-        COLON_NOR_POINT => !((b == b':') | (b == b'.')),
+        NOT_COLON_OR_POINT => !((b == b':') | (b == b'.')),
         NOT => b != c,
         NON_DIGIT => !((b'0' <= b) & (b <= b'9')),
         NOT_E => !((b == b'e') | (b == b'E')),
         CONTINUATION => (0x80 <= b) & (b <= 0xBF),
         WHITESPACE => (b == b' ') | (b == b'\t') | (b == b'\n') | (b == b'\r'),
         NON_WHITESPACE => !((b == b' ') | (b == b'\t') | (b == b'\n') | (b == b'\r')),
-        LEADING_MARK => is_leading_mark(b),
-        UNMARKED => !is_trailing_mark(b),
+        PREPUNCTUATION => is_prepunctuation_mark(b),
+        NON_POSTPUNCTUATION => !is_postpunctuation_mark(b),
         ONLY => b == c,
         _ => false,
     }
@@ -225,7 +225,7 @@ pub fn all_of(k: u8, c: u8, s: &[u8]) -> bool
 }
 
 // 1 for yes, 0 for no.
-pub fn tally(yes: bool) -> usize
+pub fn one_if(yes: bool) -> usize
     ensures { λ r. ⌜ (r ≡ cond yes 1 0) × (r ≤ 1) ⌝ }
 {
     if yes { 1 } else { 0 }
@@ -233,12 +233,12 @@ pub fn tally(yes: bool) -> usize
 
 // How many bytes are of the class k.
 pub fn count_of(k: u8, c: u8, s: &[u8]) -> usize
-    ensures { λ r. ⌜ r ≡ count (inClass k c) (now (s .entry)) ⌝ }
+    ensures { λ r. ⌜ r ≡ countb (inClass k c) (now (s .entry)) ⌝ }
 {
     let mut n = 0;
     let mut i = 0;
     while i < s.len() {
-        n += tally(in_class(k, c, s[i]));
+        n += one_if(in_class(k, c, s[i]));
         i += 1;
     }
     n
@@ -300,7 +300,7 @@ pub fn same(lowered: bool, s: &[u8], t: &[u8]) -> bool
 
 // Whether s, with A to Z lowered where that is asked, ends with t.
 pub fn ends_same(lowered: bool, s: &[u8], t: &[u8]) -> bool
-    ensures { λ r. ⌜ r ≡ endsBy (folded lowered) (now (t .entry)) (now (s .entry)) ⌝ }
+    ensures { λ r. ⌜ r ≡ endsWithBy (folded lowered) (now (t .entry)) (now (s .entry)) ⌝ }
 {
     if t.len() <= s.len() {
         return same(lowered, back(s, t.len()), t);
@@ -309,10 +309,10 @@ pub fn ends_same(lowered: bool, s: &[u8], t: &[u8]) -> bool
 }
 
 // The text in a row of 16 bytes.
-pub fn unpacked(row: &[u8]) -> &[u8]
-    ensures { λ r. ⌜ now r ≡ unpack (now (row .entry)) ⌝ }
+pub fn unpacked(packed: &[u8]) -> &[u8]
+    ensures { λ r. ⌜ now r ≡ unpack (now (packed .entry)) ⌝ }
 {
-    front(row, byte_at(row, 15) as usize)
+    front(packed, byte_at(packed, 15) as usize)
 }
 
 // How many of n bytes from index `at` on fall within len bytes.
@@ -350,7 +350,7 @@ pub fn put(out: &mut [u8], at: usize, src: &[u8])
 
 // Stores src, A to Z lowered, from index `at` on, as far as it falls within out.
 pub fn put_lowered(out: &mut [u8], at: usize, src: &[u8])
-    ensures { λ _. ⌜ now (out .exit) ≡ sets (now (out .entry)) at (map lower (now (src .entry))) ⌝ }
+    ensures { λ _. ⌜ now (out .exit) ≡ sets (now (out .entry)) at (map toLower (now (src .entry))) ⌝ }
 {
     let n = clip(out.len(), at, src.len());
     let mut i = 0;

@@ -6,28 +6,28 @@ use native.Mathlib.Omega.{arith}
 use lib.ListN.{length, getD}
 use Rattle.admit.specs.Refusals.{_when_, textLimit, textTests}
 use Rattle.admit.specs.declared.Refusal.the-variants.{BufferTooShort}
-use Rattle.admit.proofs.Calls.{both-passed, text-fit}
-use Rattle.sink.specs.Words.{wordAt, Written, short, wordsCall, PairIs}
-use Rattle.sink.proofs.ReadBack.{none-held, counts-read, pairs-read, words-read}
+use Rattle.admit.proofs.Calls.{both-passed, text-valid}
+use Rattle.word_writer.specs.Words.{wordAt, WordsResult, tooShort, wordsCall, PairIs}
+use Rattle.word_writer.proofs.ReadBack.{none-held, counts-read, pairs-read, words-read}
 use Rattle.numerals.specs.Words.{spelled}
 use Rattle.numerals.proofs.Room.{room-counts}
-use Rattle.numbers.specs.Calls.{wordsBy}
-use Rattle.numbers.specs.declared.Reader.{Reader}
-use Rattle.numbers.proofs.Bounds.{room}
+use Rattle.numbers.specs.Calls.{wordsAs}
+use Rattle.numbers.specs.declared.SayAs.{SayAs}
+use Rattle.numbers.proofs.Bounds.{words-room}
 
 -- the call of a reader with the text s, where it is accepted
-module _ (r : Reader) (s store table : List ℕ) (accepted : wordsCall s (spelled (wordsBy r s)) store table .refusal ≡ 0) where
+module _ (r : SayAs) (s store table : List ℕ) (accepted : wordsCall s (spelled (wordsAs r s)) store table .refusal ≡ 0) where
   abbrev words : List (List ℕ)
-  words = spelled (wordsBy r s)
+  words = spelled (wordsAs r s)
 
-  abbrev given : Written
+  abbrev given : WordsResult
   given = wordsCall s words store table .value
 
   -- every accepted text is so short that four bytes hold each offset
   short-store : length (flatten words) < 256 ^ 4
   short-store =
-      let k = both-passed (textTests textLimit (s ∷ [])) (BufferTooShort when short words store table ∷ []) (none-held s words store table accepted) .0 in
-      omega (arith, room-counts (room r s), text-fit textLimit s k .short)
+      let k = both-passed (textTests textLimit (s ∷ [])) (BufferTooShort when tooShort words store table ∷ []) (none-held s words store table accepted) .0 in
+      omega (arith, room-counts (words-room r s), text-valid textLimit s k .short)
 
   -- its counts are those of the words and of their bytes
   pub count-read : (given .words ≡ length words) × (given .bytes ≡ length (flatten words))

@@ -9,12 +9,12 @@ use Rattle.years.specs.Year.{year}
 use Rattle.reals.specs.Real.{real}
 use Rattle.letters.specs.Letters.{letters}
 use Rattle.roman.specs.Roman.{romanValue}
-use Rattle.numbers.specs.declared.Reader.{Reader}
-use Rattle.numbers.specs.declared.Reader.the-variants.{Cardinal, Ordinal, Year, Digits, Real, Letters}
-use Rattle.numbers.specs.declared.Numeral.{Numeral}
+use Rattle.numbers.specs.declared.SayAs.{SayAs}
+use Rattle.numbers.specs.declared.SayAs.the-variants.{Cardinal, Ordinal, Year, Digits, Real, Letters}
+use Rattle.numbers.specs.declared.RomanValue.{RomanValue}
 
-abbrev pub asNumeral : Numeral → Call ℕ
-asNumeral r = record { refusal = r .refusal; value = r .value }
+abbrev pub asRomanValue : RomanValue → Call ℕ
+asRomanValue r = record { refusal = r .refusal; value = r .value }
 
 -- roman_value: "every count and value 0" where it is refused; it lends no buffer
 abbrev pub romanCall : List ℕ → Call ℕ
@@ -23,10 +23,10 @@ romanCall s = call 0 (textRefusal textLimit s) (romanValue s)
 -- ---- no public promise is made of these
 
 -- the words that each reader reads a text as
-abbrev pub wordsBy : Reader → List ℕ → List Word
-wordsBy Cardinal s = cardinal s
-wordsBy Ordinal s = ordinal s
-wordsBy Year s = year s
-wordsBy Digits s = digits s
-wordsBy Real s = real s
-wordsBy Letters s = letters s
+abbrev pub wordsAs : SayAs → List ℕ → List Word
+wordsAs Cardinal s = cardinal s
+wordsAs Ordinal s = ordinal s
+wordsAs Year s = year s
+wordsAs Digits s = digits s
+wordsAs Real s = real s
+wordsAs Letters s = letters s

@@ -8,44 +8,44 @@ use lib.ListN.{getD}
 use borrow.Author.Tests.{ltb-true, lt-ltb, le-leb}
 use Rattle.lists.specs.Bytes.{bytes, all, Every}
 use Rattle.lists.proofs.Every.{every-imply}
-use Rattle.lexicon.specs.Lexicon.{wordOf, cardinals, ordinals, onesAt, scalesAt, ordinalStep}
-use Rattle.lexicon.proofs.Laws.{lexicon}
-use Rattle.numerals.specs.Words.{Word, one, hundred, spell, counted, vocabulary}
+use Rattle.vocabulary.specs.Vocabulary.{wordOf, cardinals, ordinals, onesAt, scalesAt, ordinalStep}
+use Rattle.vocabulary.proofs.Laws.{unfoldVocabulary}
+use Rattle.numerals.specs.Words.{Word, one, hundred, spell, consecutiveWords, numberWords}
 use Rattle.numerals.specs.Cardinal.{cardinal}
 use Rattle.numerals.specs.Ordinal.{formIn, ordinalForm, orZero}
 use Rattle.numerals.specs.Walk.{numberOf, ordinalNumber}
-use Rattle.numerals.proofs.Vocabulary.{Numeral, numeral-test, numeral-same, one-in, hundred-in, cardinal-numerals}
+use Rattle.numerals.proofs.NumberWords.{NumberWord, number-word-test, number-word-same, one-number-word, hundred-number-word, cardinal-number-words}
 
 -- a word's spelling is that of its number
-pub spell-number : (w : Word) → Numeral w → spell w ≡ wordOf (numberOf w)
-unfolding vocabulary counted spell numberOf lexicon
-spell-number = numeral-same spell (λ w. wordOf (numberOf w)) refl
+pub spell-number : (w : Word) → NumberWord w → spell w ≡ wordOf (numberOf w)
+unfolding numberWords consecutiveWords spell numberOf unfoldVocabulary
+spell-number = number-word-same spell (λ w. wordOf (numberOf w)) refl
 
 -- 0 can say that no word is held
-pub number-some : (w : Word) → Numeral w → 0 < numberOf w
-unfolding vocabulary counted numberOf all
-number-some w n = ltb-true 0 (numberOf w) (numeral-test (λ w. ltb 0 (numberOf w)) refl w n)
+pub number-some : (w : Word) → NumberWord w → 0 < numberOf w
+unfolding numberWords consecutiveWords numberOf all
+number-some w n = ltb-true 0 (numberOf w) (number-word-test (λ w. ltb 0 (numberOf w)) refl w n)
 
 -- what the code does to the number of the last word is what `ordinal` does to its spelling
-pub form-number : (w : Word) → Numeral w → ordinalForm (spell w) ≡ wordOf (ordinalNumber (numberOf w))
-unfolding vocabulary counted spell numberOf lexicon ordinalForm formIn ordinalNumber
-form-number = numeral-same (λ w. ordinalForm (spell w)) (λ w. wordOf (ordinalNumber (numberOf w))) refl
+pub form-number : (w : Word) → NumberWord w → ordinalForm (spell w) ≡ wordOf (ordinalNumber (numberOf w))
+unfolding numberWords consecutiveWords spell numberOf unfoldVocabulary ordinalForm formIn ordinalNumber
+form-number = number-word-same (λ w. ordinalForm (spell w)) (λ w. wordOf (ordinalNumber (numberOf w))) refl
 
 -- the words of a digit and of the hundreds
 pub digit-number : (d : ℕ) → d < 10 → spell (one d) ≡ wordOf (onesAt + d)
 unfolding numberOf
-digit-number d h = spell-number (one d) (one-in d h)
+digit-number d h = spell-number (one d) (one-number-word d h)
 
 pub hundred-number : spell hundred ≡ wordOf scalesAt
 unfolding numberOf
-hundred-number = spell-number hundred hundred-in
+hundred-number = spell-number hundred hundred-number-word
 
 -- the ordinal form of a digit's word
 pub digit-form : (d : ℕ) → d < 10 → ordinalForm (spell (one d)) ≡ wordOf (onesAt + ordinalStep + d)
 unfolding numberOf ordinalNumber
 digit-form d h =
     let e : onesAt + d + ordinalStep ≡ onesAt + ordinalStep + d = omega arith in
-    form-number (one d) (one-in d h)
+    form-number (one d) (one-number-word d h)
     ∙ rw (le-leb onesAt (onesAt + d) (omega arith), lt-ltb (onesAt + d) (onesAt + ordinalStep) (omega arith)) (ap wordOf e)
 
 -- the word stands in the first table, and its form at the same place of the second
@@ -58,21 +58,21 @@ pub record Listed (w : Word) : Type 0 where
 placeOf : Word → ℕ
 placeOf w = numberOf w - onesAt
 
-numeral-listed : (w : Word) → Numeral w → Listed w
-unfolding placeOf vocabulary counted spell numberOf lexicon ordinalForm formIn all
-numeral-listed w n =
+number-word-listed : (w : Word) → NumberWord w → Listed w
+unfolding placeOf numberWords consecutiveWords spell numberOf unfoldVocabulary ordinalForm formIn all
+number-word-listed w n =
     record {
       place = placeOf w;
-      within = ltb-true (placeOf w) ordinalStep (numeral-test (λ w. ltb (placeOf w) ordinalStep) refl w n);
-      word = numeral-same spell (λ w. bytes (getD cardinals (placeOf w) "")) refl w n;
-      form = numeral-same (λ w. ordinalForm (spell w)) (λ w. bytes (getD ordinals (placeOf w) "")) refl w n;
+      within = ltb-true (placeOf w) ordinalStep (number-word-test (λ w. ltb (placeOf w) ordinalStep) refl w n);
+      word = number-word-same spell (λ w. bytes (getD cardinals (placeOf w) "")) refl w n;
+      form = number-word-same (λ w. ordinalForm (spell w)) (λ w. bytes (getD ordinals (placeOf w) "")) refl w n;
     }
 
 -- so no last word takes "th" at its end
 pub no-th : (s : List ℕ) → Every Listed (orZero (cardinal s))
 unfolding orZero
-no-th s = go (cardinal s) (cardinal-numerals s)
+no-th s = go (cardinal s) (cardinal-number-words s)
   where
-    go : (ws : List Word) → Every Numeral ws → Every Listed (orZero ws)
-    go [] h = (numeral-listed (one 0) (one-in 0 (omega arith)), tt)
-    go (w ∷ ws) h = every-imply Numeral Listed numeral-listed (w ∷ ws) h
+    go : (ws : List Word) → Every NumberWord ws → Every Listed (orZero ws)
+    go [] h = (number-word-listed (one 0) (one-number-word 0 (omega arith)), tt)
+    go (w ∷ ws) h = every-imply NumberWord Listed number-word-listed (w ∷ ws) h

@@ -7,24 +7,24 @@ use native.Mathlib.Omega.{arith}
 use lib.Dec.{eqb}
 use borrow.Author.Tests.{ne-eqb}
 use Rattle.numerals.specs.Words.{Word, one, teen, ten}
-use Rattle.numerals.specs.Cardinal.{pair}
-use Rattle.numerals.specs.Walk.{numberOf, HeldSink, holds, holdAll}
+use Rattle.numerals.specs.Cardinal.{pairWords}
+use Rattle.numerals.specs.Walk.{numberOf, HeldWriter, holdWord, holdWords}
 
 -- one run of words after the other
-pub holdAll-append : (ks js : List ℕ) (h : HeldSink) → holdAll (ks ++ js) h ≡ holdAll js (holdAll ks h)
-unfolding holdAll
-holdAll-append [] js h = refl
-holdAll-append (k ∷ ks) js h = holdAll-append ks js (holds k h)
+pub holdWords-append : (ks js : List ℕ) (h : HeldWriter) → holdWords (ks ++ js) h ≡ holdWords js (holdWords ks h)
+unfolding holdWords
+holdWords-append [] js h = refl
+holdWords-append (k ∷ ks) js h = holdWords-append ks js (holdWord k h)
 
 -- the same by their numbers
-pub holds-append : (ws vs : List Word) (h : HeldSink) → holdAll (map numberOf (ws ++ vs)) h ≡ holdAll (map numberOf vs) (holdAll (map numberOf ws) h)
-holds-append ws vs h = rw (map-append numberOf ws vs) (holdAll-append (map numberOf ws) (map numberOf vs) h)
+pub holdWords-words : (ws vs : List Word) (h : HeldWriter) → holdWords (map numberOf (ws ++ vs)) h ≡ holdWords (map numberOf vs) (holdWords (map numberOf ws) h)
+holdWords-words ws vs h = rw (map-append numberOf ws vs) (holdWords-append (map numberOf ws) (map numberOf vs) h)
 
 -- a pair by tests, as the code has it
 pub pair-tests : (t n : ℕ)
-    → pair t n ≡ cond (eqb t 0) (cond (eqb n 0) [] (one n ∷ []))
+    → pairWords t n ≡ cond (eqb t 0) (cond (eqb n 0) [] (one n ∷ []))
     (cond (eqb n 0) (ten t ∷ []) (cond (eqb t 1) (teen n ∷ []) (ten t ∷ one n ∷ [])))
-unfolding pair
+unfolding pairWords
 pair-tests zero zero = refl
 pair-tests zero (suc n) = rw (ne-eqb (suc n) 0 (omega arith))
 pair-tests (suc t) zero = rw (ne-eqb (suc t) 0 (omega arith))

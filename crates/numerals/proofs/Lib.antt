@@ -2,7 +2,7 @@ pub mod Digits
 pub mod Picking
 pub mod Holding
 pub mod Cardinal
-pub mod Vocabulary
+pub mod NumberWords
 pub mod Forms
 pub mod Flushing
 pub mod Value

@@ -9,10 +9,10 @@ use lib.ListN.{length, take, drop, set, getD, length-append, take-append-drop}
 use lib.Seq.{take-suc, take-all}
 use borrow.Author.Tests.{le-leb, lt-leb}
 use Rattle.lists.proofs.Sets.{le-or-lt}
-use Rattle.numerals.specs.Cardinal.{clean, digitValue}
-use Rattle.numerals.specs.Walk.{padded, fewOf}
-use Rattle.numerals.specs.declared.few.Few.{Few}
-use Rattle.numerals.proofs.Digits.{clean-append, clean-at, clean-digit}
+use Rattle.numerals.specs.Cardinal.{digitValues, digitValue}
+use Rattle.numerals.specs.Walk.{padded, firstDigits}
+use Rattle.numerals.specs.declared.digits.FirstDigits.{FirstDigits}
+use Rattle.numerals.proofs.Digits.{digitValues-append, digitValues-at, digitValues-digit}
 
 -- up to k values stand in front
 padded-front : (k : ℕ) (ds : List ℕ) → length ds ≤ k → take (length ds) (padded k ds) ≡ ds
@@ -36,73 +36,73 @@ padded-full (suc k) [] r h = absurd (omega arith)
 padded-full (suc k) (d ∷ ds) r h = ap (λ (t : List ℕ). d ∷ t) (padded-full k ds r (omega arith))
 
 -- the digits before i are picked, at most twelve
-pub record Picked (s d : List ℕ) (n i : ℕ) : Type 0 where
+pub record PickedDigits (s d : List ℕ) (n i : ℕ) : Type 0 where
   pub within : i ≤ length s
-  pub few : n ≤ 12
-  pub count : n ≡ length (clean (take i s))
-  pub values : d ≡ padded 12 (clean (take i s))
+  pub bounded : n ≤ 12
+  pub count : n ≡ length (digitValues (take i s))
+  pub values : d ≡ padded 12 (digitValues (take i s))
 
-module _ (s d : List ℕ) (n i : ℕ) (h : i < length s) (p : Picked s d n i) where
-  before-next : clean (take (i + 1) s) ≡ clean (take i s) ++ clean (getD s i 0 ∷ [])
-  before-next = rw (add-one i, take-suc s i 0 h) (clean-append (take i s) (getD s i 0 ∷ []))
+module _ (s d : List ℕ) (n i : ℕ) (h : i < length s) (p : PickedDigits s d n i) where
+  before-next : digitValues (take (i + 1) s) ≡ digitValues (take i s) ++ digitValues (getD s i 0 ∷ [])
+  before-next = rw (add-one i, take-suc s i 0 h) (digitValues-append (take i s) (getD s i 0 ∷ []))
 
   -- a byte that is no digit is passed over
-  pub pick-none : clean (getD s i 0 ∷ []) ≡ [] → Picked s d n (i + 1)
+  pub pick-none : digitValues (getD s i 0 ∷ []) ≡ [] → PickedDigits s d n (i + 1)
   pick-none z =
-      let e : clean (take (i + 1) s) ≡ clean (take i s) = before-next ∙ rw (z, append-nil) in
-      record { within = omega arith; few = p .few; count = p .count ∙ rw e; values = p .values ∙ rw e }
+      let e : digitValues (take (i + 1) s) ≡ digitValues (take i s) = before-next ∙ rw (z, append-nil) in
+      record { within = omega arith; bounded = p .bounded; count = p .count ∙ rw e; values = p .values ∙ rw e }
 
   module _ (v : 48 ≤ getD s i 0) (u : getD s i 0 ≤ 57) where
     abbrev b : ℕ
     b = digitValue (getD s i 0)
 
     -- a digit is put in the next place
-    pub pick-digit : n < 12 → Picked s (set d n b) (n + 1) (i + 1)
+    pub pick-digit : n < 12 → PickedDigits s (set d n b) (n + 1) (i + 1)
     pick-digit k =
-        let e : clean (take (i + 1) s) ≡ clean (take i s) ++ b ∷ [] = before-next ∙ rw (clean-digit (getD s i 0) v u) in
+        let e : digitValues (take (i + 1) s) ≡ digitValues (take i s) ++ b ∷ [] = before-next ∙ rw (digitValues-digit (getD s i 0) v u) in
         record {
           within = omega arith;
-          few = omega arith;
-          count = rw e (omega (arith, length-append (clean (take i s)) (b ∷ []), p .count));
-          values = rw (e, p .values, p .count) (padded-snoc 12 (clean (take i s)) b);
+          bounded = omega arith;
+          count = rw e (omega (arith, length-append (digitValues (take i s)) (b ∷ []), p .count));
+          values = rw (e, p .values, p .count) (padded-snoc 12 (digitValues (take i s)) b);
         }
 
     -- where twelve are picked, there are more
-    pub pick-over : n ≡ 12 → record { d = d; n = 13 } ≡ fewOf s
-    unfolding fewOf
+    pub pick-over : n ≡ 12 → record { d = d; n = 13 } ≡ firstDigits s
+    unfolding firstDigits
     pick-over k =
-        let ds = clean (take i s) in
-        let r = clean (drop (i + 1) s) in
-        let e : clean s ≡ ds ++ (b ∷ r) =
-        rw (take-append-drop i s, clean-at s i h, clean-digit (getD s i 0) v u) at (clean-append (take i s) (drop i s)) in
-        let l : 12 < length (clean s) = omega (arith, ap length e, length-append ds (b ∷ r), p .count) in
-        rw (lt-leb (length (clean s)) 12 l, e, padded-full 12 ds (b ∷ r) (omega (arith, p .count)), p .values)
+        let ds = digitValues (take i s) in
+        let r = digitValues (drop (i + 1) s) in
+        let e : digitValues s ≡ ds ++ (b ∷ r) =
+        rw (take-append-drop i s, digitValues-at s i h, digitValues-digit (getD s i 0) v u) at (digitValues-append (take i s) (drop i s)) in
+        let l : 12 < length (digitValues s) = omega (arith, ap length e, length-append ds (b ∷ r), p .count) in
+        rw (lt-leb (length (digitValues s)) 12 l, e, padded-full 12 ds (b ∷ r) (omega (arith, p .count)), p .values)
 
 -- at the end all are picked
-pub pick-end : (s d : List ℕ) (n i : ℕ) → length s ≤ i → Picked s d n i → record { d = d; n = n } ≡ fewOf s
-unfolding fewOf
+pub pick-end : (s d : List ℕ) (n i : ℕ) → length s ≤ i → PickedDigits s d n i → record { d = d; n = n } ≡ firstDigits s
+unfolding firstDigits
 pick-end s d n i h p =
     let t : take i s ≡ s = take-all i s h in
-    let c : n ≡ length (clean s) = rw t at (p .count) in
-    rw (le-leb (length (clean s)) 12 (omega (arith, c, p .few)), c, rw t at (p .values))
+    let c : n ≡ length (digitValues s) = rw t at (p .count) in
+    rw (le-leb (length (digitValues s)) 12 (omega (arith, c, p .bounded)), c, rw t at (p .values))
 
 -- ---- what is picked
 
-module _ (s : List ℕ) (f : Few) (e : f ≡ fewOf s) where
+module _ (s : List ℕ) (f : FirstDigits) (e : f ≡ firstDigits s) where
   -- up to twelve digits are all there
-  pub few-digits : length (clean s) ≤ 12 → take (f .n) (f .d) ≡ clean s
-  unfolding fewOf
-  few-digits h = rw (e, le-leb (length (clean s)) 12 h) (padded-front 12 (clean s) h)
+  pub few-digits : length (digitValues s) ≤ 12 → take (f .n) (f .d) ≡ digitValues s
+  unfolding firstDigits
+  few-digits h = rw (e, le-leb (length (digitValues s)) 12 h) (padded-front 12 (digitValues s) h)
 
   -- the number tells whether there are more
-  pub few-more : 12 < f .n → 12 < length (clean s)
-  unfolding fewOf
+  pub few-more : 12 < f .n → 12 < length (digitValues s)
+  unfolding firstDigits
   few-more h =
-      ⊎-elim (λ (l : length (clean s) ≤ 12). absurd (omega (arith, rw (e, le-leb (length (clean s)) 12 l) at h))) (λ (l : 12 < length (clean s)). l)
-      (le-or-lt (length (clean s)) 12)
+      ⊎-elim (λ (l : length (digitValues s) ≤ 12). absurd (omega (arith, rw (e, le-leb (length (digitValues s)) 12 l) at h))) (λ (l : 12 < length (digitValues s)). l)
+      (le-or-lt (length (digitValues s)) 12)
 
-  pub few-all : f .n ≤ 12 → length (clean s) ≤ 12
-  unfolding fewOf
+  pub few-all : f .n ≤ 12 → length (digitValues s) ≤ 12
+  unfolding firstDigits
   few-all h =
-      ⊎-elim (λ (l : length (clean s) ≤ 12). l) (λ (l : 12 < length (clean s)). absurd (omega (arith, rw (e, lt-leb (length (clean s)) 12 l) at h)))
-      (le-or-lt (length (clean s)) 12)
+      ⊎-elim (λ (l : length (digitValues s) ≤ 12). l) (λ (l : 12 < length (digitValues s)). absurd (omega (arith, rw (e, lt-leb (length (digitValues s)) 12 l) at h)))
+      (le-or-lt (length (digitValues s)) 12)

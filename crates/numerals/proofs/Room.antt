@@ -8,17 +8,17 @@ use native.Mathlib.Omega.{arith}
 use lib.Dec.{leb}
 use lib.ListN.{length, getD, length-append, length-map}
 use borrow.Author.Tests.{leb-true, lt-leb}
-use Rattle.lists.specs.Bytes.{keep, all, Every}
+use Rattle.lists.specs.Bytes.{filterb, all, Every}
 use Rattle.lists.specs.Classes.{digit, except}
-use Rattle.lists.proofs.Scan.{keep-le}
+use Rattle.lists.proofs.Scan.{filterb-le}
 use Rattle.lists.proofs.Table.{upto, below}
-use Rattle.lexicon.proofs.Laws.{lexicon}
-use Rattle.numerals.specs.Words.{Word, one, hundred, scale, spell, spelled, counted, vocabulary}
-use Rattle.numerals.specs.Cardinal.{digitValue, clean, pair, scaleFor, join, splitAt, cardinalFew, cardinalOf, cardinal, digits}
+use Rattle.vocabulary.proofs.Laws.{unfoldVocabulary}
+use Rattle.numerals.specs.Words.{Word, one, hundred, scale, spell, spelled, consecutiveWords, numberWords}
+use Rattle.numerals.specs.Cardinal.{digitValue, digitValues, pairWords, scaleFor, joinAtScale, splitAt, shortCardinal, cardinalOf, cardinal, digits}
 use Rattle.numerals.specs.Ordinal.{formIn, ordinalForm, orZero, onLast, ordinal}
-use Rattle.numerals.specs.Walk.{Digits}
-use Rattle.numerals.proofs.Cardinal.{split-parts, few-induct, cardinalOf-elim, cardinal-2}
-use Rattle.numerals.proofs.Vocabulary.{Numeral, numeral-test, cardinal-numerals, clean-digits}
+use Rattle.numerals.specs.Walk.{BelowTen}
+use Rattle.numerals.proofs.Cardinal.{scale-split, shortCardinal-induct, cardinalOf-elim, cardinal-2}
+use Rattle.numerals.proofs.NumberWords.{NumberWord, number-word-test, cardinal-number-words, digitValues-below-ten}
 
 -- the bytes that the words take of a line, where a space stands before each
 abbrev pub width : List Word → ℕ
@@ -58,18 +58,18 @@ room-counts {ws = ws} r = omega (arith, length-map ws spell, store-width ws)
 
 -- the word of a digit
 pub one-room : (d : ℕ) → d < 10 → Room 1 6 (one d ∷ [])
-unfolding spell lexicon
+unfolding spell unfoldVocabulary
 one-room d h = fits-room 1 6 (one d ∷ []) (below (λ d. fits 1 6 (one d ∷ [])) 10 refl d h)
 
-pair-room : (a b : ℕ) → a < 10 → b < 10 → Room 2 14 (pair a b)
-unfolding pair spell lexicon
+pair-room : (a b : ℕ) → a < 10 → b < 10 → Room 2 14 (pairWords a b)
+unfolding pairWords spell unfoldVocabulary
 pair-room a b h k =
-    let f : ℕ → ℕ → Bool = λ a b. fits 2 14 (pair a b) in
-    fits-room 2 14 (pair a b) (below (f a) 10 (below (λ a. upto (f a) 10) 10 refl a h) b k)
+    let f : ℕ → ℕ → Bool = λ a b. fits 2 14 (pairWords a b) in
+    fits-room 2 14 (pairWords a b) (below (f a) 10 (below (λ a. upto (f a) 10) 10 refl a h) b k)
 
 -- the word "hundred"
 pub hundred-room : Room 1 8 (hundred ∷ [])
-unfolding spell lexicon
+unfolding spell unfoldVocabulary
 hundred-room = omega arith
 
 -- the most bytes of a line that up to twelve digits take
@@ -81,22 +81,22 @@ abbrev joined : ℕ → ℕ
 joined n = most (splitAt n) + width (scale (scaleFor n) ∷ []) + most (n - splitAt n)
 
 most-joined : (n : ℕ) → 3 < n → n ≤ 12 → joined n ≤ most n
-unfolding most spell lexicon
+unfolding most spell unfoldVocabulary
 most-joined n z h = leb-true _ _ (rw (lt-leb n 3 z) at (below (λ k. leb k 3 || leb (joined k) (most k)) 13 refl n (omega arith)))
 
 most-small : (n : ℕ) → n < 13 → most n ≤ 11 * n + 5
 unfolding most
 most-small n h = leb-true _ _ (below (λ n. leb (most n) (11 * n + 5)) 13 refl n h)
 
-join-room : {a b c d : ℕ} (l : List Word) (w : Word) (r : List Word) → Room a b l → Room c d r → Room (a + 1 + c) (b + width (w ∷ []) + d) (join l w r)
-unfolding join
+join-room : {a b c d : ℕ} (l : List Word) (w : Word) (r : List Word) → Room a b l → Room c d r → Room (a + 1 + c) (b + width (w ∷ []) + d) (joinAtScale l w r)
+unfolding joinAtScale
 join-room [] w r p q = omega arith
 join-room (v ∷ l) w r p q = omega (arith, together (v ∷ l) (w ∷ r))
 
 -- two words a digit, less a place for the word of a scale
-few-room : (s : List ℕ) → Digits s → length s ≤ 12 → Room (2 * length s - 1) (most (length s)) (cardinalFew s)
+short-room : (s : List ℕ) → BelowTen s → length s ≤ 12 → Room (2 * length s - 1) (most (length s)) (shortCardinal s)
 unfolding most
-few-room = few-induct (λ d. d < 10) (λ n ws. n ≤ 12 → Room (2 * n - 1) (most n) ws) (record {
+short-room = shortCardinal-induct (λ d. d < 10) (λ n ws. n ≤ 12 → Room (2 * n - 1) (most n) ws) (record {
   none = λ l. omega arith;
   single = λ a d l. one-room a d;
   double = λ a b d e l. omega (arith, pair-room a b d e);
@@ -104,7 +104,7 @@ few-room = few-induct (λ d. d < 10) (λ n ws. n ≤ 12 → Room (2 * n - 1) (mo
   triple = λ a b c d e f l. omega (arith, one-room a d, hundred-room, pair-room b c e f);
   joined =
       λ n left right z h k l.
-      let p = split-parts n z in
+      let p = scale-split n z in
       omega (arith, join-room left (scale (scaleFor n)) right (h (omega arith)) (k (omega arith)), most-joined n z l);
 })
 
@@ -114,48 +114,48 @@ unfolding cardinalOf
 two-room a b h k = rw (cardinal-2 (a ∷ b ∷ []) refl) (pair-room a b h k)
 
 -- one word per digit
-pub ones-room : (s : List ℕ) → Digits s → Room (length s) (6 * length s) (map one s)
+pub ones-room : (s : List ℕ) → BelowTen s → Room (length s) (6 * length s) (map one s)
 ones-room [] h = omega arith
 ones-room (d ∷ s) h = omega (arith, one-room d (h .0), ones-room s (h .1))
 
 -- what a number of so many digits is given
-abbrev pub Number : ℕ → List Word → Type 0
-Number n = Room (2 * n) (11 * n + 5)
+abbrev pub RoomForNumber : ℕ → List Word → Type 0
+RoomForNumber n = Room (2 * n) (11 * n + 5)
 
 -- the words of a number are within that
-pub cardinalOf-room : (s : List ℕ) → Digits s → Number (length s) (cardinalOf s)
+pub cardinalOf-room : (s : List ℕ) → BelowTen s → RoomForNumber (length s) (cardinalOf s)
 unfolding cardinalOf
 cardinalOf-room s h =
-    cardinalOf-elim (Number (length s)) s (λ l. omega (arith, few-room s h l, most-small (length s) (omega arith))) (omega (arith, ones-room s h))
+    cardinalOf-elim (RoomForNumber (length s)) s (λ l. omega (arith, short-room s h l, most-small (length s) (omega arith))) (omega (arith, ones-room s h))
 
 -- a text has no more digits than bytes
-pub clean-le : (s : List ℕ) → length (clean s) ≤ length s
-unfolding clean
-clean-le s = omega (arith, length-map (keep digit s) digitValue, keep-le digit s)
+pub digitValues-le : (s : List ℕ) → length (digitValues s) ≤ length s
+unfolding digitValues
+digitValues-le s = omega (arith, length-map (filterb digit s) digitValue, filterb-le digit s)
 
 -- the words of a text's number
-pub cardinal-room : (s : List ℕ) → Number (length s) (cardinal s)
+pub cardinal-room : (s : List ℕ) → RoomForNumber (length s) (cardinal s)
 unfolding cardinal
-cardinal-room s = omega (arith, cardinalOf-room (clean s) (clean-digits s), clean-le s)
+cardinal-room s = omega (arith, cardinalOf-room (digitValues s) (digitValues-below-ten s), digitValues-le s)
 
 -- the words of its digits, one by one
 pub digits-room : (s : List ℕ) → Room (length s) (6 * length s) (digits s)
 unfolding digits
-digits-room s = omega (arith, ones-room (clean s) (clean-digits s), clean-le s)
+digits-room s = omega (arith, ones-room (digitValues s) (digitValues-below-ten s), digitValues-le s)
 
 -- an ordinal form has at most three bytes more than its word
-form-small : (w : Word) → Numeral w → length (ordinalForm (spell w)) ≤ length (spell w) + 3
-unfolding vocabulary counted spell lexicon ordinalForm formIn all
-form-small w n = leb-true _ _ (numeral-test (λ w. leb (length (ordinalForm (spell w))) (length (spell w) + 3)) refl w n)
+form-small : (w : Word) → NumberWord w → length (ordinalForm (spell w)) ≤ length (spell w) + 3
+unfolding numberWords consecutiveWords spell unfoldVocabulary ordinalForm formIn all
+form-small w n = leb-true _ _ (number-word-test (λ w. leb (length (ordinalForm (spell w))) (length (spell w) + 3)) refl w n)
 
-last-room : (ws : List Word) → Every Numeral ws → Room (length ws) (width ws + 3) (onLast ws)
+last-room : (ws : List Word) → Every NumberWord ws → Room (length ws) (width ws + 3) (onLast ws)
 unfolding onLast spell
 last-room [] h = omega arith
 last-room (w ∷ []) h = omega (arith, form-small w (h .0))
 last-room (w ∷ v ∷ ws) h = omega (arith, last-room (v ∷ ws) (h .1))
 
-zero-room : (n : ℕ) (ws : List Word) → Every Numeral ws → Number n ws → RoomFor n (onLast (orZero ws))
-unfolding orZero onLast spell ordinalForm formIn lexicon
+zero-room : (n : ℕ) (ws : List Word) → Every NumberWord ws → RoomForNumber n ws → RoomFor n (onLast (orZero ws))
+unfolding orZero onLast spell ordinalForm formIn unfoldVocabulary
 zero-room n [] h r = omega arith
 zero-room n (w ∷ ws) h r = omega (arith, last-room (w ∷ ws) h)
 
@@ -163,5 +163,5 @@ zero-room n (w ∷ ws) h r = omega (arith, last-room (w ∷ ws) h)
 pub ordinal-room : (s : List ℕ) → RoomFor (length s) (ordinal s)
 unfolding ordinal
 ordinal-room s =
-    let t = keep (except (code ",")) s in
-    omega (arith, zero-room (length t) (cardinal t) (cardinal-numerals t) (cardinal-room t), keep-le (except (code ",")) s)
+    let t = filterb (except (code ",")) s in
+    omega (arith, zero-room (length t) (cardinal t) (cardinal-number-words t) (cardinal-room t), filterb-le (except (code ",")) s)

@@ -86,13 +86,13 @@ decimal s = decimalFrom 0 s
 -- ---- no public promise is made of these
 
 -- what a word means by what it stands for
-abbrev pub meant : Word → Meaning
-meant (one d) = adds d
-meant (teen d) = adds (10 + d)
-meant (ten d) = adds (10 * d)
-meant hundred = multiplies 100
-meant (scale k) = scalesBy (1000 ^ k)
-meant (other w) = adds 0
+abbrev pub meaningOf : Word → Meaning
+meaningOf (one d) = adds d
+meaningOf (teen d) = adds (10 + d)
+meaningOf (ten d) = adds (10 * d)
+meaningOf hundred = multiplies 100
+meaningOf (scale k) = scalesBy (1000 ^ k)
+meaningOf (other w) = adds 0
 
-unfoldable pub value : List Word → ℕ
-value ws = valueFrom 0 0 (map meant ws)
+unfoldable pub wordsValue : List Word → ℕ
+wordsValue ws = valueFrom 0 0 (map meaningOf ws)

@@ -5,16 +5,16 @@ use Prim.Native.Nat.{ℕ, zero, suc, _+_, _<_}
 use lib.Dec.{leb, ltb, eqb}
 use lib.ListN.{length, getD}
 use Rattle.lists.specs.Bytes.{Every}
-use Rattle.lexicon.specs.Lexicon.{wordOf, onesAt, teensAt, tensAt, scalesAt, ordinalStep}
-use Rattle.sink.specs.Sink.{Sink, sink, emit}
+use Rattle.vocabulary.specs.Vocabulary.{wordOf, onesAt, teensAt, tensAt, scalesAt, ordinalStep}
+use Rattle.word_writer.specs.Writer.{Writer, writer, emit}
 use Rattle.numerals.specs.Words.{Word, one, teen, ten, hundred, scale, other}
-use Rattle.numerals.specs.Cardinal.{clean}
-use Rattle.numerals.specs.declared.few.Few.{Few}
+use Rattle.numerals.specs.Cardinal.{digitValues}
+use Rattle.numerals.specs.declared.digits.FirstDigits.{FirstDigits}
 use Rattle.numerals.specs.declared.held.Held.{Held}
 
 -- values of digits: each is below ten
-abbrev pub Digits : List ℕ → Type 0
-Digits = Every (λ d. d < 10)
+abbrev pub BelowTen : List ℕ → Type 0
+BelowTen = Every (λ d. d < 10)
 
 -- the first k values, and 0 for each that is missing
 unfoldable pub padded : ℕ → List ℕ → List ℕ
@@ -23,8 +23,8 @@ padded (suc k) [] = 0 ∷ padded k []
 padded (suc k) (d ∷ ds) = d ∷ padded k ds
 
 -- the values of a text's first twelve digits, and how many digits it has, 13 where they are more
-unfoldable pub fewOf : List ℕ → Few
-fewOf s = record { d = padded 12 (clean s); n = cond (leb (length (clean s)) 12) (length (clean s)) 13 }
+unfoldable pub firstDigits : List ℕ → FirstDigits
+firstDigits s = record { d = padded 12 (digitValues s); n = cond (leb (length (digitValues s)) 12) (length (digitValues s)) 13 }
 
 -- a word's number in the lexicon
 unfoldable pub numberOf : Word → ℕ
@@ -36,28 +36,28 @@ numberOf (scale k) = scalesAt + k
 numberOf (other w) = 0
 
 -- a writer that is one word behind: the last word, by its number, is held back; 0 where there is none
-pub record HeldSink : Type 0 where
-  pub sink : Sink
+pub record HeldWriter : Type 0 where
+  pub writer : Writer
   pub last : ℕ
 
-abbrev pub held : List ℕ → List ℕ → Held → HeldSink
-held s t h = record { sink = sink s t (h .pen); last = h .last }
+abbrev pub held : List ℕ → List ℕ → Held → HeldWriter
+held s t h = record { writer = writer s t (h .cursor); last = h .last }
 
 -- the word that is held is written
-unfoldable pub flushed : HeldSink → Sink
-flushed h = cond (eqb (h .last) 0) (h .sink) (emit (wordOf (h .last)) (h .sink))
+unfoldable pub flushed : HeldWriter → Writer
+flushed h = cond (eqb (h .last) 0) (h .writer) (emit (wordOf (h .last)) (h .writer))
 
 -- the next word is held instead
-unfoldable pub holds : ℕ → HeldSink → HeldSink
-holds k h = record { sink = flushed h; last = k }
+unfoldable pub holdWord : ℕ → HeldWriter → HeldWriter
+holdWord k h = record { writer = flushed h; last = k }
 
-unfoldable pub holdAll : List ℕ → HeldSink → HeldSink
-holdAll [] h = h
-holdAll (k ∷ ks) h = holdAll ks (holds k h)
+unfoldable pub holdWords : List ℕ → HeldWriter → HeldWriter
+holdWords [] h = h
+holdWords (k ∷ ks) h = holdWords ks (holdWord k h)
 
 -- up to three digits that have no words
-unfoldable pub silentOf : List ℕ → Bool
-silentOf s =
+unfoldable pub hasNoWords : List ℕ → Bool
+hasNoWords s =
     (eqb (length s) 2 && (eqb (getD s 0 0) 0 && eqb (getD s 1 0) 0))
     || (eqb (length s) 3 && (eqb (getD s 0 0) 0 && (eqb (getD s 1 0) 0 && eqb (getD s 2 0) 0)))
 

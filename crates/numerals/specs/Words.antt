@@ -3,7 +3,7 @@ use mathlib.Core.List.{List, [], _∷_, _++_, map}
 use Prim.Native.Nat.{ℕ, zero, suc}
 use lib.ListN.{getD}
 use Rattle.lists.specs.Bytes.{bytes}
-use Rattle.lexicon.specs.Lexicon.{ones, teens, tens, scales}
+use Rattle.vocabulary.specs.Vocabulary.{ones, teens, tens, scales}
 
 -- a word of ONES, TEENS or TENS by its place there; "hundred"; thousand, million and billion as scales 1 to 3; any other word
 pub data Word : Type 0 where
@@ -27,10 +27,10 @@ spelled = map spell
 -- ---- no public promise is made of these
 
 -- the words f n, f (n + 1), .. of which there are k
-unfoldable pub counted : (ℕ → Word) → ℕ → ℕ → List Word
-counted f n zero = []
-counted f n (suc k) = f n ∷ counted f (suc n) k
+unfoldable pub consecutiveWords : (ℕ → Word) → ℕ → ℕ → List Word
+consecutiveWords f n zero = []
+consecutiveWords f n (suc k) = f n ∷ consecutiveWords f (suc n) k
 
 -- the words that a cardinal number is read with
-unfoldable pub vocabulary : List Word
-vocabulary = counted one 0 10 ++ (counted teen 1 9 ++ (counted ten 1 9 ++ (hundred ∷ counted scale 1 3)))
+unfoldable pub numberWords : List Word
+numberWords = consecutiveWords one 0 10 ++ (consecutiveWords teen 1 9 ++ (consecutiveWords ten 1 9 ++ (hundred ∷ consecutiveWords scale 1 3)))

@@ -1,49 +1,49 @@
 // A writer of lexicon words that is one word behind, since an ordinal number changes its last word.
 use crate::saying::say;
-use lexicon::HUNDRED;
-use lexicon::ONES;
-use lexicon::ORDINAL;
-use lexicon::TEENS;
-use lexicon::TENS;
-use sink::Pen;
+use vocabulary::HUNDRED;
+use vocabulary::ONES;
+use vocabulary::ORDINAL;
+use vocabulary::TEENS;
+use vocabulary::TENS;
+use word_writer::Cursor;
 ghost use mathlib.Core.Path.{_≡_};
 ghost use mathlib.Core.Bool.{cond};
 ghost use mathlib.Core.List.{map, _∷_, []};
 ghost use lib.Dec.{eqb};
-ghost use Rattle.sink.specs.Sink.{sink};
+ghost use Rattle.word_writer.specs.Writer.{writer};
 ghost use Rattle.numerals.specs.Words.{one, hundred, scale};
-ghost use Rattle.numerals.specs.Cardinal.{pair};
-ghost use Rattle.numerals.specs.Walk.{numberOf, held, flushed, holds, holdAll, ordinalNumber};
+ghost use Rattle.numerals.specs.Cardinal.{pairWords};
+ghost use Rattle.numerals.specs.Walk.{numberOf, held, flushed, holdWord, holdWords, ordinalNumber};
 
 // No word is held. It is the number of a unit's word, which is never held.
 pub const NONE: usize = 0;
 
 pub struct Held {
-    pub pen: Pen,
+    pub cursor: Cursor,
     pub last: usize,
 }
 
 // Says the word that is held.
-pub fn flush(store: &mut [u8], table: &mut [u8], h: Held) -> Pen
-    ensures { λ r. ⌜ sink (now (store .exit)) (now (table .exit)) r ≡ flushed (held (now (store .entry)) (now (table .entry)) h) ⌝ }
+pub fn flush(store: &mut [u8], table: &mut [u8], h: Held) -> Cursor
+    ensures { λ r. ⌜ writer (now (store .exit)) (now (table .exit)) r ≡ flushed (held (now (store .entry)) (now (table .entry)) h) ⌝ }
 {
     if h.last == NONE {
-        return h.pen;
+        return h.cursor;
     }
-    say(h.last, store, table, h.pen)
+    say(h.last, store, table, h.cursor)
 }
 
 // Says the word that is held, and holds word number k.
 pub fn hold(k: usize, store: &mut [u8], table: &mut [u8], h: Held) -> Held
-    ensures { λ r. ⌜ held (now (store .exit)) (now (table .exit)) r ≡ holds k (held (now (store .entry)) (now (table .entry)) h) ⌝ }
+    ensures { λ r. ⌜ held (now (store .exit)) (now (table .exit)) r ≡ holdWord k (held (now (store .entry)) (now (table .entry)) h) ⌝ }
 {
-    let pen = flush(store, table, h);
-    Held { pen, last: k }
+    let cursor = flush(store, table, h);
+    Held { cursor, last: k }
 }
 
 // A pair of digits as tens and ones.
 pub fn hold_pair(t: u8, n: u8, store: &mut [u8], table: &mut [u8], h: Held) -> Held
-    ensures { λ r. ⌜ held (now (store .exit)) (now (table .exit)) r ≡ holdAll (map numberOf (pair t n)) (held (now (store .entry)) (now (table .entry)) h) ⌝ }
+    ensures { λ r. ⌜ held (now (store .exit)) (now (table .exit)) r ≡ holdWords (map numberOf (pairWords t n)) (held (now (store .entry)) (now (table .entry)) h) ⌝ }
 {
     if t == 0 {
         if n == 0 {
@@ -63,7 +63,7 @@ pub fn hold_pair(t: u8, n: u8, store: &mut [u8], table: &mut [u8], h: Held) -> H
 
 // The hundreds of three digits, nothing where they are 0.
 pub fn hold_hundreds(d: u8, store: &mut [u8], table: &mut [u8], h: Held) -> Held
-    ensures { λ r. ⌜ held (now (store .exit)) (now (table .exit)) r ≡ holdAll (map numberOf (cond (eqb d 0) [] (one d ∷ hundred ∷ []))) (held (now (store .entry)) (now (table .entry)) h) ⌝ }
+    ensures { λ r. ⌜ held (now (store .exit)) (now (table .exit)) r ≡ holdWords (map numberOf (cond (eqb d 0) [] (one d ∷ hundred ∷ []))) (held (now (store .entry)) (now (table .entry)) h) ⌝ }
 {
     if d == 0 {
         return h;
@@ -73,10 +73,10 @@ pub fn hold_hundreds(d: u8, store: &mut [u8], table: &mut [u8], h: Held) -> Held
 }
 
 // The word of scale k, nothing where what stands before it has no words.
-pub fn hold_scale(silent: bool, k: u8, store: &mut [u8], table: &mut [u8], h: Held) -> Held
-    ensures { λ r. ⌜ held (now (store .exit)) (now (table .exit)) r ≡ holdAll (map numberOf (cond silent [] (scale k ∷ []))) (held (now (store .entry)) (now (table .entry)) h) ⌝ }
+pub fn hold_scale(no_words: bool, k: u8, store: &mut [u8], table: &mut [u8], h: Held) -> Held
+    ensures { λ r. ⌜ held (now (store .exit)) (now (table .exit)) r ≡ holdWords (map numberOf (cond no_words [] (scale k ∷ []))) (held (now (store .entry)) (now (table .entry)) h) ⌝ }
 {
-    if silent {
+    if no_words {
         return h;
     }
     hold(HUNDRED + k as usize, store, table, h)

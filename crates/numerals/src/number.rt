@@ -1,6 +1,6 @@
 // Cardinal and ordinal numbers.
-use crate::few::FEW;
-use crate::few::find_few;
+use crate::digits::MAX_CARDINAL_DIGITS;
+use crate::digits::first_digits;
 use crate::held::Held;
 use crate::held::NONE;
 use crate::held::flush;
@@ -12,27 +12,27 @@ use crate::held::ordinal_number;
 use crate::saying::digit_value;
 use crate::saying::say;
 use crate::saying::say_digits;
-use lexicon::ONES;
-use lexicon::ORDINAL;
 use lists::DIGIT;
 use lists::after_last;
 use lists::byte_at;
 use lists::front;
 use lists::tail;
-use sink::Pen;
+use vocabulary::ONES;
+use vocabulary::ORDINAL;
+use word_writer::Cursor;
 ghost use mathlib.Core.Path.{_≡_};
 ghost use mathlib.Core.List.{map};
 ghost use Prim.Native.Nat.{_≤_, _<_};
 ghost use lib.ListN.{length};
-ghost use Rattle.sink.specs.Sink.{sink, emitAll};
+ghost use Rattle.word_writer.specs.Writer.{writer, emitAll};
 ghost use Rattle.numerals.specs.Words.{spelled};
-ghost use Rattle.numerals.specs.Cardinal.{clean, scaleFor, cardinalFew, cardinal};
+ghost use Rattle.numerals.specs.Cardinal.{digitValues, scaleFor, shortCardinal, cardinal};
 ghost use Rattle.numerals.specs.Ordinal.{ordinal};
-ghost use Rattle.numerals.specs.Walk.{Digits, numberOf, held, holdAll, silentOf};
+ghost use Rattle.numerals.specs.Walk.{BelowTen, numberOf, held, holdWords, hasNoWords};
 
 // Whether up to three digits have no words.
-fn silent(ds: &[u8]) -> bool
-    ensures { λ r. ⌜ r ≡ silentOf (now (ds .entry)) ⌝ }
+fn has_no_words(ds: &[u8]) -> bool
+    ensures { λ r. ⌜ r ≡ hasNoWords (now (ds .entry)) ⌝ }
 {
     let a = byte_at(ds, 0) == 0;
     let b = byte_at(ds, 1) == 0;
@@ -41,7 +41,7 @@ fn silent(ds: &[u8]) -> bool
 }
 
 // The largest scale with fewer digits than n: 3 billion, 2 million, 1 thousand.
-fn scale(n: usize) -> u8
+fn scale_for(n: usize) -> u8
     ensures { λ r. ⌜ (r ≡ scaleFor n) × (r ≤ 3) ⌝ }
 {
     if 9 < n {
@@ -56,7 +56,7 @@ fn scale(n: usize) -> u8
 // Holds the words of a string of digits' values: "the rest read again", and both parts of a split.
 fn hold_cardinal(ds: &[u8], store: &mut [u8], table: &mut [u8], h: Held) -> Held
     requires { ⌜ length (now ds) ≤ 12 ⌝ }
-    ensures { λ r. ⌜ held (now (store .exit)) (now (table .exit)) r ≡ holdAll (map numberOf (cardinalFew (now (ds .entry)))) (held (now (store .entry)) (now (table .entry)) h) ⌝ }
+    ensures { λ r. ⌜ held (now (store .exit)) (now (table .exit)) r ≡ holdWords (map numberOf (shortCardinal (now (ds .entry)))) (held (now (store .entry)) (now (table .entry)) h) ⌝ }
 {
     let n = ds.len();
     if n == 0 {
@@ -72,57 +72,57 @@ fn hold_cardinal(ds: &[u8], store: &mut [u8], table: &mut [u8], h: Held) -> Held
         let g = hold_hundreds(byte_at(ds, 0), store, table, h);
         return hold_cardinal(tail(ds, 1), store, table, g);
     }
-    let k = scale(n);
+    let k = scale_for(n);
     let split = n - 3 * (k as usize);
     let left = front(ds, split);
     let f = hold_cardinal(left, store, table, h);
-    let g = hold_scale(silent(left), k, store, table, f);
+    let g = hold_scale(has_no_words(left), k, store, table, f);
     hold_cardinal(tail(ds, split), store, table, g)
 }
 
 // Says the cardinal number of up to twelve digits, given by their values.
-pub fn say_few(ds: &[u8], store: &mut [u8], table: &mut [u8], pen: Pen) -> Pen
-    requires { ⌜ (length (now ds) ≤ 12) × Digits (now ds) ⌝ }
-    ensures { λ r. ⌜ sink (now (store .exit)) (now (table .exit)) r ≡ emitAll (spelled (cardinalFew (now (ds .entry)))) (sink (now (store .entry)) (now (table .entry)) pen) ⌝ }
+pub fn say_short_cardinal(ds: &[u8], store: &mut [u8], table: &mut [u8], cursor: Cursor) -> Cursor
+    requires { ⌜ (length (now ds) ≤ 12) × BelowTen (now ds) ⌝ }
+    ensures { λ r. ⌜ writer (now (store .exit)) (now (table .exit)) r ≡ emitAll (spelled (shortCardinal (now (ds .entry)))) (writer (now (store .entry)) (now (table .entry)) cursor) ⌝ }
 {
-    let start = Held { pen, last: NONE };
+    let start = Held { cursor, last: NONE };
     let h = hold_cardinal(ds, store, table, start);
     flush(store, table, h)
 }
 
 // Says the cardinal number of the digits of s.
-pub fn say_cardinal(s: &[u8], store: &mut [u8], table: &mut [u8], pen: Pen) -> Pen
-    ensures { λ r. ⌜ sink (now (store .exit)) (now (table .exit)) r ≡ emitAll (spelled (cardinal (now (s .entry)))) (sink (now (store .entry)) (now (table .entry)) pen) ⌝ }
+pub fn say_cardinal(s: &[u8], store: &mut [u8], table: &mut [u8], cursor: Cursor) -> Cursor
+    ensures { λ r. ⌜ writer (now (store .exit)) (now (table .exit)) r ≡ emitAll (spelled (cardinal (now (s .entry)))) (writer (now (store .entry)) (now (table .entry)) cursor) ⌝ }
 {
-    let few = find_few(s);
-    if FEW < few.n {
-        return say_digits(s, store, table, pen);
+    let digits = first_digits(s);
+    if MAX_CARDINAL_DIGITS < digits.count {
+        return say_digits(s, store, table, cursor);
     }
-    let d = few.d;
-    say_few(front(&d, few.n), store, table, pen)
+    let d = digits.values;
+    say_short_cardinal(front(&d, digits.count), store, table, cursor)
 }
 
 // Says more digits than have a cardinal reading one by one, the last of them in its ordinal form.
-fn say_long_ordinal(s: &[u8], store: &mut [u8], table: &mut [u8], pen: Pen) -> Pen
-    requires { ⌜ 12 < length (clean (now s)) ⌝ }
-    ensures { λ r. ⌜ sink (now (store .exit)) (now (table .exit)) r ≡ emitAll (spelled (ordinal (now (s .entry)))) (sink (now (store .entry)) (now (table .entry)) pen) ⌝ }
+fn say_long_ordinal(s: &[u8], store: &mut [u8], table: &mut [u8], cursor: Cursor) -> Cursor
+    requires { ⌜ 12 < length (digitValues (now s)) ⌝ }
+    ensures { λ r. ⌜ writer (now (store .exit)) (now (table .exit)) r ≡ emitAll (spelled (ordinal (now (s .entry)))) (writer (now (store .entry)) (now (table .entry)) cursor) ⌝ }
 {
     let at = after_last(DIGIT, 0, s) - 1;
-    let p = say_digits(front(s, at), store, table, pen);
+    let p = say_digits(front(s, at), store, table, cursor);
     let d = digit_value(byte_at(s, at));
     say(ONES + ORDINAL + d as usize, store, table, p)
 }
 
 // Says the ordinal number of the digits of s.
-pub fn say_ordinal(s: &[u8], store: &mut [u8], table: &mut [u8], pen: Pen) -> Pen
-    ensures { λ r. ⌜ sink (now (store .exit)) (now (table .exit)) r ≡ emitAll (spelled (ordinal (now (s .entry)))) (sink (now (store .entry)) (now (table .entry)) pen) ⌝ }
+pub fn say_ordinal(s: &[u8], store: &mut [u8], table: &mut [u8], cursor: Cursor) -> Cursor
+    ensures { λ r. ⌜ writer (now (store .exit)) (now (table .exit)) r ≡ emitAll (spelled (ordinal (now (s .entry)))) (writer (now (store .entry)) (now (table .entry)) cursor) ⌝ }
 {
-    let few = find_few(s);
-    if FEW < few.n {
-        return say_long_ordinal(s, store, table, pen);
+    let digits = first_digits(s);
+    if MAX_CARDINAL_DIGITS < digits.count {
+        return say_long_ordinal(s, store, table, cursor);
     }
-    let d = few.d;
-    let start = Held { pen, last: NONE };
-    let h = hold_cardinal(front(&d, few.n), store, table, start);
-    say(ordinal_number(h.last), store, table, h.pen)
+    let d = digits.values;
+    let start = Held { cursor, last: NONE };
+    let h = hold_cardinal(front(&d, digits.count), store, table, start);
+    say(ordinal_number(h.last), store, table, h.cursor)
 }

@@ -1,41 +1,41 @@
 // A word of the lexicon, and one word a digit.
-use lexicon::ONES;
 use lists::unpacked;
-use sink::Pen;
-use sink::word;
+use vocabulary::ONES;
+use word_writer::Cursor;
+use word_writer::put_word;
 ghost use mathlib.Core.Path.{_≡_};
-ghost use Rattle.lexicon.specs.Lexicon.{wordOf};
-ghost use Rattle.sink.specs.Sink.{sink, emit, emitAll};
+ghost use Rattle.vocabulary.specs.Vocabulary.{wordOf};
+ghost use Rattle.word_writer.specs.Writer.{writer, emit, emitAll};
 ghost use Rattle.numerals.specs.Words.{spelled};
 ghost use Rattle.numerals.specs.Cardinal.{digitValue, digits};
 ghost use mathlib.Core.List.{_∷_, []};
 
 // Says word number k of the lexicon.
-pub fn say(k: usize, store: &mut [u8], table: &mut [u8], pen: Pen) -> Pen
-    ensures { λ r. ⌜ sink (now (store .exit)) (now (table .exit)) r ≡ emit (wordOf k) (sink (now (store .entry)) (now (table .entry)) pen) ⌝ }
+pub fn say(k: usize, store: &mut [u8], table: &mut [u8], cursor: Cursor) -> Cursor
+    ensures { λ r. ⌜ writer (now (store .exit)) (now (table .exit)) r ≡ emit (wordOf k) (writer (now (store .entry)) (now (table .entry)) cursor) ⌝ }
 {
-    let row = lexicon::row(k);
-    word(store, table, pen, unpacked(&row))
+    let packed = vocabulary::packed(k);
+    put_word(store, table, cursor, unpacked(&packed))
 }
 
 // Says the word of a digit, and nothing of another byte.
-fn say_digit(b: u8, store: &mut [u8], table: &mut [u8], pen: Pen) -> Pen
-    ensures { λ r. ⌜ sink (now (store .exit)) (now (table .exit)) r ≡ emitAll (spelled (digits (b ∷ []))) (sink (now (store .entry)) (now (table .entry)) pen) ⌝ }
+fn say_digit(b: u8, store: &mut [u8], table: &mut [u8], cursor: Cursor) -> Cursor
+    ensures { λ r. ⌜ writer (now (store .exit)) (now (table .exit)) r ≡ emitAll (spelled (digits (b ∷ []))) (writer (now (store .entry)) (now (table .entry)) cursor) ⌝ }
 {
     if b < b'0' {
-        return pen;
+        return cursor;
     }
     if b'9' < b {
-        return pen;
+        return cursor;
     }
-    say(ONES + (b - b'0') as usize, store, table, pen)
+    say(ONES + (b - b'0') as usize, store, table, cursor)
 }
 
 // Says one word per digit of s.
-pub fn say_digits(s: &[u8], store: &mut [u8], table: &mut [u8], pen: Pen) -> Pen
-    ensures { λ r. ⌜ sink (now (store .exit)) (now (table .exit)) r ≡ emitAll (spelled (digits (now (s .entry)))) (sink (now (store .entry)) (now (table .entry)) pen) ⌝ }
+pub fn say_digits(s: &[u8], store: &mut [u8], table: &mut [u8], cursor: Cursor) -> Cursor
+    ensures { λ r. ⌜ writer (now (store .exit)) (now (table .exit)) r ≡ emitAll (spelled (digits (now (s .entry)))) (writer (now (store .entry)) (now (table .entry)) cursor) ⌝ }
 {
-    let mut p = pen;
+    let mut p = cursor;
     let mut i = 0;
     while i < s.len() {
         p = say_digit(s[i], store, table, p);

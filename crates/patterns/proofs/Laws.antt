@@ -14,7 +14,7 @@ use Rattle.units.specs.Units.{unitIndex, unitWord}
 use Rattle.units.proofs.Laws.{miss-none, miss-word, hit-some}
 use Rattle.shapes.specs.Shapes.{unitAt, hasUnit, unitPart}
 use Rattle.shapes.proofs.Laws.{unit-some}
-use Rattle.patterns.specs.Calls.{noPart, unitFound, storeTests, storeCall, wordCall}
+use Rattle.patterns.specs.Calls.{noPart, unitFound, storeTests, storeCall, unitWordCall}
 
 -- no unit
 pub unit-none : (s : List ℕ) → length (unitPart s) ≡ 0 → unitFound s ≡ noPart
@@ -65,15 +65,15 @@ unfolding textTests
 word-in-order s store = refl
 
 module _ (s store : List ℕ) (n : ℕ) (due : n ≡ textRefusal textLimit s) where
-  pub word-refused : (n ≡ 0 → ⊥) → record { refusal = n; value = record { found = false; size = 0; store = store } } ≡ wordCall s store
+  pub word-refused : (n ≡ 0 → ⊥) → record { refusal = n; value = record { found = false; size = 0; store = store } } ≡ unitWordCall s store
   word-refused z = held (textTests textLimit (s ∷ [])) (storeTests (unitWord s) store) due _ _ z
 
   -- an accepted text that is a unit
-  pub word-found : n ≡ 0 → unitIndex s < 22 → storeCall (unitWord s) store ≡ wordCall s store
+  pub word-found : n ≡ 0 → unitIndex s < 22 → storeCall (unitWord s) store ≡ unitWordCall s store
   word-found z h = rw (hit-some s h, passed (textTests textLimit (s ∷ [])) (storeTests (unitWord s) store) due z)
 
   -- an accepted text that is none
-  pub word-none : n ≡ 0 → 22 ≤ unitIndex s → record { refusal = 0; value = record { found = false; size = 0; store = store } } ≡ wordCall s store
+  pub word-none : n ≡ 0 → 22 ≤ unitIndex s → record { refusal = 0; value = record { found = false; size = 0; store = store } } ≡ unitWordCall s store
   word-none z h =
       let l : ltb (length store) 0 ≡ false = le-ltb (length store) 0 (omega arith) in
       rw (miss-none s h, miss-word s h, passed (textTests textLimit (s ∷ [])) (storeTests [] store) due z, l)

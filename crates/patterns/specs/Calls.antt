@@ -4,12 +4,12 @@ use mathlib.Core.List.{List, [], _∷_, _++_}
 use Prim.Native.Nat.{ℕ}
 use lib.Dec.{ltb}
 use lib.ListN.{length}
-use Rattle.admit.specs.Refusals.{Test, _when_, firstDue, textLimit, textTests, textRefusal, Call, call}
+use Rattle.admit.specs.Refusals.{Test, _when_, firstRefusal, textLimit, textTests, textRefusal, Call, call}
 use Rattle.admit.specs.declared.Refusal.the-variants.{BufferTooShort}
-use Rattle.lists.specs.Bytes.{over}
+use Rattle.lists.specs.Bytes.{overwrite}
 use Rattle.units.specs.Units.{isUnit, unitWord}
 use Rattle.shapes.specs.Shapes.{unitAt, hasUnit, unitPart}
-use Rattle.shapes.specs.Times.{TimeParts, none, timeParts, timeSplit, partsOf}
+use Rattle.shapes.specs.Times.{TimeParts, no-time-parts, timeParts, timeSplit, timePartsAt}
 use Rattle.shapes.specs.declared.TimeSplit.{TimeSplit}
 use Rattle.shapes.specs.declared.TimeSplit.the-variants.{Nothing}
 use Rattle.patterns.specs.declared.Verdict.{Verdict}
@@ -27,11 +27,11 @@ verdictCall s v = call false (textRefusal textLimit s) v
 
 -- split_time_meridiem: "answers hour, minute and meridiem, or none", and "no part" where it is refused
 abbrev pub timeCall : List ℕ → Call TimeParts
-timeCall s = call none (textRefusal textLimit s) (timeParts s)
+timeCall s = call no-time-parts (textRefusal textLimit s) (timeParts s)
 
 -- the parts of the name s that an answer's offsets stand for
 abbrev pub asTime : SplitTime → List ℕ → Call TimeParts
-asTime r s = record { refusal = r .refusal; value = partsOf (r .split) s }
+asTime r s = record { refusal = r .refusal; value = timePartsAt (r .split) s }
 
 -- the same call's offsets
 abbrev pub offsetsCall : List ℕ → Call TimeSplit
@@ -60,38 +60,38 @@ abbrev pub unitCall : List ℕ → Call FoundPart
 unitCall s = call noPart (textRefusal textLimit s) (unitFound s)
 
 -- a word in a lent store: whether there is one, its length, and the store's bytes as the call leaves them
-pub record Stored : Type 0 where
+pub record WordResult : Type 0 where
   pub found : Bool
   pub size : ℕ
   pub store : List ℕ
 
-abbrev pub asWord : UnitWord → List ℕ → Call Stored
-asWord r store = record { refusal = r .refusal; value = record { found = r .yes; size = r .len; store = store } }
+abbrev pub asUnitWord : UnitWord → List ℕ → Call WordResult
+asUnitWord r store = record { refusal = r .refusal; value = record { found = r .yes; size = r .len; store = store } }
 
 -- "a lent output buffer is smaller than the whole result": the word goes to the store
 abbrev pub storeTests : List ℕ → List ℕ → List Test
 storeTests word store = BufferTooShort when ltb (length store) (length word) ∷ []
 
 -- unit_word: the tests of its text, and then of the store
-abbrev pub wordCall : List ℕ → List ℕ → Call Stored
-wordCall s store =
+abbrev pub unitWordCall : List ℕ → List ℕ → Call WordResult
+unitWordCall s store =
     call (record { found = false; size = 0; store = store })
-    (firstDue (textTests textLimit (s ∷ []) ++ storeTests (unitWord s) store))
-    (record { found = isUnit s; size = length (unitWord s); store = over (unitWord s) store })
+    (firstRefusal (textTests textLimit (s ∷ []) ++ storeTests (unitWord s) store))
+    (record { found = isUnit s; size = length (unitWord s); store = overwrite (unitWord s) store })
 
 -- ---- no public promise is made of these
 
 -- the verdict of a refused call
-abbrev pub noVerdict : ℕ → Call Bool
-noVerdict n = record { refusal = n; value = false }
+abbrev pub refusedVerdict : ℕ → Call Bool
+refusedVerdict n = record { refusal = n; value = false }
 
 -- the verdict of an accepted one
-abbrev pub verdictGiven : Bool → Call Bool
-verdictGiven v = record { refusal = 0; value = v }
+abbrev pub acceptedVerdict : Bool → Call Bool
+acceptedVerdict v = record { refusal = 0; value = v }
 
 -- the word of an accepted text goes to the store, or the store is too short for it
-abbrev pub storeCall : List ℕ → List ℕ → Call Stored
+abbrev pub storeCall : List ℕ → List ℕ → Call WordResult
 storeCall word store =
     call (record { found = false; size = 0; store = store })
-    (firstDue (storeTests word store))
-    (record { found = true; size = length word; store = over word store })
+    (firstRefusal (storeTests word store))
+    (record { found = true; size = length word; store = overwrite word store })

@@ -7,7 +7,7 @@ use lists::unpacked;
 use shapes::TimeSplit;
 ghost use mathlib.Core.Path.{_≡_};
 ghost use Rattle.shapes.specs.Shapes.{isDigits, isAlpha, isDouble, isCommaInt, isOrdinal, isUsMoney, isIllion, isRoman, isDrOrSt, isNumberS, isLeadingZeroDigits, isSevenDigitPhone, isNDigits, isTime, isDottedAbbrev, isDigitsSlashDigits, isDigitsDashDigits};
-ghost use Rattle.patterns.specs.Calls.{asVerdict, verdictCall, asTime, timeCall, asOffsets, offsetsCall, asUnit, unitCall, asWord, wordCall, noVerdict, verdictGiven, storeCall};
+ghost use Rattle.patterns.specs.Calls.{asVerdict, verdictCall, asTime, timeCall, asOffsets, offsetsCall, asUnit, unitCall, asUnitWord, unitWordCall, refusedVerdict, acceptedVerdict, storeCall};
 
 // A shape's verdict: the refusal's number or 0, and the verdict, no where the call is refused.
 #[repr(C)]
@@ -40,15 +40,15 @@ pub struct UnitWord {
 }
 
 // A refused call's verdict is no.
-fn refused(refusal: u8) -> Verdict
-    ensures { λ r. ⌜ asVerdict r ≡ noVerdict refusal ⌝ }
+fn refused_verdict(refusal: u8) -> Verdict
+    ensures { λ r. ⌜ asVerdict r ≡ refusedVerdict refusal ⌝ }
 {
     let yes = false;
     Verdict { refusal, yes }
 }
 
-fn accepted(yes: bool) -> Verdict
-    ensures { λ r. ⌜ asVerdict r ≡ verdictGiven yes ⌝ }
+fn accepted_verdict(yes: bool) -> Verdict
+    ensures { λ r. ⌜ asVerdict r ≡ acceptedVerdict yes ⌝ }
 {
     Verdict { refusal: 0, yes }
 }
@@ -58,9 +58,9 @@ pub fn is_digits(s: &[u8]) -> Verdict
 {
     let refusal = refusal_of(s);
     if refusal != 0 {
-        return refused(refusal);
+        return refused_verdict(refusal);
     }
-    accepted(shapes::is_digits(s))
+    accepted_verdict(shapes::is_digits(s))
 }
 
 pub fn is_alpha(s: &[u8]) -> Verdict
@@ -68,9 +68,9 @@ pub fn is_alpha(s: &[u8]) -> Verdict
 {
     let refusal = refusal_of(s);
     if refusal != 0 {
-        return refused(refusal);
+        return refused_verdict(refusal);
     }
-    accepted(shapes::is_alpha(s))
+    accepted_verdict(shapes::is_alpha(s))
 }
 
 pub fn is_double(s: &[u8]) -> Verdict
@@ -78,9 +78,9 @@ pub fn is_double(s: &[u8]) -> Verdict
 {
     let refusal = refusal_of(s);
     if refusal != 0 {
-        return refused(refusal);
+        return refused_verdict(refusal);
     }
-    accepted(shapes::is_double(s))
+    accepted_verdict(shapes::is_double(s))
 }
 
 pub fn is_comma_int(s: &[u8]) -> Verdict
@@ -88,9 +88,9 @@ pub fn is_comma_int(s: &[u8]) -> Verdict
 {
     let refusal = refusal_of(s);
     if refusal != 0 {
-        return refused(refusal);
+        return refused_verdict(refusal);
     }
-    accepted(shapes::is_comma_int(s))
+    accepted_verdict(shapes::is_comma_int(s))
 }
 
 pub fn is_ordinal(s: &[u8]) -> Verdict
@@ -98,9 +98,9 @@ pub fn is_ordinal(s: &[u8]) -> Verdict
 {
     let refusal = refusal_of(s);
     if refusal != 0 {
-        return refused(refusal);
+        return refused_verdict(refusal);
     }
-    accepted(shapes::is_ordinal(s))
+    accepted_verdict(shapes::is_ordinal(s))
 }
 
 pub fn is_us_money(s: &[u8]) -> Verdict
@@ -108,9 +108,9 @@ pub fn is_us_money(s: &[u8]) -> Verdict
 {
     let refusal = refusal_of(s);
     if refusal != 0 {
-        return refused(refusal);
+        return refused_verdict(refusal);
     }
-    accepted(shapes::is_us_money(s))
+    accepted_verdict(shapes::is_us_money(s))
 }
 
 pub fn is_illion(s: &[u8]) -> Verdict
@@ -118,9 +118,9 @@ pub fn is_illion(s: &[u8]) -> Verdict
 {
     let refusal = refusal_of(s);
     if refusal != 0 {
-        return refused(refusal);
+        return refused_verdict(refusal);
     }
-    accepted(shapes::is_illion(s))
+    accepted_verdict(shapes::is_illion(s))
 }
 
 pub fn is_roman(s: &[u8]) -> Verdict
@@ -128,9 +128,9 @@ pub fn is_roman(s: &[u8]) -> Verdict
 {
     let refusal = refusal_of(s);
     if refusal != 0 {
-        return refused(refusal);
+        return refused_verdict(refusal);
     }
-    accepted(shapes::is_roman(s))
+    accepted_verdict(shapes::is_roman(s))
 }
 
 pub fn is_dr_or_st(s: &[u8]) -> Verdict
@@ -138,9 +138,9 @@ pub fn is_dr_or_st(s: &[u8]) -> Verdict
 {
     let refusal = refusal_of(s);
     if refusal != 0 {
-        return refused(refusal);
+        return refused_verdict(refusal);
     }
-    accepted(shapes::is_dr_or_st(s))
+    accepted_verdict(shapes::is_dr_or_st(s))
 }
 
 pub fn is_number_s(s: &[u8]) -> Verdict
@@ -148,9 +148,9 @@ pub fn is_number_s(s: &[u8]) -> Verdict
 {
     let refusal = refusal_of(s);
     if refusal != 0 {
-        return refused(refusal);
+        return refused_verdict(refusal);
     }
-    accepted(shapes::is_number_s(s))
+    accepted_verdict(shapes::is_number_s(s))
 }
 
 pub fn is_leading_zero_digits(s: &[u8]) -> Verdict
@@ -158,9 +158,9 @@ pub fn is_leading_zero_digits(s: &[u8]) -> Verdict
 {
     let refusal = refusal_of(s);
     if refusal != 0 {
-        return refused(refusal);
+        return refused_verdict(refusal);
     }
-    accepted(shapes::is_leading_zero_digits(s))
+    accepted_verdict(shapes::is_leading_zero_digits(s))
 }
 
 pub fn is_seven_digit_phone(s: &[u8]) -> Verdict
@@ -168,9 +168,9 @@ pub fn is_seven_digit_phone(s: &[u8]) -> Verdict
 {
     let refusal = refusal_of(s);
     if refusal != 0 {
-        return refused(refusal);
+        return refused_verdict(refusal);
     }
-    accepted(shapes::is_seven_digit_phone(s))
+    accepted_verdict(shapes::is_seven_digit_phone(s))
 }
 
 pub fn is_n_digits(s: &[u8], n: usize) -> Verdict
@@ -178,9 +178,9 @@ pub fn is_n_digits(s: &[u8], n: usize) -> Verdict
 {
     let refusal = refusal_of(s);
     if refusal != 0 {
-        return refused(refusal);
+        return refused_verdict(refusal);
     }
-    accepted(shapes::is_n_digits(s, n))
+    accepted_verdict(shapes::is_n_digits(s, n))
 }
 
 pub fn is_time(s: &[u8]) -> Verdict
@@ -188,9 +188,9 @@ pub fn is_time(s: &[u8]) -> Verdict
 {
     let refusal = refusal_of(s);
     if refusal != 0 {
-        return refused(refusal);
+        return refused_verdict(refusal);
     }
-    accepted(shapes::is_time(s))
+    accepted_verdict(shapes::is_time(s))
 }
 
 pub fn split_time_meridiem(s: &[u8]) -> SplitTime
@@ -214,9 +214,9 @@ pub fn is_dotted_abbrev(s: &[u8]) -> Verdict
 {
     let refusal = refusal_of(s);
     if refusal != 0 {
-        return refused(refusal);
+        return refused_verdict(refusal);
     }
-    accepted(shapes::is_dotted_abbrev(s))
+    accepted_verdict(shapes::is_dotted_abbrev(s))
 }
 
 pub fn is_digits_slash_digits(s: &[u8]) -> Verdict
@@ -224,9 +224,9 @@ pub fn is_digits_slash_digits(s: &[u8]) -> Verdict
 {
     let refusal = refusal_of(s);
     if refusal != 0 {
-        return refused(refusal);
+        return refused_verdict(refusal);
     }
-    accepted(shapes::is_digits_slash_digits(s))
+    accepted_verdict(shapes::is_digits_slash_digits(s))
 }
 
 pub fn is_digits_dash_digits(s: &[u8]) -> Verdict
@@ -234,9 +234,9 @@ pub fn is_digits_dash_digits(s: &[u8]) -> Verdict
 {
     let refusal = refusal_of(s);
     if refusal != 0 {
-        return refused(refusal);
+        return refused_verdict(refusal);
     }
-    accepted(shapes::is_digits_dash_digits(s))
+    accepted_verdict(shapes::is_digits_dash_digits(s))
 }
 
 pub fn split_unit(s: &[u8]) -> SplitUnit
@@ -271,7 +271,7 @@ pub fn split_unit(s: &[u8]) -> SplitUnit
 
 // Writes the word to the front of the store where it fits.
 fn store_word(word: &[u8], store: &mut [u8]) -> UnitWord
-    ensures { λ r. ⌜ asWord r (now (store .exit)) ≡ storeCall (now (word .entry)) (now (store .entry)) ⌝ }
+    ensures { λ r. ⌜ asUnitWord r (now (store .exit)) ≡ storeCall (now (word .entry)) (now (store .entry)) ⌝ }
 {
     if store.len() < word.len() {
         return UnitWord {
@@ -289,7 +289,7 @@ fn store_word(word: &[u8], store: &mut [u8]) -> UnitWord
 }
 
 pub fn unit_word(unit: &[u8], store: &mut [u8]) -> UnitWord
-    ensures { λ r. ⌜ asWord r (now (store .exit)) ≡ wordCall (now (unit .entry)) (now (store .entry)) ⌝ }
+    ensures { λ r. ⌜ asUnitWord r (now (store .exit)) ≡ unitWordCall (now (unit .entry)) (now (store .entry)) ⌝ }
 {
     let refusal = refusal_of(unit);
     if refusal != 0 {
@@ -300,13 +300,13 @@ pub fn unit_word(unit: &[u8], store: &mut [u8]) -> UnitWord
         };
     }
     let k = units::unit_index(unit);
-    if units::UNITS <= k {
+    if units::UNIT_COUNT <= k {
         return UnitWord {
             refusal: 0,
             yes: false,
             len: 0,
         };
     }
-    let row = lexicon::row(units::word_number(k) as usize);
-    store_word(unpacked(&row), store)
+    let packed = vocabulary::packed(units::word_number(k) as usize);
+    store_word(unpacked(&packed), store)
 }

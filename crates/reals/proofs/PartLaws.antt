@@ -6,10 +6,10 @@ use Prim.Native.Nat.{ℕ, _+_, _≤_, _<_}
 use Prim.Native.Char.{code}
 use lib.ListN.{length, take, drop}
 use borrow.Author.Tests.{lt-ltb, le-ltb}
-use Rattle.lists.specs.Bytes.{bytes, starts}
-use Rattle.lexicon.specs.Lexicon.{wordOf}
-use Rattle.lexicon.proofs.Laws.{lexicon}
-use Rattle.sink.specs.Sink.{Sink, emit, emitAll}
+use Rattle.lists.specs.Bytes.{bytes, startsWith}
+use Rattle.vocabulary.specs.Vocabulary.{wordOf}
+use Rattle.vocabulary.proofs.Laws.{unfoldVocabulary}
+use Rattle.word_writer.specs.Writer.{Writer, emit, emitAll}
 use Rattle.numerals.specs.Words.{other, spell, spelled}
 use Rattle.numerals.specs.Cardinal.{cardinal, digits}
 use Rattle.reals.specs.Real.{pointAt, eAt, pointed}
@@ -17,46 +17,46 @@ use Rattle.reals.specs.Walk.{partWords, partBytes}
 use Rattle.numerals.proofs.Said.{said-word, says-more}
 
 -- n is the place of the first point
-module _ (s : List ℕ) (σ : Sink) {n : ℕ} (e : n ≡ pointAt s) where
+module _ (s : List ℕ) (σ : Writer) {n : ℕ} (e : n ≡ pointAt s) where
   -- there is none
-  pub pointed-whole : length s ≤ n → {τ : Sink} → τ ≡ emitAll (spelled (cardinal s)) σ → τ ≡ emitAll (spelled (pointed s)) σ
+  pub pointed-whole : length s ≤ n → {τ : Writer} → τ ≡ emitAll (spelled (cardinal s)) σ → τ ≡ emitAll (spelled (pointed s)) σ
   unfolding pointed
   pointed-whole h d = rw (← e, le-ltb n (length s) h) d
 
   -- what stands before it, the word and what stands after it
-  pub pointed-parts : n < length s → {w f : List ℕ} {τ υ φ : Sink} → w ≡ take n s → f ≡ drop (n + 1) s
+  pub pointed-parts : n < length s → {w f : List ℕ} {τ υ φ : Writer} → w ≡ take n s → f ≡ drop (n + 1) s
       → τ ≡ emitAll (spelled (cardinal w)) σ → υ ≡ emit (wordOf 85) τ → φ ≡ emitAll (spelled (digits f)) υ → φ ≡ emitAll (spelled (pointed s)) σ
-  unfolding pointed spell lexicon
+  unfolding pointed spell unfoldVocabulary
   pointed-parts h {w} {f} {τ} p q a b c =
       rw (← e, lt-ltb n (length s) h, ← p, ← q)
       (says-more (cardinal w) (other (bytes "point") ∷ digits f) refl σ a
       (says-more (other (bytes "point") ∷ []) (digits f) refl τ (said-word (other (bytes "point")) τ b) c))
 
 -- what a turn answers: the words are said, and their bytes are counted
-module _ (s : List ℕ) (σ : Sink) where
-  abbrev pub Turned : Sink → ℕ → Type 0
+module _ (s : List ℕ) (σ : Writer) where
+  abbrev pub Turned : Writer → ℕ → Type 0
   Turned τ n = (τ ≡ emitAll (spelled (partWords s)) σ) × (n ≡ partBytes s)
 
-  module _ {a : Bool} (i : a ≡ starts (code "-") s) where
-    pub turned-minus : a ≡ true → {τ : Sink} → τ ≡ emit (wordOf 86) σ → Turned τ 1
-    unfolding partWords partBytes spell lexicon
+  module _ {a : Bool} (i : a ≡ startsWith (code "-") s) where
+    pub turned-minus : a ≡ true → {τ : Writer} → τ ≡ emit (wordOf 86) σ → Turned τ 1
+    unfolding partWords partBytes spell unfoldVocabulary
     turned-minus m d = (rw (← i, m) (said-word (other (bytes "minus")) σ d), rw (← i, m))
 
-    module _ (m : a ≡ false) {b : Bool} (j : b ≡ starts (code "+") s) where
-      pub turned-plus : b ≡ true → {τ : Sink} → τ ≡ emit (wordOf 87) σ → Turned τ 1
-      unfolding partWords partBytes spell lexicon
+    module _ (m : a ≡ false) {b : Bool} (j : b ≡ startsWith (code "+") s) where
+      pub turned-plus : b ≡ true → {τ : Writer} → τ ≡ emit (wordOf 87) σ → Turned τ 1
+      unfolding partWords partBytes spell unfoldVocabulary
       turned-plus p d = (rw (← i, m, ← j, p) (said-word (other (bytes "plus")) σ d), rw (← i, m, ← j, p))
 
       -- n is the place of the first "e"
-      module _ (p : b ≡ false) {n : ℕ} (e : n ≡ eAt s) {t : List ℕ} (f : t ≡ take n s) {τ : Sink} (d : τ ≡ emitAll (spelled (pointed t)) σ) where
+      module _ (p : b ≡ false) {n : ℕ} (e : n ≡ eAt s) {t : List ℕ} (f : t ≡ take n s) {τ : Writer} (d : τ ≡ emitAll (spelled (pointed t)) σ) where
         pub turned-last : length s ≤ n → Turned τ n
         unfolding partWords partBytes
         turned-last h =
             let l = le-ltb n (length s) h in
             (rw (← i, m, ← j, p, ← e, l, ← f, append-nil (pointed t)) d, rw (← i, m, ← j, p, ← e, l))
 
-        pub turned-e : n < length s → {υ : Sink} → υ ≡ emit (wordOf 88) τ → Turned υ (n + 1)
-        unfolding partWords partBytes spell lexicon
+        pub turned-e : n < length s → {υ : Writer} → υ ≡ emit (wordOf 88) τ → Turned υ (n + 1)
+        unfolding partWords partBytes spell unfoldVocabulary
         turned-e h c =
             let l = lt-ltb n (length s) h in
             (rw (← i, m, ← j, p, ← e, l, ← f) (says-more (pointed t) (other (bytes "e") ∷ []) refl σ d (said-word (other (bytes "e")) τ c)), rw (← i, m, ← j, p, ← e, l))

@@ -9,34 +9,34 @@ use lib.Dec.{ltb}
 use lib.ListN.{length, take, drop, length-take, length-drop, drop-of-length-le}
 use lib.Seq.{take-all, drop-drop, append-snoc}
 use borrow.Author.Tests.{ltb-true, ltb-false, le-ltb}
-use Rattle.lists.specs.Bytes.{bytes, span, starts, keep}
+use Rattle.lists.specs.Bytes.{bytes, span, startsWith, filterb}
 use Rattle.lists.specs.Classes.{notE}
 use Rattle.lists.specs.Recur.{recurAt, recur}
 use Rattle.lists.proofs.Recursion.{Local, recur-eq, cond-cong}
-use Rattle.lists.proofs.Scan.{span-le, span-again, starts-first}
+use Rattle.lists.proofs.Scan.{span-le, span-again, startsWith-first}
 use Rattle.numerals.specs.Words.{Word, other, spelled}
-use Rattle.numerals.specs.Cardinal.{clean, cardinalStep, cardinalFew, cardinalOf, cardinal}
+use Rattle.numerals.specs.Cardinal.{digitValues, cardinalStep, shortCardinal, cardinalOf, cardinal}
 use Rattle.numerals.proofs.Digits.{spelled-append}
 use Rattle.reals.specs.Real.{eAt, pointed, realStep, real}
-use Rattle.reals.specs.Walk.{signed, partWords, partBytes}
+use Rattle.reals.specs.Walk.{startsWithSign, partWords, partBytes}
 
 -- a text that starts with a byte is not empty
-starts-some : (c : ℕ) (s : List ℕ) → starts c s ≡ true → 0 < length s
+starts-some : (c : ℕ) (s : List ℕ) → startsWith c s ≡ true → 0 < length s
 starts-some c [] e = let z : _≡_ {A = ℕ} 0 1 = cc in omega arith
 starts-some c (b ∷ s) e = omega arith
 
 -- where a text does not start with a byte, no part of it does
-starts-take : (c n : ℕ) (s : List ℕ) → starts c s ≡ false → starts c (take n s) ≡ false
+starts-take : (c n : ℕ) (s : List ℕ) → startsWith c s ≡ false → startsWith c (take n s) ≡ false
 starts-take c zero s e = refl
 starts-take c (suc n) [] e = refl
-starts-take c (suc n) (b ∷ s) e = starts-first c b (take n s) ∙ sym (starts-first c b s) ∙ e
+starts-take c (suc n) (b ∷ s) e = startsWith-first c b (take n s) ∙ sym (startsWith-first c b s) ∙ e
 
 real-local : Local realStep
 unfolding realStep
 real-local f g s h =
-    let rest : (c : ℕ) → starts c s ≡ true → f (drop 1 s) ≡ g (drop 1 s) = λ c e. h (drop 1 s) (simp length-drop (omega (arith, starts-some c s e))) in
-    cond-cong (starts (code "-") s) (λ e. ap (λ (ws : List Word). other (bytes "minus") ∷ ws) (rest (code "-") e)) (λ n.
-    cond-cong (starts (code "+") s) (λ e. ap (λ (ws : List Word). other (bytes "plus") ∷ ws) (rest (code "+") e)) (λ m.
+    let rest : (c : ℕ) → startsWith c s ≡ true → f (drop 1 s) ≡ g (drop 1 s) = λ c e. h (drop 1 s) (simp length-drop (omega (arith, starts-some c s e))) in
+    cond-cong (startsWith (code "-") s) (λ e. ap (λ (ws : List Word). other (bytes "minus") ∷ ws) (rest (code "-") e)) (λ n.
+    cond-cong (startsWith (code "+") s) (λ e. ap (λ (ws : List Word). other (bytes "plus") ∷ ws) (rest (code "+") e)) (λ m.
     cond-cong (ltb (eAt s) (length s)) (λ e.
     let l : eAt s < length s = ltb-true _ _ e in
     ap₂ (λ (ws vs : List Word). ws ++ other (bytes "e") ∷ vs) (h (take (eAt s) s) (simp length-take (omega arith)))
@@ -48,7 +48,7 @@ unfolding real
 real-eq s = recur-eq [] realStep real-local s
 
 real-none : real [] ≡ []
-unfolding real realStep recur recurAt pointed span cardinal cardinalOf clean keep cardinalFew cardinalStep
+unfolding real realStep recur recurAt pointed span cardinal cardinalOf digitValues filterb shortCardinal cardinalStep
 real-none = refl
 
 pub real-end : spelled (real []) ≡ []
@@ -56,16 +56,16 @@ unfolding spelled
 real-end = ap spelled real-none
 
 -- neither sign nor "e"
-pub real-plain : (s : List ℕ) → starts (code "-") s ≡ false → starts (code "+") s ≡ false → length s ≤ eAt s → real s ≡ pointed s
+pub real-plain : (s : List ℕ) → startsWith (code "-") s ≡ false → startsWith (code "+") s ≡ false → length s ≤ eAt s → real s ≡ pointed s
 unfolding realStep
 real-plain s m p h = real-eq s ∙ rw (m, p, le-ltb (eAt s) (length s) h)
 
 -- the words of one turn, and those of what is left
-pub real-turn : (s : List ℕ) → real s ≡ partWords s ++ real (drop (partBytes s) s)
+pub real-part : (s : List ℕ) → real s ≡ partWords s ++ real (drop (partBytes s) s)
 unfolding realStep partWords partBytes
-real-turn s = real-eq s ∙ go (starts (code "-") s) (starts (code "+") s) (ltb (eAt s) (length s)) refl refl refl
+real-part s = real-eq s ∙ go (startsWith (code "-") s) (startsWith (code "+") s) (ltb (eAt s) (length s)) refl refl refl
   where
-    go : (m p e : Bool) → starts (code "-") s ≡ m → starts (code "+") s ≡ p → ltb (eAt s) (length s) ≡ e → realStep real s ≡ partWords s ++ real (drop (partBytes s) s)
+    go : (m p e : Bool) → startsWith (code "-") s ≡ m → startsWith (code "+") s ≡ p → ltb (eAt s) (length s) ≡ e → realStep real s ≡ partWords s ++ real (drop (partBytes s) s)
     go true p e m q r = rw m
     go false true e m q r = rw (m, q)
     go false false true m q r =
@@ -79,7 +79,7 @@ real-turn s = real-eq s ∙ go (starts (code "-") s) (starts (code "+") s) (ltb 
 -- a turn reads some bytes, and no more than there are
 part-bytes : (s : List ℕ) → 0 < length s → (0 < partBytes s) × (partBytes s ≤ length s)
 unfolding partBytes
-part-bytes s h = go (signed s) (ltb (eAt s) (length s)) refl (span-le notE s)
+part-bytes s h = go (startsWithSign s) (ltb (eAt s) (length s)) refl (span-le notE s)
   where
     go : (m e : Bool) → ltb (eAt s) (length s) ≡ e → eAt s ≤ length s → (0 < cond m 1 (cond e (eAt s + 1) (eAt s))) × (cond m 1 (cond e (eAt s + 1) (eAt s)) ≤ length s)
     go true e r l = (omega arith, omega arith)
@@ -97,6 +97,6 @@ module _ (s : List ℕ) (i : ℕ) {t : List ℕ} {n : ℕ} (g : t ≡ drop i s) 
   pub real-at : spelled (real (drop i s)) ≡ spelled (partWords t) ++ spelled (real (drop (i + n) s))
   real-at =
       ap (λ (l : List ℕ). spelled (real l)) (sym g)
-      ∙ ap spelled (real-turn t)
+      ∙ ap spelled (real-part t)
       ∙ spelled-append (partWords t) (real (drop (partBytes t) t))
       ∙ ap (λ (l : List ℕ). spelled (partWords t) ++ spelled (real l)) (ap₂ drop (sym e) g ∙ drop-drop n i s)

@@ -8,7 +8,7 @@ use native.Mathlib.Omega.{arith}
 use lib.Dec.{ltb}
 use lib.ListN.{length, take, drop, length-take, length-drop}
 use borrow.Author.Tests.{ltb-true}
-use Rattle.lists.specs.Bytes.{bytes, span, starts}
+use Rattle.lists.specs.Bytes.{bytes, span, startsWith}
 use Rattle.lists.proofs.Recursion.{recur-induct, cond-elim}
 use Rattle.numerals.specs.Words.{Word, other, spell}
 use Rattle.numerals.specs.Cardinal.{cardinal, digits}
@@ -29,20 +29,20 @@ pointed-room s =
     (λ e. omega (arith, around s n e, together (cardinal a) (other (bytes "point") ∷ digits b), cardinal-room a, digits-room b))
     (λ e. omega (arith, cardinal-room s))
 
-real-step : (f : List ℕ → List Word) (s : List ℕ) → ((t : List ℕ) → length t < length s → RoomFor (length t) (f t)) → RoomFor (length s) (realStep f s)
+realStep-room : (f : List ℕ → List Word) (s : List ℕ) → ((t : List ℕ) → length t < length s → RoomFor (length t) (f t)) → RoomFor (length s) (realStep f s)
 unfolding realStep span spell
-real-step f [] h = pointed-room []
-real-step f (b ∷ s) h =
+realStep-room f [] h = pointed-room []
+realStep-room f (b ∷ s) h =
     let t = b ∷ s in
     let n = eAt t in
     let P = RoomFor (length t) in
     let rest = h s (omega arith) in
-    cond-elim P (starts (code "-") t) (λ e. omega arith) (λ e.
-    cond-elim P (starts (code "+") t) (λ e. omega arith) (λ e.
+    cond-elim P (startsWith (code "-") t) (λ e. omega arith) (λ e.
+    cond-elim P (startsWith (code "+") t) (λ e. omega arith) (λ e.
     cond-elim P (ltb n (length t)) (λ e.
     let l = around t n e in
     omega (arith, together (f (take n t)) (other (bytes "e") ∷ f (drop (n + 1) t)), h (take n t) (omega arith), h (drop (n + 1) t) (omega arith))) (λ e. pointed-room t)))
 
 pub real-room : (s : List ℕ) → RoomFor (length s) (real s)
 unfolding real
-real-room = recur-induct (λ s. RoomFor (length s)) [] realStep real-step
+real-room = recur-induct (λ s. RoomFor (length s)) [] realStep realStep-room

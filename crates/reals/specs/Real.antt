@@ -5,7 +5,7 @@ use Prim.Native.Nat.{ℕ, _+_}
 use Prim.Native.Char.{code}
 use lib.Dec.{ltb}
 use lib.ListN.{length, take, drop}
-use Rattle.lists.specs.Bytes.{bytes, span, starts}
+use Rattle.lists.specs.Bytes.{bytes, span, startsWith}
 use Rattle.lists.specs.Classes.{except, notE}
 use Rattle.lists.specs.Recur.{recur}
 use Rattle.numerals.specs.Words.{Word, other}
@@ -28,8 +28,8 @@ pointed s =
 -- word "e" between"
 unfoldable pub realStep : (List ℕ → List Word) → List ℕ → List Word
 realStep again s =
-    cond (starts (code "-") s) (other (bytes "minus") ∷ again (drop 1 s))
-    (cond (starts (code "+") s) (other (bytes "plus") ∷ again (drop 1 s))
+    cond (startsWith (code "-") s) (other (bytes "minus") ∷ again (drop 1 s))
+    (cond (startsWith (code "+") s) (other (bytes "plus") ∷ again (drop 1 s))
     (cond (ltb (eAt s) (length s)) (again (take (eAt s) s) ++ other (bytes "e") ∷ again (drop (eAt s + 1) s))
     (pointed s)))
 

@@ -5,19 +5,19 @@ use Prim.Native.Nat.{ℕ, _+_}
 use Prim.Native.Char.{code}
 use lib.Dec.{ltb}
 use lib.ListN.{length, take}
-use Rattle.lists.specs.Bytes.{bytes, starts}
+use Rattle.lists.specs.Bytes.{bytes, startsWith}
 use Rattle.numerals.specs.Words.{Word, other}
 use Rattle.reals.specs.Real.{eAt, pointed}
 
 -- the words that one turn says, a sign or the part up to the next "e" and that, and the bytes that it reads
-abbrev pub signed : List ℕ → Bool
-signed s = starts (code "-") s || starts (code "+") s
+abbrev pub startsWithSign : List ℕ → Bool
+startsWithSign s = startsWith (code "-") s || startsWith (code "+") s
 
 unfoldable pub partWords : List ℕ → List Word
 partWords s =
-    cond (starts (code "-") s) (other (bytes "minus") ∷ [])
-    (cond (starts (code "+") s) (other (bytes "plus") ∷ [])
+    cond (startsWith (code "-") s) (other (bytes "minus") ∷ [])
+    (cond (startsWith (code "+") s) (other (bytes "plus") ∷ [])
     (pointed (take (eAt s) s) ++ cond (ltb (eAt s) (length s)) (other (bytes "e") ∷ []) []))
 
 unfoldable pub partBytes : List ℕ → ℕ
-partBytes s = cond (signed s) 1 (cond (ltb (eAt s) (length s)) (eAt s + 1) (eAt s))
+partBytes s = cond (startsWithSign s) 1 (cond (ltb (eAt s) (length s)) (eAt s + 1) (eAt s))

@@ -1,8 +1,4 @@
 // Real numbers: signs, parts between "e", each with a point or none.
-use lexicon::E;
-use lexicon::MINUS;
-use lexicon::PLUS;
-use lexicon::POINT;
 use lists::NOT;
 use lists::NOT_E;
 use lists::front;
@@ -10,61 +6,71 @@ use lists::span_of;
 use lists::starts_with;
 use lists::tail;
 use numerals::number::say_cardinal;
+use numerals::progress::Progress;
 use numerals::saying::say;
 use numerals::saying::say_digits;
-use numerals::turn::Turn;
-use sink::Pen;
+use vocabulary::E;
+use vocabulary::MINUS;
+use vocabulary::PLUS;
+use vocabulary::POINT;
+use word_writer::Cursor;
 ghost use mathlib.Core.Path.{_≡_};
-ghost use Rattle.sink.specs.Sink.{sink, emitAll};
+ghost use Rattle.word_writer.specs.Writer.{writer, emitAll};
 ghost use Rattle.numerals.specs.Words.{spelled};
 ghost use Rattle.reals.specs.Real.{pointed, real};
 ghost use Rattle.reals.specs.Walk.{partWords, partBytes};
 
 // Says a number without sign and "e".
-fn say_pointed(s: &[u8], store: &mut [u8], table: &mut [u8], pen: Pen) -> Pen
-    ensures { λ r. ⌜ sink (now (store .exit)) (now (table .exit)) r ≡ emitAll (spelled (pointed (now (s .entry)))) (sink (now (store .entry)) (now (table .entry)) pen) ⌝ }
+fn say_pointed(s: &[u8], store: &mut [u8], table: &mut [u8], cursor: Cursor) -> Cursor
+    ensures { λ r. ⌜ writer (now (store .exit)) (now (table .exit)) r ≡ emitAll (spelled (pointed (now (s .entry)))) (writer (now (store .entry)) (now (table .entry)) cursor) ⌝ }
 {
     let at = span_of(NOT, b'.', s);
     if s.len() <= at {
-        return say_cardinal(s, store, table, pen);
+        return say_cardinal(s, store, table, cursor);
     }
-    let p = say_cardinal(front(s, at), store, table, pen);
+    let p = say_cardinal(front(s, at), store, table, cursor);
     let q = say(POINT, store, table, p);
     say_digits(tail(s, at + 1), store, table, q)
 }
 
 // Says a leading sign, or the part up to the first "e" and that.
-fn say_part(s: &[u8], store: &mut [u8], table: &mut [u8], pen: Pen) -> Turn
-    ensures { λ r. ⌜ (sink (now (store .exit)) (now (table .exit)) (r .pen) ≡ emitAll (spelled (partWords (now (s .entry)))) (sink (now (store .entry)) (now (table .entry)) pen))
+fn say_part(s: &[u8], store: &mut [u8], table: &mut [u8], cursor: Cursor) -> Progress
+    ensures { λ r. ⌜ (writer (now (store .exit)) (now (table .exit)) (r .cursor) ≡ emitAll (spelled (partWords (now (s .entry)))) (writer (now (store .entry)) (now (table .entry)) cursor))
         × (r .next ≡ partBytes (now (s .entry))) ⌝ }
 {
     if starts_with(s, b'-') {
-        let pen = say(MINUS, store, table, pen);
-        return Turn { pen, next: 1 };
+        let cursor = say(MINUS, store, table, cursor);
+        return Progress { cursor, next: 1 };
     }
     if starts_with(s, b'+') {
-        let pen = say(PLUS, store, table, pen);
-        return Turn { pen, next: 1 };
+        let cursor = say(PLUS, store, table, cursor);
+        return Progress { cursor, next: 1 };
     }
     let at = span_of(NOT_E, 0, s);
-    let p = say_pointed(front(s, at), store, table, pen);
+    let p = say_pointed(front(s, at), store, table, cursor);
     if s.len() <= at {
-        return Turn { pen: p, next: at };
+        return Progress {
+            cursor: p,
+            next: at,
+        };
     }
-    let pen = say(E, store, table, p);
-    Turn { pen, next: at + 1 }
+    let cursor = say(E, store, table, p);
+    Progress {
+        cursor,
+        next: at + 1,
+    }
 }
 
 // Says a real number, sign by sign and part by part.
-pub fn say_real(s: &[u8], store: &mut [u8], table: &mut [u8], pen: Pen) -> Pen
-    ensures { λ r. ⌜ sink (now (store .exit)) (now (table .exit)) r ≡ emitAll (spelled (real (now (s .entry)))) (sink (now (store .entry)) (now (table .entry)) pen) ⌝ }
+pub fn say_real(s: &[u8], store: &mut [u8], table: &mut [u8], cursor: Cursor) -> Cursor
+    ensures { λ r. ⌜ writer (now (store .exit)) (now (table .exit)) r ≡ emitAll (spelled (real (now (s .entry)))) (writer (now (store .entry)) (now (table .entry)) cursor) ⌝ }
 {
-    let mut p = pen;
+    let mut p = cursor;
     let mut i = 0;
     while i < s.len() {
-        let turn = say_part(tail(s, i), store, table, p);
-        p = turn.pen;
-        i += turn.next;
+        let progress = say_part(tail(s, i), store, table, p);
+        p = progress.cursor;
+        i += progress.next;
     }
     p
 }

@@ -1,5 +1,5 @@
 // A lent buffer: what fills it before a call, how much of it is lent, and what the call leaves in it.
-use crate::fields::plus;
+use crate::fields::add_or_bad;
 use lists::NOT;
 use lists::byte_at;
 use lists::count_of;
@@ -9,7 +9,7 @@ ghost use Prim.Native.Nat.{_≤_};
 pub const GUARD: u8 = 0xA5;
 
 // The refusal where a buffer is too short.
-pub const SHORT: usize = 5;
+pub const BUFFER_TOO_SHORT: usize = 5;
 
 pub fn least(a: usize, b: usize) -> usize
     ensures { λ r. ⌜ r ≤ b ⌝ }
@@ -20,9 +20,9 @@ pub fn least(a: usize, b: usize) -> usize
 // The number in four bytes, the lowest first.
 pub fn number_at(table: &[u8], at: usize) -> usize {
     let a = byte_at(table, at) as usize;
-    let b = byte_at(table, plus(at, 1)) as usize;
-    let c = byte_at(table, plus(at, 2)) as usize;
-    let d = byte_at(table, plus(at, 3)) as usize;
+    let b = byte_at(table, add_or_bad(at, 1)) as usize;
+    let c = byte_at(table, add_or_bad(at, 2)) as usize;
+    let d = byte_at(table, add_or_bad(at, 3)) as usize;
     a + 256 * (b + 256 * (c + 256 * d))
 }
 

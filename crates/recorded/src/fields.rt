@@ -15,7 +15,7 @@ pub const BAD: usize = 1_000_000_000;
 pub const NO_BYTE: usize = 256;
 
 // The sum, or BAD where a part is that large already: a count never wraps, and never falls back to 0.
-pub fn plus(a: usize, b: usize) -> usize {
+pub fn add_or_bad(a: usize, b: usize) -> usize {
     if a < BAD {
         if b < BAD {
             return a + b;
@@ -25,7 +25,7 @@ pub fn plus(a: usize, b: usize) -> usize {
 }
 
 // The difference, 0 where it would fall below.
-pub fn minus(a: usize, b: usize) -> usize {
+pub fn saturating_sub(a: usize, b: usize) -> usize {
     if b <= a { a - b } else { 0 }
 }
 
@@ -48,7 +48,7 @@ pub fn field_at(line: &[u8], end: u8, k: usize) -> usize {
     let mut left = k;
     while 0 < left {
         let n = span_of(NOT, end, tail(line, at));
-        at = plus(plus(at, n), 1);
+        at = add_or_bad(add_or_bad(at, n), 1);
         left -= 1;
     }
     at
@@ -62,7 +62,7 @@ pub fn field(line: &[u8], end: u8, k: usize) -> &[u8] {
 
 // Whether the line has n fields and no more.
 pub fn has_fields(line: &[u8], end: u8, n: usize) -> bool {
-    field_at(line, end, n) == plus(line.len(), 1)
+    field_at(line, end, n) == add_or_bad(line.len(), 1)
 }
 
 fn shifted(n: usize, b: u8) -> usize {

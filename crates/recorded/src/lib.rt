@@ -4,4 +4,4 @@ pub mod fields;
 pub mod file;
 pub mod room;
 pub mod tally;
-pub mod told;
+pub mod text;

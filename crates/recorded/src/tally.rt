@@ -1,5 +1,5 @@
 // What was compared, and how much of it differs.
-use crate::fields::plus;
+use crate::fields::add_or_bad;
 use libc::STDOUT_FILENO;
 
 // How many texts that differ are named.
@@ -39,7 +39,7 @@ impl Report {
 
     // One comparison more.
     pub fn count(self, what: usize, agrees: bool) -> Report {
-        let answers = plus(self.answers, 1);
+        let answers = add_or_bad(self.answers, 1);
         if agrees {
             return Report {
                 answers,
@@ -56,7 +56,7 @@ impl Report {
         }
         Report {
             answers,
-            differ: plus(self.differ, 1),
+            differ: add_or_bad(self.differ, 1),
             first: self.first,
         }
     }
@@ -74,7 +74,7 @@ impl Tally {
 
     fn say_text(self, name: &[u8]) {
         say(b"line ");
-        say_number(plus(self.texts, 1));
+        say_number(add_or_bad(self.texts, 1));
         say(b": ");
         say(name);
         say(b"\n");
@@ -83,17 +83,17 @@ impl Tally {
     fn counted(self, r: Report) -> Tally {
         if r.differ == 0 {
             return Tally {
-                texts: plus(self.texts, 1),
-                answers: plus(self.answers, r.answers),
+                texts: add_or_bad(self.texts, 1),
+                answers: add_or_bad(self.answers, r.answers),
                 differ: self.differ,
                 differing_texts: self.differing_texts,
             };
         }
         Tally {
-            texts: plus(self.texts, 1),
-            answers: plus(self.answers, r.answers),
-            differ: plus(self.differ, r.differ),
-            differing_texts: plus(self.differing_texts, 1),
+            texts: add_or_bad(self.texts, 1),
+            answers: add_or_bad(self.answers, r.answers),
+            differ: add_or_bad(self.differ, r.differ),
+            differing_texts: add_or_bad(self.differing_texts, 1),
         }
     }
 

@@ -1,26 +1,26 @@
 // The verdict and the calls of one sheet, held against the recorded ones.
-use crate::told::Answer;
-use crate::told::told_clear;
-use crate::told::told_entries;
-use crate::told::told_entry;
-use crate::told::told_refusal;
-use crate::told::told_sheet;
+use crate::expected::CallAnswer;
+use crate::expected::expected_clear;
+use crate::expected::expected_entries;
+use crate::expected::expected_entry;
+use crate::expected::expected_refusal;
+use crate::expected::expected_sheet;
 use calls::call_entry;
 use calls::call_sheet;
 use clear::is_clear;
 use lists::EXACT;
 use lists::front;
+use lists::one_if;
 use lists::part;
 use lists::same;
 use lists::tail;
-use lists::tally;
+use recorded::buffer::BUFFER_TOO_SHORT;
 use recorded::buffer::GUARD;
-use recorded::buffer::SHORT;
 use recorded::buffer::is_untouched;
 use recorded::buffer::least;
-use recorded::fields::minus;
-use recorded::fields::plus;
+use recorded::fields::add_or_bad;
 use recorded::fields::repeat;
+use recorded::fields::saturating_sub;
 use recorded::tally::Report;
 
 // The numbers of what is compared.
@@ -53,8 +53,8 @@ const HUGE: usize = 18_446_744_073_709_551_615;
 
 fn room(case: usize, bytes: usize) -> usize {
     match case {
-        SPARE => plus(bytes, SPARE_BYTES),
-        SHORT_BUFFER => minus(bytes, 1),
+        SPARE => add_or_bad(bytes, SPARE_BYTES),
+        SHORT_BUFFER => saturating_sub(bytes, 1),
         _ => bytes,
     }
 }
@@ -64,11 +64,11 @@ fn is_short(case: usize, bytes: usize) -> bool {
 }
 
 // The answer that is due.
-fn due(case: usize, told: Answer) -> Answer {
-    if is_short(case, told.bytes) {
-        return Answer::refused(SHORT);
+fn expected_in_case(case: usize, expected: CallAnswer) -> CallAnswer {
+    if is_short(case, expected.bytes) {
+        return CallAnswer::refused(BUFFER_TOO_SHORT);
     }
-    told
+    expected
 }
 
 // What is due in the buffer.
@@ -79,9 +79,9 @@ fn given(case: usize, result: &[u8]) -> &[u8] {
     result
 }
 
-fn answer_of_sheet(s: &[u8], out: &mut [u8]) -> Answer {
+fn answer_of_sheet(s: &[u8], out: &mut [u8]) -> CallAnswer {
     let a = call_sheet(s, out);
-    Answer {
+    CallAnswer {
         refusal: a.refusal as usize,
         tokens: a.tokens,
         row: 0,
@@ -91,11 +91,11 @@ fn answer_of_sheet(s: &[u8], out: &mut [u8]) -> Answer {
     }
 }
 
-fn answer_of_entry(s: &[u8], k: usize, out: &mut [u8]) -> Answer {
+fn answer_of_entry(s: &[u8], k: usize, out: &mut [u8]) -> CallAnswer {
     let a = call_entry(s, k, out);
     let entry = a.entry;
     let row = entry.row;
-    Answer {
+    CallAnswer {
         refusal: a.refusal as usize,
         tokens: 0,
         row: row.number() as usize,
@@ -106,7 +106,7 @@ fn answer_of_entry(s: &[u8], k: usize, out: &mut [u8]) -> Answer {
 }
 
 // A call in the front of the buffer: of the whole sheet, or of its entry k.
-fn call_within(what: usize, s: &[u8], k: usize, room: usize, out: &mut [u8]) -> Answer {
+fn call_within(what: usize, s: &[u8], k: usize, room: usize, out: &mut [u8]) -> CallAnswer {
     let len = least(room, out.len());
     if what == SHEET {
         return answer_of_sheet(s, &mut out[..len]);
@@ -115,7 +115,7 @@ fn call_within(what: usize, s: &[u8], k: usize, room: usize, out: &mut [u8]) -> 
 }
 
 // Whether the result is at the front, and the margin past it is as it was.
-fn holds(result: &[u8], looked_at: &[u8]) -> bool {
+fn is_result(result: &[u8], looked_at: &[u8]) -> bool {
     let n = result.len();
     same(EXACT, front(looked_at, n), result) & is_untouched(tail(looked_at, n))
 }
@@ -125,15 +125,15 @@ fn agrees(
     case: usize,
     what: usize,
     k: usize,
-    told: Answer,
+    expected: CallAnswer,
     s: &[u8],
     result: &[u8],
     out: &mut [u8],
 ) -> bool {
-    let looked_at = plus(result.len(), MARGIN);
+    let looked_at = add_or_bad(result.len(), MARGIN);
     repeat(out, looked_at, GUARD);
     let a = call_within(what, s, k, room(case, result.len()), out);
-    a.is(due(case, told)) & holds(given(case, result), front(out, looked_at))
+    a.is(expected_in_case(case, expected)) & is_result(given(case, result), front(out, looked_at))
 }
 
 // A call in every case.
@@ -141,7 +141,7 @@ pub fn compare_call(
     r: Report,
     what: usize,
     k: usize,
-    told: Answer,
+    expected: CallAnswer,
     s: &[u8],
     result: &[u8],
     out: &mut [u8],
@@ -149,7 +149,7 @@ pub fn compare_call(
     let mut now = r;
     let mut case = 0;
     while case < CASES {
-        let agreed = agrees(case, what, k, told, s, result, out);
+        let agreed = agrees(case, what, k, expected, s, result, out);
         now = now.count(what, agreed);
         case += 1;
     }
@@ -157,21 +157,21 @@ pub fn compare_call(
 }
 
 fn compare_sheet(r: Report, line: &[u8], s: &[u8], lines: &[u8], out: &mut [u8]) -> Report {
-    let told = told_sheet(line, lines.len());
-    let result = front(lines, told.bytes);
-    compare_call(r, SHEET, 0, told, s, result, out)
+    let expected = expected_sheet(line, lines.len());
+    let result = front(lines, expected.bytes);
+    compare_call(r, SHEET, 0, expected, s, result, out)
 }
 
 // Each entry, whose line is a part of the lines.
 fn compare_entries(r: Report, line: &[u8], s: &[u8], lines: &[u8], out: &mut [u8]) -> Report {
-    let n = told_entries(line);
+    let n = expected_entries(line);
     let mut now = r;
     let mut at = 0;
     let mut k = 0;
     while k < n {
-        let told = told_entry(line, k);
-        let end = plus(at, told.bytes);
-        now = compare_call(now, ENTRY, k, told, s, part(lines, at, end), out);
+        let expected = expected_entry(line, k);
+        let end = add_or_bad(at, expected.bytes);
+        now = compare_call(now, ENTRY, k, expected, s, part(lines, at, end), out);
         at = end;
         k += 1;
     }
@@ -180,17 +180,26 @@ fn compare_entries(r: Report, line: &[u8], s: &[u8], lines: &[u8], out: &mut [u8
 
 // A number that no entry has.
 fn compare_no_entry(r: Report, line: &[u8], s: &[u8], k: usize, out: &mut [u8]) -> Report {
-    let refusal = told_refusal(line);
+    let refusal = expected_refusal(line);
     if refusal == 0 {
-        return compare_call(r, NO_ENTRY, k, Answer::refused(NO_SUCH_ENTRY), s, b"", out);
+        return compare_call(
+            r,
+            NO_ENTRY,
+            k,
+            CallAnswer::refused(NO_SUCH_ENTRY),
+            s,
+            b"",
+            out,
+        );
     }
-    compare_call(r, NO_ENTRY, k, Answer::refused(refusal), s, b"", out)
+    compare_call(r, NO_ENTRY, k, CallAnswer::refused(refusal), s, b"", out)
 }
 
 // The text as a name.
 fn compare_clear(line: &[u8], s: &[u8]) -> Report {
     let v = is_clear(s);
-    let agreed = (v.refusal as usize == told_refusal(line)) & (tally(v.yes) == told_clear(line));
+    let agreed = (v.refusal as usize == expected_refusal(line))
+        & (one_if(v.yes) == expected_clear(line));
     Report::none().count(CLEAR, agreed)
 }
 
@@ -199,6 +208,6 @@ pub fn compare_text(line: &[u8], s: &[u8], lines: &[u8], out: &mut [u8]) -> Repo
     let r1 = compare_clear(line, s);
     let r2 = compare_sheet(r1, line, s, lines, out);
     let r3 = compare_entries(r2, line, s, lines, out);
-    let r4 = compare_no_entry(r3, line, s, told_entries(line), out);
+    let r4 = compare_no_entry(r3, line, s, expected_entries(line), out);
     compare_no_entry(r4, line, s, HUGE, out)
 }

@@ -2,11 +2,11 @@
 use crate::answers::ENTRY;
 use crate::answers::SHEET;
 use crate::answers::compare_call;
+use crate::expected::CallAnswer;
 use crate::lines::put_lines;
-use crate::told::Answer;
 use lists::front;
 use lists::part;
-use recorded::fields::minus;
+use recorded::fields::saturating_sub;
 use recorded::tally::Report;
 
 const ENTRIES: usize = 32768;
@@ -18,7 +18,7 @@ const LINE: usize = 8;
 
 // Entry k, whose line is "+ seven" or "- seven".
 fn compare_seven(r: Report, s: &[u8], k: usize, line: &[u8], out: &mut [u8]) -> Report {
-    let told = Answer {
+    let expected = CallAnswer {
         refusal: 0,
         tokens: 0,
         row: DIGITS,
@@ -26,12 +26,12 @@ fn compare_seven(r: Report, s: &[u8], k: usize, line: &[u8], out: &mut [u8]) -> 
         words: 1,
         bytes: LINE,
     };
-    compare_call(r, ENTRY, k, told, s, line, out)
+    compare_call(r, ENTRY, k, expected, s, line, out)
 }
 
 // The whole sheet, its first entry and its last.
 fn compare_sevens(s: &[u8], lines: &[u8], out: &mut [u8]) -> Report {
-    let told = Answer {
+    let expected = CallAnswer {
         refusal: 0,
         tokens: ENTRIES,
         row: 0,
@@ -39,9 +39,9 @@ fn compare_sevens(s: &[u8], lines: &[u8], out: &mut [u8]) -> Report {
         words: ENTRIES,
         bytes: LINE * ENTRIES,
     };
-    let r1 = compare_call(Report::none(), SHEET, 0, told, s, lines, out);
+    let r1 = compare_call(Report::none(), SHEET, 0, expected, s, lines, out);
     let r2 = compare_seven(r1, s, 0, front(lines, LINE), out);
-    let last = minus(lines.len(), LINE);
+    let last = saturating_sub(lines.len(), LINE);
     compare_seven(r2, s, ENTRIES - 1, part(lines, last, lines.len()), out)
 }
 

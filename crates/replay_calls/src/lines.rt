@@ -9,7 +9,7 @@ use recorded::fields::has_fields;
 use recorded::fields::number;
 use recorded::fields::pairs;
 use recorded::fields::past;
-use recorded::told::put_hex;
+use recorded::text::put_hex;
 
 // Puts a piece past the first n bytes, and answers how long all is then, BAD where it is none or has no room.
 fn put_piece(piece: &[u8], n: usize, lines: &mut [u8]) -> usize {
@@ -28,8 +28,8 @@ fn put_piece(piece: &[u8], n: usize, lines: &mut [u8]) -> usize {
 }
 
 // Puts all pieces, and answers how long the lines are, BAD where one is none.
-pub fn put_lines(told: &[u8], lines: &mut [u8]) -> usize {
-    let pieces = pairs(told);
+pub fn put_lines(expected: &[u8], lines: &mut [u8]) -> usize {
+    let pieces = pairs(expected);
     let mut end = 0;
     let mut at = 0;
     while at < pieces.len() {

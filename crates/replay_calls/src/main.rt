@@ -1,12 +1,14 @@
 // Replays calls.txt, the recorded call sheets and verdicts of the Rust, and says how many answers of the crates calls and clear
 // differ.
 mod answers;
+mod expected;
 mod limit;
 mod lines;
-mod told;
 
 use answers::MALFORMED;
 use answers::compare_text;
+use expected::expected_lines;
+use expected::is_well_formed;
 use limit::compare_limit;
 use lines::put_lines;
 use lists::NOT;
@@ -20,9 +22,7 @@ use recorded::file::load;
 use recorded::room::room;
 use recorded::tally::Report;
 use recorded::tally::Tally;
-use recorded::told::text_of;
-use told::is_well_formed;
-use told::told_lines;
+use recorded::text::text_of;
 
 fn add(t: Tally, r: Report) -> Tally {
     let names = b"is_clear call_sheet call_entry call_no_entry malformed";
@@ -31,7 +31,7 @@ fn add(t: Tally, r: Report) -> Tally {
 
 fn compare_line(line: &[u8], text: &mut [u8], lines: &mut [u8], out: &mut [u8]) -> Report {
     let n = text_of(field(line, b'\t', 0), text);
-    let bytes = put_lines(told_lines(line), lines);
+    let bytes = put_lines(expected_lines(line), lines);
     if (n == BAD) | (bytes == BAD) | !is_well_formed(line, bytes) {
         return Report::none().count(MALFORMED, false);
     }

@@ -1,21 +1,21 @@
 // The readings of the crate numbers for one text, each held against the recorded one.
 use crate::words::bytes_in;
-use crate::words::holds;
+use crate::words::is_result;
 use crate::words::pairs_in;
 use crate::words::words_in;
 use lists::byte_at;
 use lists::front;
+use recorded::buffer::BUFFER_TOO_SHORT;
 use recorded::buffer::GUARD;
-use recorded::buffer::SHORT;
 use recorded::buffer::least;
 use recorded::fields::BAD;
 use recorded::fields::field;
 use recorded::fields::has_fields;
-use recorded::fields::minus;
 use recorded::fields::number;
 use recorded::fields::repeat;
+use recorded::fields::saturating_sub;
 use recorded::tally::Report;
-use sink::Spoken;
+use word_writer::WordCounts;
 
 // The numbers of what is compared: six readings that give words, and one that gives a value.
 pub const YEAR: usize = 2;
@@ -44,7 +44,7 @@ const TABLE_ROOM: usize = 8 * 64;
 fn store_room(case: usize, words: &[u8]) -> usize {
     match case {
         SPARE => BAD,
-        SHORT_STORE => minus(bytes_in(words), 1),
+        SHORT_STORE => saturating_sub(bytes_in(words), 1),
         _ => bytes_in(words),
     }
 }
@@ -52,7 +52,7 @@ fn store_room(case: usize, words: &[u8]) -> usize {
 fn table_room(case: usize, words: &[u8]) -> usize {
     match case {
         SPARE => BAD,
-        SHORT_TABLE => minus(pairs_in(words), 1),
+        SHORT_TABLE => saturating_sub(pairs_in(words), 1),
         _ => pairs_in(words),
     }
 }
@@ -62,9 +62,9 @@ fn is_short(case: usize, words: &[u8]) -> bool {
     (SHORT_STORE <= case) & (words.len() != 0)
 }
 
-fn due(case: usize, refusal: usize, words: &[u8]) -> usize {
+fn refusal_in_case(case: usize, refusal: usize, words: &[u8]) -> usize {
     if is_short(case, words) {
-        SHORT
+        BUFFER_TOO_SHORT
     } else {
         refusal
     }
@@ -77,7 +77,7 @@ fn given(case: usize, words: &[u8]) -> &[u8] {
     words
 }
 
-fn read(k: usize, s: &[u8], store: &mut [u8], table: &mut [u8]) -> Spoken {
+fn read(k: usize, s: &[u8], store: &mut [u8], table: &mut [u8]) -> WordCounts {
     match k {
         0 => numbers::cardinal(s, store, table),
         1 => numbers::ordinal(s, store, table),
@@ -96,13 +96,13 @@ fn read_within(
     b: usize,
     store: &mut [u8],
     table: &mut [u8],
-) -> Spoken {
+) -> WordCounts {
     let store_len = least(a, store.len());
     let table_len = least(b, table.len());
     read(k, s, &mut store[..store_len], &mut table[..table_len])
 }
 
-fn is_answer(a: Spoken, refusal: usize, words: &[u8]) -> bool {
+fn is_answer(a: WordCounts, refusal: usize, words: &[u8]) -> bool {
     (a.refusal as usize == refusal) & (a.words == words_in(words)) & (a.bytes == bytes_in(words))
 }
 
@@ -128,9 +128,9 @@ pub fn agrees(
         store,
         table,
     );
-    let due = due(case, refusal, words);
+    let due = refusal_in_case(case, refusal, words);
     let given = given(case, words);
-    is_answer(a, due, given) & holds(given, store, table)
+    is_answer(a, due, given) & is_result(given, store, table)
 }
 
 // Whether a field was left out, since its words are more than the table has room for.
@@ -138,11 +138,15 @@ fn is_left_out(field: &[u8]) -> bool {
     (field.len() == 1) & (byte_at(field, 0) == b'\\')
 }
 
-fn told_refusal(refusal: usize, field: &[u8]) -> usize {
-    if is_left_out(field) { SHORT } else { refusal }
+fn expected_refusal(refusal: usize, field: &[u8]) -> usize {
+    if is_left_out(field) {
+        BUFFER_TOO_SHORT
+    } else {
+        refusal
+    }
 }
 
-fn told_words(field: &[u8]) -> &[u8] {
+fn expected_words(field: &[u8]) -> &[u8] {
     if is_left_out(field) {
         return front(field, 0);
     }
@@ -160,13 +164,13 @@ fn compare_words(
     let mut i = 0;
     while i < CALLS {
         let k = i / CASES;
-        let told = field(line, b'\t', k + 1);
+        let expected = field(line, b'\t', k + 1);
         let agreed = agrees(
             i % CASES,
             k,
             s,
-            told_refusal(refusal, told),
-            told_words(told),
+            expected_refusal(refusal, expected),
+            expected_words(expected),
             store,
             table,
         );

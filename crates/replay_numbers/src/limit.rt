@@ -5,10 +5,10 @@ use crate::answers::YEAR;
 use crate::answers::agrees;
 use lists::front;
 use lists::put;
+use recorded::fields::add_or_bad;
 use recorded::fields::field;
-use recorded::fields::minus;
-use recorded::fields::plus;
 use recorded::fields::repeat;
+use recorded::fields::saturating_sub;
 use recorded::room::room;
 use recorded::tally::Report;
 
@@ -20,7 +20,7 @@ fn put_times(words: &[u8], n: usize, out: &mut [u8]) -> usize {
     let mut i = 0;
     while i < n {
         put(out, at, words);
-        at = plus(at, words.len());
+        at = add_or_bad(at, words.len());
         i += 1;
     }
     at
@@ -35,10 +35,10 @@ fn turns(k: usize) -> usize {
 fn put_fives(k: usize, out: &mut [u8]) -> usize {
     let words = b"five /five /fifty five /five /five /5 ";
     let last = b"five/fifth/fifty five/five/five/5";
-    let at = put_times(field(words, b'/', k), minus(turns(k), 1), out);
+    let at = put_times(field(words, b'/', k), saturating_sub(turns(k), 1), out);
     let end = field(last, b'/', k);
     put(out, at, end);
-    plus(at, end.len())
+    add_or_bad(at, end.len())
 }
 
 fn compare_fives(s: &[u8], out: &mut [u8], store: &mut [u8], table: &mut [u8]) -> Report {

@@ -17,7 +17,7 @@ use recorded::file::load;
 use recorded::room::room;
 use recorded::tally::Report;
 use recorded::tally::Tally;
-use recorded::told::text_of;
+use recorded::text::text_of;
 
 fn add(t: Tally, r: Report) -> Tally {
     let names = b"cardinal ordinal year digits real letters roman_value malformed";

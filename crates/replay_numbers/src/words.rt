@@ -9,26 +9,26 @@ use lists::tail;
 use recorded::buffer::is_untouched;
 use recorded::buffer::number_at;
 use recorded::fields::BAD;
+use recorded::fields::add_or_bad;
 use recorded::fields::byte_of;
-use recorded::fields::minus;
 use recorded::fields::past;
-use recorded::fields::plus;
+use recorded::fields::saturating_sub;
 
 fn times(c: u8, field: &[u8]) -> usize {
-    minus(field.len(), count_of(NOT, c, field))
+    saturating_sub(field.len(), count_of(NOT, c, field))
 }
 
 pub fn words_in(field: &[u8]) -> usize {
     if field.len() == 0 {
         return 0;
     }
-    plus(times(b' ', field), 1)
+    add_or_bad(times(b' ', field), 1)
 }
 
 // The bytes of all words.
 pub fn bytes_in(field: &[u8]) -> usize {
     let escapes = times(b'\\', field);
-    minus(minus(count_of(NOT, b' ', field), escapes), escapes)
+    saturating_sub(saturating_sub(count_of(NOT, b' ', field), escapes), escapes)
 }
 
 // The bytes of the table.
@@ -41,9 +41,9 @@ pub fn pairs_in(field: &[u8]) -> usize {
 }
 
 // The byte that is told at i, NO_BYTE where a backslash has no hex pair.
-fn told_at(word: &[u8], i: usize) -> usize {
+fn expected_byte(word: &[u8], i: usize) -> usize {
     if byte_at(word, i) == b'\\' {
-        return byte_of(front(tail(word, plus(i, 1)), 2));
+        return byte_of(front(tail(word, add_or_bad(i, 1)), 2));
     }
     byte_at(word, i) as usize
 }
@@ -59,15 +59,15 @@ fn is_word(word: &[u8], bytes: &[u8]) -> bool {
     let mut n = 0;
     let mut i = 0;
     while i < word.len() {
-        ok = ok & (told_at(word, i) == byte_at(bytes, n) as usize);
-        n = plus(n, 1);
+        ok = ok & (expected_byte(word, i) == byte_at(bytes, n) as usize);
+        n = add_or_bad(n, 1);
         i = past(word.len(), i, more_at(word, i));
     }
     ok & (n == bytes.len())
 }
 
 // Whether the table leads to the words of the field, one after another, and nothing else in store and table is written.
-pub fn holds(field: &[u8], store: &[u8], table: &[u8]) -> bool {
+pub fn is_result(field: &[u8], store: &[u8], table: &[u8]) -> bool {
     let mut ok = true;
     let mut end = 0;
     let mut pair = 0;
@@ -75,11 +75,11 @@ pub fn holds(field: &[u8], store: &[u8], table: &[u8]) -> bool {
     while at < field.len() {
         let rest = tail(field, at);
         let n = span_of(NOT, b' ', rest);
-        let len = number_at(table, plus(pair, 4));
+        let len = number_at(table, add_or_bad(pair, 4));
         let bytes = front(tail(store, end), len);
         ok = ok & (number_at(table, pair) == end) & is_word(front(rest, n), bytes);
-        end = plus(end, len);
-        pair = plus(pair, 8);
+        end = add_or_bad(end, len);
+        pair = add_or_bad(pair, 8);
         at = past(field.len(), at, n);
     }
     ok & is_untouched(tail(store, end)) & is_untouched(tail(table, pair))

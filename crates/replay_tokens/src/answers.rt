@@ -1,19 +1,19 @@
 // The token table and the sentence starts of one text, held against the recorded ones.
-use crate::told::MOST;
-use crate::told::START;
-use crate::told::told;
-use crate::told::told_refusal;
-use crate::told::told_tokens;
+use crate::expected::MOST;
+use crate::expected::START;
+use crate::expected::expected_number;
+use crate::expected::expected_refusal;
+use crate::expected::expected_tokens;
 use lists::byte_at;
 use lists::tail;
+use recorded::buffer::BUFFER_TOO_SHORT;
 use recorded::buffer::GUARD;
-use recorded::buffer::SHORT;
 use recorded::buffer::is_untouched;
 use recorded::buffer::least;
 use recorded::buffer::number_at;
 use recorded::fields::BAD;
-use recorded::fields::minus;
 use recorded::fields::repeat;
+use recorded::fields::saturating_sub;
 use recorded::tally::Report;
 use tokens::Tokens;
 
@@ -62,7 +62,7 @@ fn bytes_for(call: usize, n: usize) -> usize {
 fn room(case: usize, bytes: usize) -> usize {
     match case {
         SPARE => BAD,
-        SHORT_BUFFER => minus(bytes, 1),
+        SHORT_BUFFER => saturating_sub(bytes, 1),
         _ => bytes,
     }
 }
@@ -72,8 +72,12 @@ fn is_short(case: usize, n: usize) -> bool {
 }
 
 // The refusal that is due.
-fn due(case: usize, refusal: usize, n: usize) -> usize {
-    if is_short(case, n) { SHORT } else { refusal }
+fn refusal_in_case(case: usize, refusal: usize, n: usize) -> usize {
+    if is_short(case, n) {
+        BUFFER_TOO_SHORT
+    } else {
+        refusal
+    }
 }
 
 // The tokens that a call gives: none where its buffer is too short.
@@ -96,7 +100,7 @@ fn is_table(line: &[u8], n: usize, table: &[u8]) -> bool {
     let mut ok = true;
     let mut i = 0;
     while i < end / 4 {
-        ok = ok & (number_at(table, 4 * i) == told(line, i / PLACES, i % PLACES));
+        ok = ok & (number_at(table, 4 * i) == expected_number(line, i / PLACES, i % PLACES));
         i += 1;
     }
     ok & is_untouched(tail(table, end))
@@ -107,13 +111,13 @@ fn is_starts(line: &[u8], n: usize, starts: &[u8]) -> bool {
     let mut ok = true;
     let mut k = 0;
     while k < n {
-        ok = ok & (byte_at(starts, k) as usize == told(line, k, START));
+        ok = ok & (byte_at(starts, k) as usize == expected_number(line, k, START));
         k += 1;
     }
     ok & is_untouched(tail(starts, n))
 }
 
-fn holds(call: usize, line: &[u8], n: usize, out: &[u8]) -> bool {
+fn is_result(call: usize, line: &[u8], n: usize, out: &[u8]) -> bool {
     if call == TOKENIZE {
         return is_table(line, n, out);
     }
@@ -122,14 +126,14 @@ fn holds(call: usize, line: &[u8], n: usize, out: &[u8]) -> bool {
 
 // Whether a call answers what is due, and leaves just that in the buffer.
 fn agrees(case: usize, call: usize, line: &[u8], s: &[u8], out: &mut [u8]) -> bool {
-    let n = told_tokens(line);
+    let n = expected_tokens(line);
     let len = out.len();
     repeat(out, len, GUARD);
     let a = call_within(call, s, room(case, bytes_for(call, n)), out);
     let given = given(case, n);
-    (a.refusal as usize == due(case, told_refusal(line), n))
+    (a.refusal as usize == refusal_in_case(case, expected_refusal(line), n))
         & (a.tokens == given)
-        & holds(call, line, given, out)
+        & is_result(call, line, given, out)
 }
 
 fn compare_within(line: &[u8], s: &[u8], out: &mut [u8]) -> Report {

@@ -1,11 +1,12 @@
 // Replays tokens.txt, the recorded tokens and sentence starts of the Rust, and says how many answers of the crates tokens and
 // sentences differ.
 mod answers;
+mod expected;
 mod steps;
-mod told;
 
 use answers::MALFORMED;
 use answers::compare_calls;
+use expected::is_well_formed;
 use lists::NOT;
 use lists::front;
 use lists::span_of;
@@ -17,10 +18,9 @@ use recorded::file::load;
 use recorded::room::room;
 use recorded::tally::Report;
 use recorded::tally::Tally;
-use recorded::told::text_of;
+use recorded::text::text_of;
 use steps::compare_parts;
 use steps::compare_steps;
-use told::is_well_formed;
 
 fn add(t: Tally, r: Report) -> Tally {
     let names = b"tokenize sentences push push_of_text malformed";

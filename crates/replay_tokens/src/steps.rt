@@ -1,18 +1,18 @@
 // The step form, held against the recorded starts and refusals of one text.
 use crate::answers::PARTS;
 use crate::answers::STEPS;
-use crate::told::NAME;
-use crate::told::PUNCTUATION;
-use crate::told::START;
-use crate::told::WHITESPACE;
-use crate::told::told;
-use crate::told::told_end;
-use crate::told::told_refusal;
-use crate::told::told_tokens;
+use crate::expected::NAME;
+use crate::expected::PUNCTUATION;
+use crate::expected::START;
+use crate::expected::WHITESPACE;
+use crate::expected::expected_end;
+use crate::expected::expected_number;
+use crate::expected::expected_refusal;
+use crate::expected::expected_tokens;
 use lists::EXACT;
+use lists::one_if;
 use lists::part;
 use lists::same;
-use lists::tally;
 use recorded::tally::Report;
 use sentences::State;
 use sentences::Step;
@@ -28,33 +28,44 @@ const DAMAGED: usize = 2;
 
 // The step of the token k.
 fn step_of(state: State, line: &[u8], k: usize, s: &[u8]) -> Step {
-    let whitespace = part(s, told(line, k, WHITESPACE), told_end(line, k, WHITESPACE));
-    let name = part(s, told(line, k, NAME), told_end(line, k, NAME));
+    let whitespace = part(
+        s,
+        expected_number(line, k, WHITESPACE),
+        expected_end(line, k, WHITESPACE),
+    );
+    let name = part(
+        s,
+        expected_number(line, k, NAME),
+        expected_end(line, k, NAME),
+    );
     let punctuation = part(
         s,
-        told(line, k, PUNCTUATION),
-        told_end(line, k, PUNCTUATION),
+        expected_number(line, k, PUNCTUATION),
+        expected_end(line, k, PUNCTUATION),
     );
     state.push(whitespace, name, punctuation)
 }
 
 // Whether the step breaks before the token k as it should: before each that starts a sentence, but not before the first.
-fn breaks_as_told(step: Step, line: &[u8], k: usize) -> bool {
+fn breaks_as_expected(step: Step, line: &[u8], k: usize) -> bool {
     if k == 0 {
         return !step.breaks;
     }
-    tally(step.breaks) == told(line, k, START)
+    one_if(step.breaks) == expected_number(line, k, START)
 }
 
 // The tokens of s, one step each.
 pub fn compare_steps(r: Report, line: &[u8], s: &[u8]) -> Report {
-    let n = told_tokens(line);
+    let n = expected_tokens(line);
     let mut now = r;
     let mut state = State::fresh();
     let mut k = 0;
     while k < n {
         let step = step_of(state, line, k, s);
-        now = now.count(STEPS, (step.refusal == 0) & breaks_as_told(step, line, k));
+        now = now.count(
+            STEPS,
+            (step.refusal == 0) & breaks_as_expected(step, line, k),
+        );
         state = step.state;
         k += 1;
     }
@@ -94,12 +105,12 @@ fn step_in(place: usize, state: State, s: &[u8], other: &[u8]) -> Step {
 }
 
 // Whether the step is accepted, or is refused, breaks nowhere and hands the state back as it was.
-fn answers(due: usize, before: State, step: Step) -> bool {
+fn answers(refusal: usize, before: State, step: Step) -> bool {
     let state = step.state;
-    if due == 0 {
+    if refusal == 0 {
         return (step.refusal == 0) & (state.fresh == 0);
     }
-    (step.refusal as usize == due) & !step.breaks & is_same(state, before)
+    (step.refusal as usize == refusal) & !step.breaks & is_same(state, before)
 }
 
 // Whether a step with s in one place is refused as s is: with no text in the other places, or with a damaged one.
@@ -118,7 +129,7 @@ fn agrees(case: usize, refusal: usize, s: &[u8]) -> bool {
 
 // The text s as a part of a step.
 pub fn compare_parts(r: Report, line: &[u8], s: &[u8]) -> Report {
-    let refusal = told_refusal(line);
+    let refusal = expected_refusal(line);
     let mut now = r;
     let mut case = 0;
     while case < CASES {

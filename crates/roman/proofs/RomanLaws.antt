@@ -11,11 +11,11 @@ use lib.Dec.{ltb, eqb}
 use lib.ListN.{length, drop, getD}
 use lib.Seq.{drop-cons, drop-length}
 use borrow.Author.Tests.{lt-ltb, le-ltb, ne-eqb}
-use Rattle.lists.specs.Bytes.{bytes, has, any}
+use Rattle.lists.specs.Bytes.{bytes, elem, any}
 use Rattle.lists.proofs.Sets.{le-or-lt}
-use Rattle.roman.specs.Roman.{numeral, larger, added, taken, romanValue}
+use Rattle.roman.specs.Roman.{romanLetterValue, anyLarger, sumAdded, sumSubtracted, romanValue}
 
-neither : (b x y : ℕ) → ((b ≡ x) ⊎ (b ≡ y) → ⊥) → has b (x ∷ y ∷ []) ≡ false
+neither : (b x y : ℕ) → ((b ≡ x) ⊎ (b ≡ y) → ⊥) → elem b (x ∷ y ∷ []) ≡ false
 unfolding any
 neither b x y n = rw (ne-eqb x b (λ e. n (inl (sym e))), ne-eqb y b (λ e. n (inr (sym e))))
 
@@ -24,8 +24,8 @@ abbrev Neither : ℕ → List String → Type 0
 Neither b [] = Unit
 Neither b (p ∷ ps) = Neither b ps × ((b ≡ getD (bytes p) 0 0) ⊎ (b ≡ getD (bytes p) 1 0) → ⊥)
 
-pub no-letter : (b : ℕ) → Neither b ("Mm" ∷ "Dd" ∷ "Cc" ∷ "Ll" ∷ "Xx" ∷ "Vv" ∷ "Ii" ∷ []) → 0 ≡ numeral b
-unfolding numeral
+pub no-letter : (b : ℕ) → Neither b ("Mm" ∷ "Dd" ∷ "Cc" ∷ "Ll" ∷ "Xx" ∷ "Vv" ∷ "Ii" ∷ []) → 0 ≡ romanLetterValue b
+unfolding romanLetterValue
 no-letter b (((((((u, i), v), x), l), c), d), m) = rw (neither b _ _ i, neither b _ _ v, neither b _ _ x, neither b _ _ l, neither b _ _ c, neither b _ _ d, neither b _ _ m)
 
 -- the largest of the values
@@ -40,49 +40,49 @@ ltb-max v w m =
     (λ (k : v < m). rw (le-ltb v w h, lt-ltb v m k) (sym (lt-ltb v (max w m) (omega arith)))) (le-or-lt m v))
     (λ (h : v < w). rw (lt-ltb v w h) (sym (lt-ltb v (max w m) (omega arith)))) (le-or-lt w v)
 
-larger-max : (v : ℕ) (vs : List ℕ) → larger v vs ≡ ltb v (maximum vs)
+anyLarger-max : (v : ℕ) (vs : List ℕ) → anyLarger v vs ≡ ltb v (maximum vs)
 unfolding any maximum
-larger-max v [] = sym (le-ltb v 0 (omega arith))
-larger-max v (w ∷ vs) = rw (larger-max v vs) (ltb-max v w (maximum vs))
+anyLarger-max v [] = sym (le-ltb v 0 (omega arith))
+anyLarger-max v (w ∷ vs) = rw (anyLarger-max v vs) (ltb-max v w (maximum vs))
 
 -- what the loop keeps at i: the bytes from i on are letters, and what their values add, take away and reach at most
 pub record Summed (s : List ℕ) (i a u m : ℕ) : Type 0 where
   pub within : i ≤ length s
-  pub letters : has 0 (map numeral (drop i s)) ≡ false
-  pub adds : a ≡ added (map numeral (drop i s))
-  pub takes : u ≡ taken (map numeral (drop i s))
-  pub most : m ≡ maximum (map numeral (drop i s))
+  pub letters : elem 0 (map romanLetterValue (drop i s)) ≡ false
+  pub adds : a ≡ sumAdded (map romanLetterValue (drop i s))
+  pub takes : u ≡ sumSubtracted (map romanLetterValue (drop i s))
+  pub most : m ≡ maximum (map romanLetterValue (drop i s))
   pub bound : a + u + 1000 * i ≤ 1000 * length s
 
 pub summed-none : (s : List ℕ) → Summed s (length s) 0 0 0
-unfolding any added taken maximum
+unfolding any sumAdded sumSubtracted maximum
 summed-none s = record { within = omega arith; letters = rw drop-length; adds = rw drop-length; takes = rw drop-length; most = rw drop-length; bound = omega arith }
 
-has-at : (s : List ℕ) (i : ℕ) → i < length s → numeral (getD s i 0) ≡ 0 → has 0 (map numeral s) ≡ true
+foreign-elem : (s : List ℕ) (i : ℕ) → i < length s → romanLetterValue (getD s i 0) ≡ 0 → elem 0 (map romanLetterValue s) ≡ true
 unfolding any
-has-at [] i h e = absurd (omega arith)
-has-at (b ∷ s) zero h e = rw e
-has-at (b ∷ s) (suc i) h e = rw (has-at s i (omega arith) e) (or-true (eqb (numeral b) 0))
+foreign-elem [] i h e = absurd (omega arith)
+foreign-elem (b ∷ s) zero h e = rw e
+foreign-elem (b ∷ s) (suc i) h e = rw (foreign-elem s i (omega arith) e) (or-true (eqb (romanLetterValue b) 0))
 
 rest-of : (b : Bool) (v : ℕ) → v - cond b v 0 ≡ cond b 0 v
 rest-of true v = omega arith
 rest-of false v = omega arith
 
 -- the letter before i
-module _ (s : List ℕ) (i v : ℕ) (z : 0 < i) (h : i ≤ length s) (e : v ≡ numeral (getD s (i - 1) 0)) where
+module _ (s : List ℕ) (i v : ℕ) (z : 0 < i) (h : i ≤ length s) (e : v ≡ romanLetterValue (getD s (i - 1) 0)) where
   pub foreign : v ≡ 0 → 0 ≡ romanValue s
   unfolding romanValue
-  foreign n = rw (has-at s (i - 1) (omega arith) (sym e ∙ n))
+  foreign n = rw (foreign-elem s (i - 1) (omega arith) (sym e ∙ n))
 
-  one-more : map numeral (drop (i - 1) s) ≡ v ∷ map numeral (drop i s)
+  one-more : map romanLetterValue (drop (i - 1) s) ≡ v ∷ map romanLetterValue (drop i s)
   one-more =
       let n : suc (i - 1) ≡ i = omega arith in
-      ap (map numeral) (drop-cons s (i - 1) 0 (omega arith)) ∙ ap₂ (λ (x k : ℕ). x ∷ map numeral (drop k s)) (sym e) n
+      ap (map romanLetterValue) (drop-cons s (i - 1) 0 (omega arith)) ∙ ap₂ (λ (x k : ℕ). x ∷ map romanLetterValue (drop k s)) (sym e) n
 
   pub summed-more : {a u m t n : ℕ} → Summed s i a u m → (v ≡ 0 → ⊥) → v ≤ 1000 → (t ≡ cond (ltb v m) v 0) × (t ≤ v) → n ≡ max v m → Summed s (i - 1) (a + (v - t)) (u + t) n
-  unfolding any added taken maximum
+  unfolding any sumAdded sumSubtracted maximum
   summed-more {a} {u} {m} {t} {n} r k b q en =
-      let l : larger v (map numeral (drop i s)) ≡ ltb v m = larger-max v (map numeral (drop i s)) ∙ ap (ltb v) (sym (r .most)) in
+      let l : anyLarger v (map romanLetterValue (drop i s)) ≡ ltb v m = anyLarger-max v (map romanLetterValue (drop i s)) ∙ ap (ltb v) (sym (r .most)) in
       record {
         within = omega arith;
         letters = rw (one-more, ne-eqb v 0 k) (r .letters);

@@ -5,30 +5,30 @@ use Prim.Native.Nat.{ℕ, _+_, _-_, _/_, _%_}
 use Prim.Native.String.{String}
 use lib.Dec.{ltb}
 use lib.ListN.{getD}
-use Rattle.lists.specs.Bytes.{bytes, any, has}
+use Rattle.lists.specs.Bytes.{bytes, any, elem}
 
 -- the value of a character, in either case; 0 for a foreign one, each byte of a longer character among them
-unfoldable pub numeral : ℕ → ℕ
-numeral b =
-    cond (has b (bytes "Ii")) 1 (cond (has b (bytes "Vv")) 5 (cond (has b (bytes "Xx")) 10 (cond (has b (bytes "Ll")) 50
-    (cond (has b (bytes "Cc")) 100 (cond (has b (bytes "Dd")) 500 (cond (has b (bytes "Mm")) 1000 0))))))
+unfoldable pub romanLetterValue : ℕ → ℕ
+romanLetterValue b =
+    cond (elem b (bytes "Ii")) 1 (cond (elem b (bytes "Vv")) 5 (cond (elem b (bytes "Xx")) 10 (cond (elem b (bytes "Ll")) 50
+    (cond (elem b (bytes "Cc")) 100 (cond (elem b (bytes "Dd")) 500 (cond (elem b (bytes "Mm")) 1000 0))))))
 
 -- some value after v is larger
-abbrev pub larger : ℕ → List ℕ → Bool
-larger v ws = any (ltb v) ws
+abbrev pub anyLarger : ℕ → List ℕ → Bool
+anyLarger v ws = any (ltb v) ws
 
 -- "a letter with any larger one after it subtracts": the sum of those that add, and of those that subtract
-unfoldable pub added : List ℕ → ℕ
-added [] = 0
-added (v ∷ vs) = cond (larger v vs) 0 v + added vs
+unfoldable pub sumAdded : List ℕ → ℕ
+sumAdded [] = 0
+sumAdded (v ∷ vs) = cond (anyLarger v vs) 0 v + sumAdded vs
 
-unfoldable pub taken : List ℕ → ℕ
-taken [] = 0
-taken (v ∷ vs) = cond (larger v vs) v 0 + taken vs
+unfoldable pub sumSubtracted : List ℕ → ℕ
+sumSubtracted [] = 0
+sumSubtracted (v ∷ vs) = cond (anyLarger v vs) v 0 + sumSubtracted vs
 
 -- "below 0 gives 0; one foreign character gives 0": `-` of numbers stays at 0
 unfoldable pub romanValue : List ℕ → ℕ
-romanValue s = cond (has 0 (map numeral s)) 0 (added (map numeral s) - taken (map numeral s))
+romanValue s = cond (elem 0 (map romanLetterValue s)) 0 (sumAdded (map romanLetterValue s) - sumSubtracted (map romanLetterValue s))
 
 -- ---- the standard numerals: proofs/Standard.antt has that each is read as its number
 

@@ -4,11 +4,11 @@ ghost use mathlib.Core.Bool.{cond};
 ghost use Prim.Native.Nat.{_≤_, max};
 ghost use lib.Dec.{ltb};
 ghost use lib.ListN.{length};
-ghost use Rattle.roman.specs.Roman.{numeral, romanValue};
+ghost use Rattle.roman.specs.Roman.{romanLetterValue, romanValue};
 
 // The value of a letter, 0 for any other byte.
-fn value(b: u8) -> u32
-    ensures { λ r. ⌜ (r ≡ numeral b) × (r ≤ 1000) ⌝ }
+fn letter_value(b: u8) -> u32
+    ensures { λ r. ⌜ (r ≡ romanLetterValue b) × (r ≤ 1000) ⌝ }
 {
     match b {
         b'I' | b'i' => 1,
@@ -29,14 +29,14 @@ fn subtracted(v: u32, most: u32) -> u32
     if v < most { v } else { 0 }
 }
 
-fn larger(v: u32, most: u32) -> u32
+fn larger_of(v: u32, most: u32) -> u32
     ensures { λ r. ⌜ r ≡ max v most ⌝ }
 {
     if v < most { most } else { v }
 }
 
 // The value of a numeral, 0 for another text.
-pub fn roman(s: &[u8]) -> u32
+pub fn roman_value(s: &[u8]) -> u32
     requires { ⌜ length (now s) ≤ 65536 ⌝ }
     ensures { λ r. ⌜ r ≡ romanValue (now (s .entry)) ⌝ }
 {
@@ -45,14 +45,14 @@ pub fn roman(s: &[u8]) -> u32
     let mut most: u32 = 0;
     let mut i = s.len();
     while 0 < i {
-        let v = value(s[i - 1]);
+        let v = letter_value(s[i - 1]);
         if v == 0 {
             return 0;
         }
         let t = subtracted(v, most);
         sub += t;
         add += v - t;
-        most = larger(v, most);
+        most = larger_of(v, most);
         i -= 1;
     }
     if sub <= add { add - sub } else { 0 }

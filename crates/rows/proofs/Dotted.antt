@@ -22,10 +22,10 @@ letter-alone b e =
     (λ (h : b < 128). rw (lt-leb 128 b h))
     (le-or-lt 128 b)
 
-alone : (s : List ℕ) → all letter s ≡ true → continuation (getD s 0 0) ≡ false
+letters-alone : (s : List ℕ) → all letter s ≡ true → continuation (getD s 0 0) ≡ false
 unfolding all
-alone [] e = refl
-alone (b ∷ s) e = letter-alone b (and-eq-true-iff (letter b) (all letter s) .0 e .0)
+letters-alone [] e = refl
+letters-alone (b ∷ s) e = letter-alone b (and-eq-true-iff (letter b) (all letter s) .0 e .0)
 
 -- a text of letters has a character a byte
 pub letter-chars : (s : List ℕ) → all letter s ≡ true → letters s ≡ map (λ b. other (letterWord (b ∷ []))) s
@@ -33,4 +33,4 @@ unfolding letters chars all
 letter-chars [] e = refl
 letter-chars (b ∷ s) e =
     let t = and-eq-true-iff (letter b) (all letter s) .0 e .1 in
-    rw (alone s t) (ap (λ (ws : List Word). other (letterWord (b ∷ [])) ∷ ws) (letter-chars s t))
+    rw (letters-alone s t) (ap (λ (ws : List Word). other (letterWord (b ∷ [])) ∷ ws) (letter-chars s t))

@@ -7,13 +7,13 @@ use Prim.Native.Char.{code}
 use native.Mathlib.Omega.{arith}
 use lib.ListN.{length, take}
 use lib.Seq.{length-take-le}
-use Rattle.lists.specs.Bytes.{ends, lower}
+use Rattle.lists.specs.Bytes.{endsWith, toLower}
 use Rattle.lists.proofs.Recursion.{Local, recur-eq}
 use Rattle.rows.specs.Rows.{Rule, _reads_, Reading, by, rowNumber, rows, readStep, readWith, read}
 use Rattle.rows.specs.declared.Row.the-variants.{NoRow}
 
 -- a text that ends in a byte has one
-pub ends-some : (c : ℕ) (s : List ℕ) → ends c s ≡ true → 1 ≤ length s
+pub ends-some : (c : ℕ) (s : List ℕ) → endsWith c s ≡ true → 1 ≤ length s
 ends-some c [] e = absurd (let z : _≡_ {A = Bool} false true = e in false≢true z)
 ends-some c (b ∷ s) e = omega arith
 
@@ -23,9 +23,9 @@ shorter s h = let e = length-take-le (length s - 1) s (omega arith) in omega ari
 
 read-local : (word : List ℕ → List ℕ) → Local (readStep word)
 unfolding readStep
-read-local word f g s h = go (ends (code "%") s) refl
+read-local word f g s h = go (endsWith (code "%") s) refl
   where
-    go : (b : Bool) → ends (code "%") s ≡ b → readStep word f s ≡ readStep word g s
+    go : (b : Bool) → endsWith (code "%") s ≡ b → readStep word f s ≡ readStep word g s
     go true e = rw (h (take (length s - 1) s) (shorter s (ends-some (code "%") s e)))
     go false e = rw e
 
@@ -35,8 +35,8 @@ unfolding readWith
 step-eq word s = recur-eq (by NoRow []) (readStep word) (read-local word) s
 
 -- also with row 12 as it is
-pub read-eq : (s : List ℕ) → read s ≡ readStep (map lower) read s
-read-eq s = step-eq (map lower) s
+pub read-eq : (s : List ℕ) → read s ≡ readStep (map toLower) read s
+read-eq s = step-eq (map toLower) s
 
 -- the number of a rule's row
 abbrev pub numberIn : Rule → ℕ

@@ -8,7 +8,7 @@ use native.Mathlib.Omega.{arith}
 use lib.Dec.{eqb, ltb}
 use lib.ListN.{length, take, getD}
 use borrow.Author.Tests.{eqb-true, eq-eqb, ne-eqb}
-use Rattle.lists.specs.Bytes.{all, has, lower, starts, ends, any}
+use Rattle.lists.specs.Bytes.{all, elem, toLower, startsWith, endsWith, any}
 use Rattle.lists.specs.Classes.{digit, digitOrComma}
 use Rattle.shapes.specs.Shapes.{isDottedAbbrev, isCommaInt, isTime, isLeadingZeroDigits, isDigits, isDouble, isOrdinal}
 use Rattle.shapes.specs.Times.{isMeridiemTime}
@@ -18,16 +18,16 @@ use Rattle.rows.specs.declared.Row.the-variants.{Percent}
 use Rattle.rows.proofs.Laws.{ends-some, step-eq}
 use Rattle.rows.proofs.Taken.{outside, dottedByte, timeByte, meridiemByte, doubleByte, ordinalByte, dotted-bytes, comma-bytes, time-bytes, meridiem-bytes, double-bytes, ordinal-bytes, PastTimes}
 
-has-at : (c : ℕ) (s : List ℕ) (i : ℕ) → i < length s → getD s i 0 ≡ c → has c s ≡ true
+elem-at : (c : ℕ) (s : List ℕ) (i : ℕ) → i < length s → getD s i 0 ≡ c → elem c s ≡ true
 unfolding any
-has-at c [] i h e = absurd (omega arith)
-has-at c (b ∷ s) zero h e = rw (eq-eqb b c e)
-has-at c (b ∷ s) (suc i) h e = rw (has-at c s i (omega arith) e, or-true (eqb b c))
+elem-at c [] i h e = absurd (omega arith)
+elem-at c (b ∷ s) zero h e = rw (eq-eqb b c e)
+elem-at c (b ∷ s) (suc i) h e = rw (elem-at c s i (omega arith) e, or-true (eqb b c))
 
 -- a text has the byte that it ends in
-ends-has : (c : ℕ) (s : List ℕ) → ends c s ≡ true → has c s ≡ true
-ends-has c s e =
-    has-at c s (length s - 1) (omega (arith, ends-some c s e))
+ends-elem : (c : ℕ) (s : List ℕ) → endsWith c s ≡ true → elem c s ≡ true
+ends-elem c s e =
+    elem-at c s (length s - 1) (omega (arith, ends-some c s e))
     (eqb-true (getD s (length s - 1) 0) c (and-eq-true-iff (not (eqb (length s) 0)) (eqb (getD s (length s - 1) 0) c) .0 e .1))
 
 -- the name meets none of the tests of rows 1 to 9
@@ -39,7 +39,7 @@ pub record Untaken (s : List ℕ) : Type 0 where
   pub ordinal : isOrdinal s ≡ false
 
 -- a name that ends in % is such
-pub percent-untaken : (s : List ℕ) → ends (code "%") s ≡ true → Untaken s
+pub percent-untaken : (s : List ℕ) → endsWith (code "%") s ≡ true → Untaken s
 percent-untaken s e = record {
   past =
       record {
@@ -49,17 +49,17 @@ percent-untaken s e = record {
         time = other timeByte refl (isTime s) (time-bytes s);
         meridiem = other meridiemByte refl (isMeridiemTime s) (meridiem-bytes s);
       };
-  leading = other digit refl (isLeadingZeroDigits s) (λ h. digits-all s (and-eq-true-iff (ltb 1 (length s) && starts (code "0") s) (isDigits s) .0 h .1));
+  leading = other digit refl (isLeadingZeroDigits s) (λ h. digits-all s (and-eq-true-iff (ltb 1 (length s) && startsWith (code "0") s) (isDigits s) .0 h .1));
   digits = other digit refl (isDigits s) (digits-all s);
   double = other doubleByte refl (isDouble s) (double-bytes s);
   ordinal = other ordinalByte refl (isOrdinal s) (ordinal-bytes s);
 }
   where
     other : (p : ℕ → Bool) → p (code "%") ≡ false → (shape : Bool) → (shape ≡ true → all p s ≡ true) → shape ≡ false
-    other p h shape f = outside shape p (code "%") s f h (ends-has (code "%") s e)
+    other p h shape f = outside shape p (code "%") s f h (ends-elem (code "%") s e)
 
 -- so row 10 reads it
-pub percent-with : (word : List ℕ → List ℕ) (s : List ℕ) → ends (code "%") s ≡ true
+pub percent-with : (word : List ℕ → List ℕ) (s : List ℕ) → endsWith (code "%") s ≡ true
     → readWith word s ≡ by Percent (readWith word (take (length s - 1) s) .words ++ perCent)
 unfolding readStep
 percent-with word s e =
@@ -68,5 +68,5 @@ percent-with word s e =
     step-eq word s ∙ rw (p .dotted, p .comma, p .time, p .meridiem, u .leading, u .digits, u .double, u .ordinal, e, p .empty)
 
 -- also with row 12 as it is
-pub percent-read : (s : List ℕ) → ends (code "%") s ≡ true → read s ≡ by Percent (read (take (length s - 1) s) .words ++ perCent)
-percent-read s e = percent-with (map lower) s e
+pub percent-read : (s : List ℕ) → endsWith (code "%") s ≡ true → read s ≡ by Percent (read (take (length s - 1) s) .words ++ perCent)
+percent-read s e = percent-with (map toLower) s e

@@ -9,10 +9,10 @@ use lib.Dec.{eqb, leb, ltb}
 use lib.ListN.{length, take, drop, getD, take-append-drop, drop-of-length-le}
 use lib.Seq.{getD-drop}
 use borrow.Author.Tests.{eqb-true, ltb-true, ltb-false, leb-true, not-false, le-ltb, ne-eqb}
-use Rattle.lists.specs.Bytes.{bytes, all, span, has, split, onto, sameBy, capital, small, lower, starts, ends, stripSuffix, endsBy, any}
-use Rattle.lists.specs.Classes.{digit, letter, digitOrComma, colonNorPoint, except}
-use Rattle.lists.proofs.Scan.{all-append, all-more, all-within, span-all, span-fails, all-span, all-split, all-at, apart}
-use Rattle.lists.proofs.Parts.{parts-fail, has-span}
+use Rattle.lists.specs.Bytes.{bytes, all, span, elem, split, onto, sameBy, uppercase, lowercase, toLower, startsWith, endsWith, stripSuffix, endsWithBy, any}
+use Rattle.lists.specs.Classes.{digit, letter, digitOrComma, notColonOrPoint, except}
+use Rattle.lists.proofs.Scan.{all-append, all-more, all-within, span-all, span-fails, all-span, all-split, all-at, class-apart}
+use Rattle.lists.proofs.Parts.{parts-fail, elem-span}
 use Rattle.lists.proofs.Bools.{or-true-left, or-true-right, or-true-elim}
 use Rattle.shapes.specs.Shapes.{isDigits, isNDigits, isAlpha, isOneLetter, stripSign, isExponent, isUnsigned, isCommaGroups, isHourMinute, isOrdinalSuffix, splitOnce, startsChar, isDottedAbbrev, isCommaInt, isTime, isDouble, isOrdinal}
 use Rattle.shapes.specs.Times.{endsInMeridiem, separatorAt, timeOf, isMeridiemTime}
@@ -25,21 +25,21 @@ untaken true h = absurd (h refl)
 untaken false h = refl
 
 -- a text with a byte that is outside a class is not all of that class
-pub lacks : (p : ℕ → Bool) (c : ℕ) (s : List ℕ) → p c ≡ false → has c s ≡ true → all p s ≡ false
+pub lacks : (p : ℕ → Bool) (c : ℕ) (s : List ℕ) → p c ≡ false → elem c s ≡ true → all p s ≡ false
 unfolding any all
 lacks p c [] h k = absurd (false≢true k)
 lacks p c (b ∷ s) h k = go (eqb b c) refl k (lacks p c s h)
   where
-    go : (t : Bool) → eqb b c ≡ t → (t || has c s) ≡ true → (has c s ≡ true → all p s ≡ false) → (p b && all p s) ≡ false
+    go : (t : Bool) → eqb b c ≡ t → (t || elem c s) ≡ true → (elem c s ≡ true → all p s ≡ false) → (p b && all p s) ≡ false
     go true e k i = rw (eqb-true b c e, h)
     go false e k i = rw (i k) (and-false (p b))
 
 -- a shape whose names are of a class does not take a text with a byte outside it
-pub outside : (shape : Bool) (p : ℕ → Bool) (c : ℕ) (s : List ℕ) → (shape ≡ true → all p s ≡ true) → p c ≡ false → has c s ≡ true → shape ≡ false
+pub outside : (shape : Bool) (p : ℕ → Bool) (c : ℕ) (s : List ℕ) → (shape ≡ true → all p s ≡ true) → p c ≡ false → elem c s ≡ true → shape ≡ false
 outside shape p c s f h k = untaken shape (λ e. false≢true (sym (lacks p c s h k) ∙ f e))
 
 -- nor does a shape that needs a byte take a text of a class without it
-pub needs-other : (shape : Bool) (p : ℕ → Bool) (c : ℕ) (s : List ℕ) → (shape ≡ true → has c s ≡ true) → p c ≡ false → all p s ≡ true → shape ≡ false
+pub needs-other : (shape : Bool) (p : ℕ → Bool) (c : ℕ) (s : List ℕ) → (shape ≡ true → elem c s ≡ true) → p c ≡ false → all p s ≡ true → shape ≡ false
 needs-other shape p c s f h k = untaken shape (λ e. false≢true (sym (lacks p c s h (f e)) ∙ k))
 
 -- the bytes of each shape's names
@@ -70,16 +70,16 @@ module _ (p : ℕ → Bool) where
 
   all-suffixed : (c : ℕ) (s : List ℕ) → p c ≡ true → all p (stripSuffix c s) ≡ true → all p s ≡ true
   unfolding all
-  all-suffixed c s q = go (ends c s) refl
+  all-suffixed c s q = go (endsWith c s) refl
     where
-      go : (t : Bool) → ends c s ≡ t → all p (cond t (take (length s - 1) s) s) ≡ true → all p s ≡ true
+      go : (t : Bool) → endsWith c s ≡ t → all p (cond t (take (length s - 1) s) s) ≡ true → all p s ≡ true
       go true e h =
           let l : length s - 1 < length s = omega (arith, ends-some c s e) in
           let f = eqb-true (getD s (length s - 1) 0) c (and-eq-true-iff (not (eqb (length s) 0)) (eqb (getD s (length s - 1) 0) c) .0 e .1) in
           all-around s (length s - 1) l h (rw f q) (rw (drop-of-length-le s {i = length s - 1 + 1} (omega arith)))
       go false e h = h
 
-  all-prefixed : (c : ℕ) (s : List ℕ) → p c ≡ true → starts c s ≡ true → all p (drop 1 s) ≡ true → all p s ≡ true
+  all-prefixed : (c : ℕ) (s : List ℕ) → p c ≡ true → startsWith c s ≡ true → all p (drop 1 s) ≡ true → all p s ≡ true
   unfolding all
   all-prefixed c [] q e h = refl
   all-prefixed c (b ∷ s) q e h = rw (eqb-true b c (and-eq-true-iff (not (eqb (suc (length s)) 0)) (eqb b c) .0 e .1), q, h)
@@ -112,9 +112,9 @@ one-letter : (s : List ℕ) → isOneLetter s ≡ true → all letter s ≡ true
 unfolding isAlpha
 one-letter s h = and-eq-true-iff (not (eqb (length s) 0)) (all letter s) .0 (and-eq-true-iff (eqb (length s) 1) (isAlpha s) .0 h .1) .1
 
-dotted-parts : (s : List ℕ) → isDottedAbbrev s ≡ true → all isOneLetter (split (code ".") (stripSuffix (code ".") s)) ≡ true
+dotted-letters : (s : List ℕ) → isDottedAbbrev s ≡ true → all isOneLetter (split (code ".") (stripSuffix (code ".") s)) ≡ true
 unfolding isDottedAbbrev
-dotted-parts s h =
+dotted-letters s h =
     let parts = split (code ".") (stripSuffix (code ".") s) in
     and-eq-true-iff (leb 2 (length parts)) (all isOneLetter parts) .0 h .1
 
@@ -126,7 +126,7 @@ dotted-bytes s h =
     (sym (all-parts dottedByte (code ".") refl core)
     ∙ all-within isOneLetter (all dottedByte)
     (λ t k. all-within letter dottedByte (λ b e. or-true-left (letter b) (eqb b (code ".")) e) t (one-letter t k)) (split (code ".") core)
-    (dotted-parts s h))
+    (dotted-letters s h))
 
 -- a letter leads a text where it leads the text's front
 first-letter : (n : ℕ) (s : List ℕ) → letter (getD (take n s) 0 0) ≡ true → letter (getD s 0 0) ≡ true
@@ -142,9 +142,9 @@ one-first (b ∷ s) h = and-eq-true-iff (letter b) (all letter s) .0 (one-letter
 -- a dotted abbreviation starts with a letter
 pub dotted-first : (s : List ℕ) → isDottedAbbrev s ≡ true → letter (getD s 0 0) ≡ true
 dotted-first s h =
-    go (ends (code ".") s)
+    go (endsWith (code ".") s)
     (first-letter (span (except (code ".")) core) core
-    (one-first (take (span (except (code ".")) core) core) (parts-first isOneLetter (code ".") core (dotted-parts s h))))
+    (one-first (take (span (except (code ".")) core) core) (parts-first isOneLetter (code ".") core (dotted-letters s h))))
   where
     core : List ℕ
     core = stripSuffix (code ".") s
@@ -176,8 +176,8 @@ pub comma-bytes : (s : List ℕ) → isCommaInt s ≡ true → all digitOrComma 
 comma-bytes s h = sym (all-parts digitOrComma (code ",") refl s) ∙ comma-groups (split (code ",") s) h
 
 -- it has a comma
-pub comma-needed : (s : List ℕ) → isCommaInt s ≡ true → has (code ",") s ≡ true
-comma-needed s h = has-span (code ",") s ∙ go (ltb (span (except (code ",")) s) (length s)) refl
+pub comma-needed : (s : List ℕ) → isCommaInt s ≡ true → elem (code ",") s ≡ true
+comma-needed s h = elem-span (code ",") s ∙ go (ltb (span (except (code ",")) s) (length s)) refl
   where
     go : (t : Bool) → ltb (span (except (code ",")) s) (length s) ≡ t → t ≡ true
     go true e = refl
@@ -212,28 +212,28 @@ time-bytes s h =
     (λ b e. or-true-right (digit b) (eqb b (code ":")) (not-false (eqb b (code ":")) e)) s h
 
 -- it has a colon
-pub colon-needed : (s : List ℕ) → isTime s ≡ true → has (code ":") s ≡ true
+pub colon-needed : (s : List ℕ) → isTime s ≡ true → elem (code ":") s ≡ true
 unfolding splitOnce
 colon-needed s h =
     let at = span (except (code ":")) s in
-    has-span (code ":") s ∙ and-eq-true-iff (ltb at (length s)) (isHourMinute (take at s) (drop (at + 1) s)) .0 h .0
+    elem-span (code ":") s ∙ and-eq-true-iff (ltb at (length s)) (isHourMinute (take at s) (drop (at + 1) s)) .0 h .0
 
 -- a text that is small letters once it is lowered
-lowered-letter : (b : ℕ) → small (lower b) ≡ true → letter b ≡ true
-lowered-letter b h = go (capital b) h
+lowered-letter : (b : ℕ) → lowercase (toLower b) ≡ true → letter b ≡ true
+lowered-letter b h = go (uppercase b) h
   where
-    go : (t : Bool) → small (cond t (b + 32) b) ≡ true → (t || small b) ≡ true
+    go : (t : Bool) → lowercase (cond t (b + 32) b) ≡ true → (t || lowercase b) ≡ true
     go true h = refl
     go false h = h
 
-lowered-letters : (s t : List ℕ) → all small t ≡ true → sameBy lower s t ≡ true → all letter s ≡ true
+lowered-letters : (s t : List ℕ) → all lowercase t ≡ true → sameBy toLower s t ≡ true → all letter s ≡ true
 unfolding all sameBy
 lowered-letters [] t k h = refl
 lowered-letters (b ∷ s) [] k h = absurd (false≢true h)
 lowered-letters (b ∷ s) (c ∷ t) k h =
-    let x = and-eq-true-iff (eqb (lower b) c) (sameBy lower s t) .0 h in
-    let y = and-eq-true-iff (small c) (all small t) .0 k in
-    rw (lowered-letter b (rw (eqb-true (lower b) c (x .0)) (y .0)), lowered-letters s t (y .1) (x .1))
+    let x = and-eq-true-iff (eqb (toLower b) c) (sameBy toLower s t) .0 h in
+    let y = and-eq-true-iff (lowercase c) (all lowercase t) .0 k in
+    rw (lowered-letter b (rw (eqb-true (toLower b) c (x .0)) (y .0)), lowered-letters s t (y .1) (x .1))
 
 -- the last of two bytes
 second : (f : ℕ → ℕ) (c d : ℕ) (s : List ℕ) → sameBy f s (c ∷ d ∷ []) ≡ true → f (getD s 1 0) ≡ d
@@ -245,23 +245,23 @@ second f c d (a ∷ b ∷ s) h =
     (and-eq-true-iff (eqb (f b) d) (sameBy f s []) .0 (and-eq-true-iff (eqb (f a) c) (eqb (f b) d && sameBy f s []) .0 h .1) .0)
 
 -- a text that ends in am or pm
-ends-lowered : (c d : ℕ) (s : List ℕ) → all small (c ∷ d ∷ []) ≡ true → endsBy lower (c ∷ d ∷ []) s ≡ true
-    → (all letter (drop (length s - 2) s) ≡ true) × (lower (getD s (length s - 1) 0) ≡ d)
+ends-lowered : (c d : ℕ) (s : List ℕ) → all lowercase (c ∷ d ∷ []) ≡ true → endsWithBy toLower (c ∷ d ∷ []) s ≡ true
+    → (all letter (drop (length s - 2) s) ≡ true) × (toLower (getD s (length s - 1) 0) ≡ d)
 ends-lowered c d s k h =
-    let x = and-eq-true-iff (leb 2 (length s)) (sameBy lower (drop (length s - 2) s) (c ∷ d ∷ [])) .0 h in
+    let x = and-eq-true-iff (leb 2 (length s)) (sameBy toLower (drop (length s - 2) s) (c ∷ d ∷ [])) .0 h in
     let n : length s - 2 + 1 ≡ length s - 1 = omega (arith, leb-true 2 (length s) (x .0)) in (
       lowered-letters (drop (length s - 2) s) (c ∷ d ∷ []) k (x .1),
-      ap lower (ap (λ (i : ℕ). getD s i 0) (sym n) ∙ sym (getD-drop (length s - 2) s 1 0)) ∙ second lower c d (drop (length s - 2) s) (x .1),
+      ap toLower (ap (λ (i : ℕ). getD s i 0) (sym n) ∙ sym (getD-drop (length s - 2) s 1 0)) ∙ second toLower c d (drop (length s - 2) s) (x .1),
     )
 
-meridiem-end : (s : List ℕ) → endsInMeridiem s ≡ true → (all letter (drop (length s - 2) s) ≡ true) × (lower (getD s (length s - 1) 0) ≡ code "m")
+meridiem-end : (s : List ℕ) → endsInMeridiem s ≡ true → (all letter (drop (length s - 2) s) ≡ true) × (toLower (getD s (length s - 1) 0) ≡ code "m")
 unfolding all
 meridiem-end s =
-    or-true-elim (endsBy lower (bytes "am") s) (endsBy lower (bytes "pm") s) (ends-lowered (code "a") (code "m") s refl)
+    or-true-elim (endsWithBy toLower (bytes "am") s) (endsWithBy toLower (bytes "pm") s) (ends-lowered (code "a") (code "m") s refl)
     (ends-lowered (code "p") (code "m") s refl)
 
-separator : (b : ℕ) → colonNorPoint b ≡ false → meridiemByte b ≡ true
-separator b h = or-true-elim (eqb b (code ":")) (eqb b (code "."))
+separator-byte : (b : ℕ) → notColonOrPoint b ≡ false → meridiemByte b ≡ true
+separator-byte b h = or-true-elim (eqb b (code ":")) (eqb b (code "."))
     (λ e. rw (e, or-true (letter b || digit b))) (λ e. rw (e, or-true (letter b || digit b || eqb b (code ":"))))
     (not-false (eqb b (code ":") || eqb b (code ".")) h)
 
@@ -279,11 +279,11 @@ meridiem-parts s h =
 pub meridiem-bytes : (s : List ℕ) → isMeridiemTime s ≡ true → all meridiemByte s ≡ true
 meridiem-bytes s h =
     let k = meridiem-parts s h in
-    all-joined meridiemByte (length s - 2) s (all-clock meridiemByte colonNorPoint (λ b e. rw (e, or-true (letter b))) separator (timeOf s) (k .1))
+    all-joined meridiemByte (length s - 2) s (all-clock meridiemByte notColonOrPoint (λ b e. rw (e, or-true (letter b))) separator-byte (timeOf s) (k .1))
     (all-within letter meridiemByte (λ b e. rw e) (drop (length s - 2) s) (meridiem-end s (k .0) .0))
 
 -- am or pm ends it
-pub meridiem-last : (s : List ℕ) → isMeridiemTime s ≡ true → lower (getD s (length s - 1) 0) ≡ code "m"
+pub meridiem-last : (s : List ℕ) → isMeridiemTime s ≡ true → toLower (getD s (length s - 1) 0) ≡ code "m"
 meridiem-last s h = meridiem-end s (meridiem-parts s h .0) .1
 
 -- ---- figures
@@ -293,13 +293,13 @@ pub digit-double : (b : ℕ) → digit b ≡ true → doubleByte b ≡ true
 digit-double b h = rw h
 
 double-either : (c d : ℕ) (s : List ℕ) → doubleByte c ≡ true → doubleByte d ≡ true → all doubleByte (drop 1 s) ≡ true
-    → (starts c s || starts d s) ≡ true → all doubleByte s ≡ true
-double-either c d s x y h = or-true-elim (starts c s) (starts d s) (λ e. all-prefixed doubleByte c s x e h) (λ e. all-prefixed doubleByte d s y e h)
+    → (startsWith c s || startsWith d s) ≡ true → all doubleByte s ≡ true
+double-either c d s x y h = or-true-elim (startsWith c s) (startsWith d s) (λ e. all-prefixed doubleByte c s x e h) (λ e. all-prefixed doubleByte d s y e h)
 
 double-signed : (s : List ℕ) → all doubleByte (stripSign s) ≡ true → all doubleByte s ≡ true
-double-signed s = go (starts (code "+") s || starts (code "-") s) refl
+double-signed s = go (startsWith (code "+") s || startsWith (code "-") s) refl
   where
-    go : (t : Bool) → (starts (code "+") s || starts (code "-") s) ≡ t → all doubleByte (cond t (drop 1 s) s) ≡ true → all doubleByte s ≡ true
+    go : (t : Bool) → (startsWith (code "+") s || startsWith (code "-") s) ≡ t → all doubleByte (cond t (drop 1 s) s) ≡ true → all doubleByte s ≡ true
     go true e h = double-either (code "+") (code "-") s refl refl h e
     go false e h = h
 
@@ -313,16 +313,16 @@ empty-all p (b ∷ s) h = absurd (let e = eqb-true (suc (length s)) 0 h in omega
 
 exponent-bytes : (s : List ℕ) → isExponent s ≡ true → all doubleByte s ≡ true
 unfolding isExponent
-exponent-bytes s = go (starts (code "e") s || starts (code "E") s) refl
+exponent-bytes s = go (startsWith (code "e") s || startsWith (code "E") s) refl
   where
-    go : (t : Bool) → (starts (code "e") s || starts (code "E") s) ≡ t
+    go : (t : Bool) → (startsWith (code "e") s || startsWith (code "E") s) ≡ t
         → cond t (isDigits (stripSign (drop 1 s))) (eqb (length s) 0) ≡ true → all doubleByte s ≡ true
     go true e h = double-either (code "e") (code "E") s refl refl (double-signed (drop 1 s) (double-digits (stripSign (drop 1 s)) h)) e
     go false e h = empty-all doubleByte s h
 
 unsigned-bytes : (s : List ℕ) → isUnsigned s ≡ true → all doubleByte s ≡ true
 unfolding isUnsigned
-unsigned-bytes s h = all-joined doubleByte (span digit s) s (front s) (go (starts (code ".") rest) refl h)
+unsigned-bytes s h = all-joined doubleByte (span digit s) s (front s) (go (startsWith (code ".") rest) refl h)
   where
     front : (t : List ℕ) → all doubleByte (take (span digit t) t) ≡ true
     front t = all-within digit doubleByte digit-double (take (span digit t) t) (span-all digit t)
@@ -333,7 +333,7 @@ unsigned-bytes s h = all-joined doubleByte (span digit s) s (front s) (go (start
     frac : List ℕ
     frac = drop 1 rest
 
-    go : (t : Bool) → starts (code ".") rest ≡ t
+    go : (t : Bool) → startsWith (code ".") rest ≡ t
         → cond t (not (eqb (span digit s) 0 && eqb (span digit frac) 0) && isExponent (drop (span digit frac) frac))
         (not (eqb (span digit s) 0) && isExponent rest) ≡ true
         → all doubleByte rest ≡ true
@@ -346,9 +346,9 @@ unsigned-bytes s h = all-joined doubleByte (span digit s) s (front s) (go (start
 
 -- a figure is of the bytes of figures
 pub double-bytes : (s : List ℕ) → isDouble s ≡ true → all doubleByte s ≡ true
-double-bytes s = go (starts (code "-") s) refl
+double-bytes s = go (startsWith (code "-") s) refl
   where
-    go : (t : Bool) → starts (code "-") s ≡ t → isUnsigned (cond t (drop 1 s) s) ≡ true → all doubleByte s ≡ true
+    go : (t : Bool) → startsWith (code "-") s ≡ t → isUnsigned (cond t (drop 1 s) s) ≡ true → all doubleByte s ≡ true
     go true e h = all-prefixed doubleByte (code "-") s refl e (unsigned-bytes (drop 1 s) h)
     go false e h = unsigned-bytes s h
 
@@ -357,9 +357,9 @@ double-bytes s = go (starts (code "-") s) refl
 suffix-letters : (s : List ℕ) → isOrdinalSuffix s ≡ true → all letter s ≡ true
 unfolding all
 suffix-letters s =
-    or-true-elim (sameBy lower s (bytes "th") || sameBy lower s (bytes "st") || sameBy lower s (bytes "nd")) (sameBy lower s (bytes "rd"))
-    (or-true-elim (sameBy lower s (bytes "th") || sameBy lower s (bytes "st")) (sameBy lower s (bytes "nd"))
-    (or-true-elim (sameBy lower s (bytes "th")) (sameBy lower s (bytes "st")) (lowered-letters s (bytes "th") refl) (lowered-letters s (bytes "st") refl))
+    or-true-elim (sameBy toLower s (bytes "th") || sameBy toLower s (bytes "st") || sameBy toLower s (bytes "nd")) (sameBy toLower s (bytes "rd"))
+    (or-true-elim (sameBy toLower s (bytes "th") || sameBy toLower s (bytes "st")) (sameBy toLower s (bytes "nd"))
+    (or-true-elim (sameBy toLower s (bytes "th")) (sameBy toLower s (bytes "st")) (lowered-letters s (bytes "th") refl) (lowered-letters s (bytes "st") refl))
     (lowered-letters s (bytes "nd") refl)) (lowered-letters s (bytes "rd") refl)
 
 -- an ordinal number is letters, digits and commas
@@ -388,8 +388,8 @@ module _ (p : ℕ → Bool) (s : List ℕ) (h : all p s ≡ true) where
   pub no-meridiem : p (code ":") ≡ false → p (code ".") ≡ false → isMeridiemTime s ≡ false
   no-meridiem m n =
       let t = timeOf s in
-      let unmarked = all-within p colonNorPoint (λ b k. rw (apart p (code ":") b m k, apart p (code ".") b n k)) in
-      let e : separatorAt t ≡ length t = all-span colonNorPoint t (unmarked t (all-split p s (length s - 2) h .0)) in
+      let unmarked = all-within p notColonOrPoint (λ b k. rw (class-apart p (code ":") b m k, class-apart p (code ".") b n k)) in
+      let e : separatorAt t ≡ length t = all-span notColonOrPoint t (unmarked t (all-split p s (length s - 2) h .0)) in
       rw (e, le-ltb (length t) (length t) (omega arith)) (and-false (endsInMeridiem s))
 
 -- no row up to those of times takes the name
@@ -412,7 +412,7 @@ past-times p s h c d z l m = record {
 }
 
 -- a name of a class does not end in a byte outside it
-pub no-ending : (p : ℕ → Bool) (c : ℕ) (s : List ℕ) → p c ≡ false → all p s ≡ true → ends c s ≡ false
-no-ending p c s n h = untaken (ends c s) (λ e.
+pub no-ending : (p : ℕ → Bool) (c : ℕ) (s : List ℕ) → p c ≡ false → all p s ≡ true → endsWith c s ≡ false
+no-ending p c s n h = untaken (endsWith c s) (λ e.
     let k = all-at p 0 s (length s - 1) h (omega (arith, ends-some c s e)) in
-    false≢true (sym (apart p c (getD s (length s - 1) 0) n k) ∙ and-eq-true-iff (not (eqb (length s) 0)) (eqb (getD s (length s - 1) 0) c) .0 e .1))
+    false≢true (sym (class-apart p c (getD s (length s - 1) 0) n k) ∙ and-eq-true-iff (not (eqb (length s) 0)) (eqb (getD s (length s - 1) 0) c) .0 e .1))

@@ -5,12 +5,12 @@ use Prim.Native.Nat.{ℕ, _-_}
 use Prim.Native.Char.{code}
 use lib.Dec.{eqb}
 use lib.ListN.{length, take, drop}
-use Rattle.lists.specs.Bytes.{bytes, keep, lower, lead, after, same, starts, ends}
+use Rattle.lists.specs.Bytes.{bytes, filterb, toLower, takeWhile, dropWhile, same, startsWith, endsWith}
 use Rattle.lists.specs.Classes.{except}
 use Rattle.lists.specs.Recur.{recur}
 use Rattle.units.specs.Units.{unitWord}
 use Rattle.shapes.specs.Shapes.{isDottedAbbrev, isCommaInt, isTime, isLeadingZeroDigits, isDigits, isDouble, isOrdinal, unitAt, hasUnit, unitPart}
-use Rattle.shapes.specs.Times.{TimeParts, parts, none, isMeridiemTime, timeParts}
+use Rattle.shapes.specs.Times.{TimeParts, time-parts, no-time-parts, isMeridiemTime, timeParts}
 use Rattle.numerals.specs.Words.{Word, other}
 use Rattle.numerals.specs.Cardinal.{cardinal, digits}
 use Rattle.numerals.specs.Ordinal.{ordinal}
@@ -60,7 +60,7 @@ rowSign OneWord = 0
 
 -- a name's sign is minus where a minus leads it, else plus
 abbrev pub signOf : List ℕ → Sign
-signOf s = cond (starts (code "-") s) Minus Plus
+signOf s = cond (startsWith (code "-") s) Minus Plus
 
 -- "the hour by `cardinal`; then, unless the minute is "00", the minute by `year`" (`read_clock`)
 unfoldable pub clock : List ℕ → List ℕ → List Word
@@ -68,19 +68,19 @@ clock hour minute = cardinal hour ++ cond (same minute (bytes "00")) [] (year mi
 
 -- of a time, what stands before its colon and after it
 abbrev pub hourOf : List ℕ → List ℕ
-hourOf s = lead (except (code ":")) s
+hourOf s = takeWhile (except (code ":")) s
 
 abbrev pub minuteOf : List ℕ → List ℕ
-minuteOf s = drop 1 (after (except (code ":")) s)
+minuteOf s = drop 1 (dropWhile (except (code ":")) s)
 
 -- "as 4, then `letters` of the meridiem"
 unfoldable pub clockLetters : TimeParts → List Word
-clockLetters (parts hour minute meridiem) = clock hour minute ++ letters meridiem
-clockLetters none = []
+clockLetters (time-parts hour minute meridiem) = clock hour minute ++ letters meridiem
+clockLetters no-time-parts = []
 
 -- "ends in %"
 abbrev pub isPercent : List ℕ → Bool
-isPercent s = ends (code "%") s
+isPercent s = endsWith (code "%") s
 
 abbrev pub perCent : List Word
 perCent = other (bytes "per") ∷ other (bytes "cent") ∷ []
@@ -107,7 +107,7 @@ firstTaking (takes reads reading ∷ rules) = cond takes reading (firstTaking ru
 abbrev pub rows : (List ℕ → List ℕ) → (List ℕ → Reading) → List ℕ → List Rule
 rows word again s =
     eqb (length s) 0 reads by Empty []
-    ∷ isDottedAbbrev s reads by Dotted (letters (keep (except (code ".")) s))
+    ∷ isDottedAbbrev s reads by Dotted (letters (filterb (except (code ".")) s))
     ∷ isCommaInt s reads by CommaInt (cardinal s)
     ∷ isTime s reads by Time (clock (hourOf s) (minuteOf s))
     ∷ isMeridiemTime s reads by Meridiem (clockLetters (timeParts s))
@@ -128,4 +128,4 @@ readWith word = recur (by NoRow []) (readStep word)
 
 -- "the name, A to Z lowered, as one word"
 abbrev pub read : List ℕ → Reading
-read = readWith (map lower)
+read = readWith (map toLower)

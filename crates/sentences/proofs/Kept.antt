@@ -7,10 +7,10 @@ use native.Mathlib.Omega.{arith}
 use lib.Dec.{eqb}
 use lib.ListN.{length}
 use borrow.Author.Tests.{eqb-true, eqb-false}
-use Rattle.lists.specs.Bytes.{bytes, sameBy, lower}
+use Rattle.lists.specs.Bytes.{bytes, sameBy, toLower}
 use Rattle.lists.proofs.Scan.{same-long}
 use Rattle.tokens.specs.Tokens.{Token}
-use Rattle.sentences.specs.Sentences.{breakAfter, before, isBreak, startsAfter, starts, isSet, flag, fresh, headOf, kept, told, breaks}
+use Rattle.sentences.specs.Sentences.{breakAfter, leftContext, isBreak, sentenceStartsAfter, sentenceStarts, isSet, flag, fresh, headOf, kept, stateContext, breaks}
 use Rattle.sentences.specs.declared.State.{State}
 
 -- a flag says what it was made of
@@ -29,32 +29,32 @@ head-five (a ∷ b ∷ c ∷ d ∷ f ∷ []) h = refl
 head-five (a ∷ b ∷ c ∷ d ∷ f ∷ g ∷ s) h = absurd (omega arith)
 
 -- the length and the first five bytes tell whether it is a word of five
-head-same : (s w : List ℕ) → length w ≡ 5 → (eqb (length s) 5 && sameBy lower (headOf s) w) ≡ sameBy lower s w
+head-same : (s w : List ℕ) → length w ≡ 5 → (eqb (length s) 5 && sameBy toLower (headOf s) w) ≡ sameBy toLower s w
 head-same s w l = go (eqb (length s) 5) refl
   where
-    go : (t : Bool) → eqb (length s) 5 ≡ t → (t && sameBy lower (headOf s) w) ≡ sameBy lower s w
-    go true e = ap (λ (h : List ℕ). sameBy lower h w) (head-five s (eqb-true (length s) 5 e))
-    go false e = sym (same-long lower s w (λ k. eqb-false (length s) 5 e (k ∙ l)))
+    go : (t : Bool) → eqb (length s) 5 ≡ t → (t && sameBy toLower (headOf s) w) ≡ sameBy toLower s w
+    go true e = ap (λ (h : List ℕ). sameBy toLower h w) (head-five s (eqb-true (length s) 5 e))
+    go false e = sym (same-long toLower s w (λ k. eqb-false (length s) 5 e (k ∙ l)))
 
 -- the state that a token leaves tells all that the tests ask of it
-pub told-kept : (t : Token) → told (kept (t .name) (t .punctuation)) ≡ before t
-told-kept t = rw (head-same (t .name) (bytes "yahoo") refl) (simp set-flag)
+pub context-kept : (t : Token) → stateContext (kept (t .name) (t .punctuation)) ≡ leftContext t
+context-kept t = rw (head-same (t .name) (bytes "yahoo") refl) (simp set-flag)
 
 -- so a step from it breaks where a sentence ends between the two tokens
 pub breaks-kept : (t u : Token) → breaks (kept (t .name) (t .punctuation)) (u .whitespace) (u .name) ≡ isBreak t u
-breaks-kept t u = rw told-kept
+breaks-kept t u = rw context-kept
 
 -- which tokens start a sentence after those that the state was fed
-unfoldable pub marksFrom : State → List Token → List Bool
-marksFrom s [] = []
-marksFrom s (t ∷ ts) = (isSet (s .fresh) || breakAfter (told s) (t .whitespace) (t .name)) ∷ marksFrom (kept (t .name) (t .punctuation)) ts
+unfoldable pub sentenceStartsFrom : State → List Token → List Bool
+sentenceStartsFrom s [] = []
+sentenceStartsFrom s (t ∷ ts) = (isSet (s .fresh) || breakAfter (stateContext s) (t .whitespace) (t .name)) ∷ sentenceStartsFrom (kept (t .name) (t .punctuation)) ts
 
-pub marks-after : (t : Token) (us : List Token) → marksFrom (kept (t .name) (t .punctuation)) us ≡ startsAfter t us
-unfolding marksFrom startsAfter
-marks-after t [] = refl
-marks-after t (u ∷ us) = ap₂ _∷_ (breaks-kept t u) (marks-after u us)
+pub startsFrom-after : (t : Token) (us : List Token) → sentenceStartsFrom (kept (t .name) (t .punctuation)) us ≡ sentenceStartsAfter t us
+unfolding sentenceStartsFrom sentenceStartsAfter
+startsFrom-after t [] = refl
+startsFrom-after t (u ∷ us) = ap₂ _∷_ (breaks-kept t u) (startsFrom-after u us)
 
-pub marks-starts : (ts : List Token) → marksFrom fresh ts ≡ starts ts
-unfolding marksFrom starts
-marks-starts [] = refl
-marks-starts (t ∷ ts) = ap (λ (bs : List Bool). true ∷ bs) (marks-after t ts)
+pub startsFrom-fresh : (ts : List Token) → sentenceStartsFrom fresh ts ≡ sentenceStarts ts
+unfolding sentenceStartsFrom sentenceStarts
+startsFrom-fresh [] = refl
+startsFrom-fresh (t ∷ ts) = ap (λ (bs : List Bool). true ∷ bs) (startsFrom-after t ts)

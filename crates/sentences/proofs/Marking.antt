@@ -6,40 +6,40 @@ use Prim.Native.Nat.{ℕ, suc, _+_, _-_}
 use native.Mathlib.Numerals.{add-one}
 use lib.ListN.{length, take, drop, set}
 use lib.Seq.{sets}
-use Rattle.admit.specs.Refusals.{firstDue}
+use Rattle.admit.specs.Refusals.{firstRefusal}
 use Rattle.admit.proofs.Calls.{call-refused, call-accepted}
 use Rattle.tokens.specs.Tokens.{Token, tokens}
 use Rattle.tokens.specs.declared.Places.{Places}
 use Rattle.tokens.proofs.Walks.{Next}
-use Rattle.sentences.specs.Sentences.{starts, breakAfter, told, kept, flag, isSet, fresh, breaks}
+use Rattle.sentences.specs.Sentences.{sentenceStarts, breakAfter, stateContext, kept, flag, isSet, fresh, breaks}
 use Rattle.sentences.specs.Calls.{flags, startBytes, stepTests, stepCall, asStep}
 use Rattle.sentences.specs.declared.State.{State}
-use Rattle.sentences.proofs.Kept.{marksFrom, marks-starts}
+use Rattle.sentences.proofs.Kept.{sentenceStartsFrom, startsFrom-fresh}
 use Rattle.sentences.proofs.Starts.{starts-each}
 
 -- the mark of the first token that is left, as the code makes it, and those of the others, which what is kept of it tells
-pub marks-next : {s : List ℕ} {at : ℕ} {p : Places} → Next s at p → (st : State) {st′ : State} {w m q : List ℕ}
+pub startsFrom-next : {s : List ℕ} {at : ℕ} {p : Places} → Next s at p → (st : State) {st′ : State} {w m q : List ℕ}
     → w ≡ take (p .prepunctuation - at) (drop at s) → m ≡ take (p .punctuation - p .name) (drop (p .name) s)
     → q ≡ take (p .end - p .punctuation) (drop (p .punctuation) s)
-    → st′ ≡ kept m q → marksFrom st (tokens (drop at s)) ≡ (isSet (st .fresh) || breakAfter (told st) w m) ∷ marksFrom st′ (tokens (drop (p .end) s))
-unfolding marksFrom
-marks-next next st ew em eq es =
-    ap (marksFrom st) (next .token) ∙ rw (es, ew ∙ next .white, em ∙ next .name, eq ∙ next .punctuation)
+    → st′ ≡ kept m q → sentenceStartsFrom st (tokens (drop at s)) ≡ (isSet (st .fresh) || breakAfter (stateContext st) w m) ∷ sentenceStartsFrom st′ (tokens (drop (p .end) s))
+unfolding sentenceStartsFrom
+startsFrom-next next st ew em eq es =
+    ap (sentenceStartsFrom st) (next .token) ∙ rw (es, ew ∙ next .white, em ∙ next .name, eq ∙ next .punctuation)
 
 -- a turn: the flag of the first token is stored, those of the others are left
-pub starts-turn : (l : List ℕ) (n : ℕ) {x : ℕ} {b : Bool} {ms bs : List Bool} → ms ≡ b ∷ bs → x ≡ flag b → {z : List ℕ}
+pub starts-step : (l : List ℕ) (n : ℕ) {x : ℕ} {b : Bool} {ms bs : List Bool} → ms ≡ b ∷ bs → x ≡ flag b → {z : List ℕ}
     → sets l n (flags ms) ≡ z → sets (set l n x) (n + 1) (flags bs) ≡ z
 unfolding flags
-starts-turn l n m f k = rw (f, add-one) (ap (λ (xs : List Bool). sets l n (flags xs)) (sym m) ∙ k)
+starts-step l n m f k = rw (f, add-one) (ap (λ (xs : List Bool). sets l n (flags xs)) (sym m) ∙ k)
 
 -- nothing is left
-pub starts-end : (l : List ℕ) (n : ℕ) (st : State) (us : List Token) → us ≡ [] → {z : List ℕ} → sets l n (flags (marksFrom st us)) ≡ z → l ≡ z
-unfolding flags marksFrom
-starts-end l n st us u k = ap (λ (vs : List Token). sets l n (flags (marksFrom st vs))) (sym u) ∙ k
+pub starts-end : (l : List ℕ) (n : ℕ) (st : State) (us : List Token) → us ≡ [] → {z : List ℕ} → sets l n (flags (sentenceStartsFrom st us)) ≡ z → l ≡ z
+unfolding flags sentenceStartsFrom
+starts-end l n st us u k = ap (λ (vs : List Token). sets l n (flags (sentenceStartsFrom st vs))) (sym u) ∙ k
 
 -- at the start all is left
-pub starts-whole : (l s : List ℕ) (st : State) → st ≡ fresh → sets l 0 (flags (marksFrom st (tokens s))) ≡ sets l 0 (startBytes s)
-starts-whole l s st e = ap (λ (r : State). sets l 0 (flags (marksFrom r (tokens s)))) e ∙ ap (λ (bs : List Bool). sets l 0 (flags bs)) (marks-starts (tokens s))
+pub starts-whole : (l s : List ℕ) (st : State) → st ≡ fresh → sets l 0 (flags (sentenceStartsFrom st (tokens s))) ≡ sets l 0 (startBytes s)
+starts-whole l s st e = ap (λ (r : State). sets l 0 (flags (sentenceStartsFrom r (tokens s)))) e ∙ ap (λ (bs : List Bool). sets l 0 (flags bs)) (startsFrom-fresh (tokens s))
 
 -- a byte for each token
 flags-length : (bs : List Bool) → length (flags bs) ≡ length bs
@@ -48,17 +48,17 @@ flags-length [] = refl
 flags-length (b ∷ bs) = ap suc (flags-length bs)
 
 pub starts-length : (s : List ℕ) → length (startBytes s) ≡ length (tokens s)
-starts-length s = flags-length (starts (tokens s)) ∙ starts-each (tokens s)
+starts-length s = flags-length (sentenceStarts (tokens s)) ∙ starts-each (tokens s)
 
 -- ---- a step
 
 -- k is the number that the code has for the three texts
-module _ (st : State) (w n p : List ℕ) (k : ℕ) (due : k ≡ firstDue (stepTests w n p)) where
+module _ (st : State) (w n p : List ℕ) (k : ℕ) (due : k ≡ firstRefusal (stepTests w n p)) where
   pub step-refused : (k ≡ 0 → ⊥) → asStep (record { refusal = k; breaks = false; state = st }) ≡ stepCall st w n p
   unfolding stepCall
-  step-refused z = call-refused _ _ k (firstDue (stepTests w n p)) z due
+  step-refused z = call-refused _ _ k (firstRefusal (stepTests w n p)) z due
 
   pub step-done : k ≡ 0 → {b : Bool} {st′ : State} → b ≡ breaks st w n → st′ ≡ kept n p
       → asStep (record { refusal = 0; breaks = b; state = st′ }) ≡ stepCall st w n p
   unfolding stepCall
-  step-done z {b} {st′} e f = call-accepted _ _ _ (firstDue (stepTests w n p)) (sym z ∙ due) (λ j. record { breaks = e j; state = f j })
+  step-done z {b} {st′} e f = call-accepted _ _ _ (firstRefusal (stepTests w n p)) (sym z ∙ due) (λ j. record { breaks = e j; state = f j })

@@ -5,20 +5,20 @@ use Prim.Native.Nat.{ℕ, _-_}
 use Prim.Native.Char.{code}
 use lib.Dec.{ltb, eqb}
 use lib.ListN.{length, getD}
-use Rattle.lists.specs.Bytes.{bytes, count, has, sameBy, capital, small, lower}
+use Rattle.lists.specs.Bytes.{bytes, countb, elem, sameBy, uppercase, lowercase, toLower}
 use Rattle.lists.specs.Classes.{only}
 use Rattle.tokens.specs.Tokens.{Token}
 use Rattle.sentences.specs.declared.State.{State}
 
 -- the first and the last byte, 0 where there is none
-abbrev pub first : List ℕ → ℕ
-first s = getD s 0 0
+abbrev pub firstByte : List ℕ → ℕ
+firstByte s = getD s 0 0
 
-abbrev pub last : List ℕ → ℕ
-last s = getD s (length s - 1) 0
+abbrev pub lastByte : List ℕ → ℕ
+lastByte s = getD s (length s - 1) 0
 
 -- what the tests ask of the token before
-pub record Before : Type 0 where
+pub record LeftContext : Type 0 where
   pub yahoo : Bool
   pub exclamation : Bool
   pub question : Bool
@@ -28,43 +28,43 @@ pub record Before : Type 0 where
 
 -- "`is_sentence_break` decides between neighbours; its tests run in the Rust's order, blank line first, then "yahoo". Lengths
 -- are bytes." Of the next token they ask its whitespace and its name.
-unfoldable pub breakAfter : Before → List ℕ → List ℕ → Bool
+unfoldable pub breakAfter : LeftContext → List ℕ → List ℕ → Bool
 breakAfter t whitespace name =
-    cond (ltb 1 (count (only (code "\n")) whitespace)) true
-    (cond (t .yahoo && t .exclamation && small (first name)) false
+    cond (ltb 1 (countb (only (code "\n")) whitespace)) true
+    (cond (t .yahoo && t .exclamation && lowercase (firstByte name)) false
     (cond (t .colon || t .question || t .exclamation) true
     (cond (not (t .point)) false
-    (cond (not (capital (first name))) false
+    (cond (not (uppercase (firstByte name))) false
     (cond (ltb 1 (length whitespace)) true
     (not (t .abbreviation)))))))
 
 -- `looks_like_abbreviation` of the Rust, of a name with this last byte, length and first byte
 abbrev pub looksLikeAbbreviation : ℕ → ℕ → ℕ → Bool
-looksLikeAbbreviation l n f = capital l || (ltb n 4 && capital f)
+looksLikeAbbreviation l n f = uppercase l || (ltb n 4 && uppercase f)
 
-abbrev pub before : Token → Before
-before t =
+abbrev pub leftContext : Token → LeftContext
+leftContext t =
     record {
-      yahoo = sameBy lower (t .name) (bytes "yahoo");
-      exclamation = has (code "!") (t .punctuation);
-      question = has (code "?") (t .punctuation);
-      colon = has (code ":") (t .punctuation);
-      point = has (code ".") (t .punctuation);
-      abbreviation = looksLikeAbbreviation (last (t .name)) (length (t .name)) (first (t .name));
+      yahoo = sameBy toLower (t .name) (bytes "yahoo");
+      exclamation = elem (code "!") (t .punctuation);
+      question = elem (code "?") (t .punctuation);
+      colon = elem (code ":") (t .punctuation);
+      point = elem (code ".") (t .punctuation);
+      abbreviation = looksLikeAbbreviation (lastByte (t .name)) (length (t .name)) (firstByte (t .name));
     }
 
 -- a sentence ends between two tokens
 abbrev pub isBreak : Token → Token → Bool
-isBreak t u = breakAfter (before t) (u .whitespace) (u .name)
+isBreak t u = breakAfter (leftContext t) (u .whitespace) (u .name)
 
 -- "The whole-text form answers for each token whether it starts a sentence; the first token does."
-unfoldable pub startsAfter : Token → List Token → List Bool
-startsAfter t [] = []
-startsAfter t (u ∷ us) = isBreak t u ∷ startsAfter u us
+unfoldable pub sentenceStartsAfter : Token → List Token → List Bool
+sentenceStartsAfter t [] = []
+sentenceStartsAfter t (u ∷ us) = isBreak t u ∷ sentenceStartsAfter u us
 
-unfoldable pub starts : List Token → List Bool
-starts [] = []
-starts (t ∷ ts) = true ∷ startsAfter t ts
+unfoldable pub sentenceStarts : List Token → List Bool
+sentenceStarts [] = []
+sentenceStarts (t ∷ ts) = true ∷ sentenceStartsAfter t ts
 
 -- ---- the step form
 
@@ -89,19 +89,19 @@ kept name punctuation =
     record {
       len = length name;
       head = headOf name;
-      last = last name;
-      point = flag (has (code ".") punctuation);
-      colon = flag (has (code ":") punctuation);
-      question = flag (has (code "?") punctuation);
-      exclamation = flag (has (code "!") punctuation);
+      last = lastByte name;
+      point = flag (elem (code ".") punctuation);
+      colon = flag (elem (code ":") punctuation);
+      question = flag (elem (code "?") punctuation);
+      exclamation = flag (elem (code "!") punctuation);
       fresh = 0;
     }
 
 -- what a state tells of the token before
-abbrev pub told : State → Before
-told s =
+abbrev pub stateContext : State → LeftContext
+stateContext s =
     record {
-      yahoo = eqb (s .len) 5 && sameBy lower (s .head) (bytes "yahoo");
+      yahoo = eqb (s .len) 5 && sameBy toLower (s .head) (bytes "yahoo");
       exclamation = isSet (s .exclamation);
       question = isSet (s .question);
       colon = isSet (s .colon);
@@ -111,4 +111,4 @@ told s =
 
 -- whether a step breaks before its token: "its first step from a fresh state answers no break"
 abbrev pub breaks : State → List ℕ → List ℕ → Bool
-breaks s whitespace name = not (isSet (s .fresh)) && breakAfter (told s) whitespace name
+breaks s whitespace name = not (isSet (s .fresh)) && breakAfter (stateContext s) whitespace name

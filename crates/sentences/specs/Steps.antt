@@ -4,25 +4,25 @@ use mathlib.Core.Bool.{Bool, false}
 use mathlib.Core.List.{List, [], _∷_}
 use Rattle.admit.specs.Refusals.{Call}
 use Rattle.tokens.specs.Tokens.{Token}
-use Rattle.sentences.specs.Calls.{Stepped, stepCall}
+use Rattle.sentences.specs.Calls.{StepResult, stepCall}
 use Rattle.sentences.specs.declared.State.{State}
 
 -- a step that is fed a token
-abbrev pub stepOf : State → Token → Call Stepped
+abbrev pub stepOf : State → Token → Call StepResult
 stepOf s t = stepCall s (t .whitespace) (t .name) (t .punctuation)
 
 -- what the steps answer, each from the state that the one before it handed back
-unfoldable pub fed : State → List Token → List (Call Stepped)
+unfoldable pub fed : State → List Token → List (Call StepResult)
 fed s [] = []
 fed s (t ∷ ts) = stepOf s t ∷ fed (stepOf s t .value .state) ts
 
 -- of a step's answer its number and whether it breaks
-abbrev pub verdict : Call Stepped → Call Bool
-verdict r = record { refusal = r .refusal; value = r .value .breaks }
+abbrev pub breakVerdict : Call StepResult → Call Bool
+breakVerdict r = record { refusal = r .refusal; value = r .value .breaks }
 
 -- an accepted step that answers b
-abbrev pub accepted : Bool → Call Bool
-accepted b = record { refusal = 0; value = b }
+abbrev pub acceptedStep : Bool → Call Bool
+acceptedStep b = record { refusal = 0; value = b }
 
 -- the marks, with none at the first token
 unfoldable pub butFirst : List Bool → List Bool

@@ -6,24 +6,24 @@ use lists::NOT;
 use lists::ONLY;
 use lists::byte_at;
 use lists::count_of;
-use lists::minus;
 use lists::part;
 use lists::same;
+use lists::saturating_sub;
 use lists::span_of;
 use tokens::Tokens;
-use tokens::exceeds;
+use tokens::has_more_tokens;
 use tokens::token_at;
 ghost use mathlib.Core.Path.{_≡_};
 ghost use mathlib.Core.Bool.{_||_};
 ghost use Prim.Native.Nat.{_≤_};
 ghost use lib.ListN.{length};
 ghost use lib.Seq.{sets};
-ghost use Rattle.lists.specs.Bytes.{has, capital, small};
-ghost use Rattle.admit.specs.Refusals.{firstDue};
+ghost use Rattle.lists.specs.Bytes.{elem, uppercase, lowercase};
+ghost use Rattle.admit.specs.Refusals.{firstRefusal};
 ghost use Rattle.tokens.specs.Tokens.{tokens};
-ghost use Rattle.tokens.specs.Table.{filledCall, asFilled};
-ghost use Rattle.sentences.specs.Sentences.{breakAfter, isSet, flag, fresh, headOf, kept, told, breaks};
-ghost use Rattle.sentences.specs.Calls.{startBytes, stepTests, stepCall, asStep, smallerDue};
+ghost use Rattle.tokens.specs.Table.{tokensCall, asTokens};
+ghost use Rattle.sentences.specs.Sentences.{breakAfter, isSet, flag, fresh, headOf, kept, stateContext, breaks};
+ghost use Rattle.sentences.specs.Calls.{startBytes, stepTests, stepCall, asStep, earlierRefusal};
 
 // What is kept of the last token: its name's length, first five bytes (0 past its end) and last byte (0 where it is empty), and
 // whether its punctuation has each of . : ? and !. A flag is 0 for no and any other byte for yes.
@@ -48,14 +48,14 @@ pub struct Step {
     pub state: State,
 }
 
-fn is_capital(b: u8) -> bool
-    ensures { λ r. ⌜ r ≡ capital b ⌝ }
+fn is_uppercase(b: u8) -> bool
+    ensures { λ r. ⌜ r ≡ uppercase b ⌝ }
 {
     (b'A' <= b) & (b <= b'Z')
 }
 
-fn is_small(b: u8) -> bool
-    ensures { λ r. ⌜ r ≡ small b ⌝ }
+fn is_lowercase(b: u8) -> bool
+    ensures { λ r. ⌜ r ≡ lowercase b ⌝ }
 {
     (b'a' <= b) & (b <= b'z')
 }
@@ -73,8 +73,8 @@ fn flag(yes: bool) -> u8
 }
 
 // Whether the byte c stands in s, as a flag.
-fn has(s: &[u8], c: u8) -> u8
-    ensures { λ r. ⌜ r ≡ flag (has c (now (s .entry))) ⌝ }
+fn contains_flag(s: &[u8], c: u8) -> u8
+    ensures { λ r. ⌜ r ≡ flag (elem c (now (s .entry))) ⌝ }
 {
     flag(span_of(NOT, c, s) < s.len())
 }
@@ -91,8 +91,8 @@ fn head_of(s: &[u8]) -> [u8; 5]
 }
 
 // Of two numbers of refusals the one that is tested first, where 0 is none.
-fn smaller_due(a: u8, b: u8) -> u8
-    ensures { λ r. ⌜ r ≡ smallerDue a b ⌝ }
+fn earlier_refusal(a: u8, b: u8) -> u8
+    ensures { λ r. ⌜ r ≡ earlierRefusal a b ⌝ }
 {
     if a == 0 {
         return b;
@@ -147,32 +147,32 @@ impl State {
         State {
             len: name.len(),
             head,
-            last: byte_at(name, minus(name.len(), 1)),
-            point: has(punctuation, b'.'),
-            colon: has(punctuation, b':'),
-            question: has(punctuation, b'?'),
-            exclamation: has(punctuation, b'!'),
+            last: byte_at(name, saturating_sub(name.len(), 1)),
+            point: contains_flag(punctuation, b'.'),
+            colon: contains_flag(punctuation, b':'),
+            question: contains_flag(punctuation, b'?'),
+            exclamation: contains_flag(punctuation, b'!'),
             fresh: 0,
         }
     }
 
     fn is_yahoo(self) -> bool
-        ensures { λ r. ⌜ r ≡ told self .yahoo ⌝ }
+        ensures { λ r. ⌜ r ≡ stateContext self .yahoo ⌝ }
     {
         (self.len == 5) & same(LOWERED, &self.head, b"yahoo")
     }
 
-    fn is_abbreviation(self) -> bool
-        ensures { λ r. ⌜ r ≡ told self .abbreviation ⌝ }
+    fn looks_like_abbreviation(self) -> bool
+        ensures { λ r. ⌜ r ≡ stateContext self .abbreviation ⌝ }
     {
         let first = self.head[0];
-        is_capital(self.last) | ((self.len < 4) & is_capital(first))
+        is_uppercase(self.last) | ((self.len < 4) & is_uppercase(first))
     }
 }
 
 // Whether a sentence ends between the token that the state tells of and the next.
 fn is_sentence_break(state: State, whitespace: &[u8], name: &[u8]) -> bool
-    ensures { λ r. ⌜ r ≡ breakAfter (told state) (now (whitespace .entry)) (now (name .entry)) ⌝ }
+    ensures { λ r. ⌜ r ≡ breakAfter (stateContext state) (now (whitespace .entry)) (now (name .entry)) ⌝ }
 {
     // A blank line decides by itself.
     if 1 < count_of(ONLY, b'\n', whitespace) {
@@ -180,7 +180,7 @@ fn is_sentence_break(state: State, whitespace: &[u8], name: &[u8]) -> bool
     }
     let first = byte_at(name, 0);
     // The one name after which an exclamation mark may go on.
-    if state.is_yahoo() & is_set(state.exclamation) & is_small(first) {
+    if state.is_yahoo() & is_set(state.exclamation) & is_lowercase(first) {
         return false;
     }
     if is_set(state.colon) | is_set(state.question) | is_set(state.exclamation) {
@@ -189,34 +189,34 @@ fn is_sentence_break(state: State, whitespace: &[u8], name: &[u8]) -> bool
     if !is_set(state.point) {
         return false;
     }
-    if !is_capital(first) {
+    if !is_uppercase(first) {
         return false;
     }
     // After a point more than one byte of whitespace decides, whatever the name before it looks like.
     if 1 < whitespace.len() {
         return true;
     }
-    !state.is_abbreviation()
+    !state.looks_like_abbreviation()
 }
 
 // The number of the refusal that is due for the three texts of a step.
 fn refusal_of_step(whitespace: &[u8], name: &[u8], punctuation: &[u8]) -> u8
-    ensures { λ r. ⌜ r ≡ firstDue (stepTests (now (whitespace .entry)) (now (name .entry)) (now (punctuation .entry))) ⌝ }
+    ensures { λ r. ⌜ r ≡ firstRefusal (stepTests (now (whitespace .entry)) (now (name .entry)) (now (punctuation .entry))) ⌝ }
 {
-    let two = smaller_due(refusal_of(whitespace), refusal_of(name));
-    smaller_due(two, refusal_of(punctuation))
+    let two = earlier_refusal(refusal_of(whitespace), refusal_of(name));
+    earlier_refusal(two, refusal_of(punctuation))
 }
 
 // Whether a token starts a sentence after those that the state was fed.
 pub fn starts_sentence(state: State, whitespace: &[u8], name: &[u8]) -> bool
-    ensures { λ r. ⌜ r ≡ (isSet (state .fresh) || breakAfter (told state) (now (whitespace .entry)) (now (name .entry))) ⌝ }
+    ensures { λ r. ⌜ r ≡ (isSet (state .fresh) || breakAfter (stateContext state) (now (whitespace .entry)) (now (name .entry))) ⌝ }
 {
     is_set(state.fresh) | is_sentence_break(state, whitespace, name)
 }
 
 // The same as a flag.
 fn start_flag(state: State, whitespace: &[u8], name: &[u8]) -> u8
-    ensures { λ r. ⌜ r ≡ flag (isSet (state .fresh) || breakAfter (told state) (now (whitespace .entry)) (now (name .entry))) ⌝ }
+    ensures { λ r. ⌜ r ≡ flag (isSet (state .fresh) || breakAfter (stateContext state) (now (whitespace .entry)) (now (name .entry))) ⌝ }
 {
     flag(starts_sentence(state, whitespace, name))
 }
@@ -245,13 +245,13 @@ fn write_starts(s: &[u8], starts: &mut [u8]) -> usize
 
 // For each token of s whether it starts a sentence.
 pub fn sentences(s: &[u8], starts: &mut [u8]) -> Tokens
-    ensures { λ r. ⌜ asFilled r (now (starts .exit)) ≡ filledCall (now (s .entry)) (startBytes (now (s .entry))) (now (starts .entry)) ⌝ }
+    ensures { λ r. ⌜ asTokens r (now (starts .exit)) ≡ tokensCall (now (s .entry)) (startBytes (now (s .entry))) (now (starts .entry)) ⌝ }
 {
     let refusal = refusal_of(s);
     if refusal != 0 {
         return Tokens { refusal, tokens: 0 };
     }
-    if exceeds(s, starts.len()) {
+    if has_more_tokens(s, starts.len()) {
         return Tokens {
             refusal: Refusal::BufferTooShort.number(),
             tokens: 0,

@@ -4,28 +4,28 @@ use mathlib.Core.Bool.{Bool, true, not}
 use mathlib.Core.List.{List, [], _∷_}
 use Prim.Native.Nat.{ℕ}
 use Prim.Native.String.{String}
-use Rattle.lists.specs.Bytes.{bytes, all, any, span, split, onto, filled, sameBy}
+use Rattle.lists.specs.Bytes.{bytes, all, any, span, split, onto, nonEmpty, sameBy}
 use Rattle.shapes.specs.Shapes.{isDigits, isAlpha, isExponent, isUnsigned, isDouble, isOrdinal, isAmount, isUsMoney, isRoman, isDrOrSt, isDottedAbbrev, isDigitsDashDigits}
 
 -- a verdict that takes a text, or that does not
-pub data Corner : Type 0 where
-  passes fails : (List ℕ → Bool) → String → Corner
+pub data VerdictCorner : Type 0 where
+  accepts rejects : (List ℕ → Bool) → String → VerdictCorner
 
-abbrev pub holds : Corner → Bool
-holds (passes shape s) = shape (bytes s)
-holds (fails shape s) = not (shape (bytes s))
+abbrev pub cornerHolds : VerdictCorner → Bool
+cornerHolds (accepts shape s) = shape (bytes s)
+cornerHolds (rejects shape s) = not (shape (bytes s))
 
 -- "`is_double` takes one leading minus and no plus; "1." and ".5" pass, "." and "1e" don't. `is_us_money` passes "$,". `is_ordinal` passes
 -- "1,,th". `is_digits_dash_digits` drops empty parts, so "-5-6" passes."; and, from the Rust, corners of the shapes that no form tells
-unfoldable pub corners : List Corner
-corners =
-    passes isDouble "-1" ∷ fails isDouble "--1" ∷ fails isDouble "+1" ∷ passes isDouble "1." ∷ passes isDouble ".5" ∷ fails isDouble "." ∷ fails isDouble "1e"
-    ∷ passes isDouble "1e+5" ∷ passes isDouble "1.5E-5" ∷ fails isDouble "1e5.5" ∷ passes isUsMoney "$," ∷ passes isOrdinal "1,,th" ∷ passes isOrdinal "1TH"
-    ∷ passes isDigitsDashDigits "-5-6" ∷ passes isDigitsDashDigits "5--6" ∷ fails isDigitsDashDigits "5-" ∷ fails isDigitsDashDigits "56"
-    ∷ passes isRoman "IX" ∷ fails isRoman "IIX" ∷ passes isRoman "XVI" ∷ passes isRoman "X" ∷ fails isRoman "XL" ∷ fails isRoman "ix"
-    ∷ passes isDrOrSt "Dr" ∷ passes isDrOrSt "sT" ∷ fails isDrOrSt "Dr." ∷ passes isAlpha "aZ" ∷ fails isAlpha "a1" ∷ fails isAlpha ""
-    ∷ passes isDottedAbbrev "a.B." ∷ passes isDottedAbbrev "a.B" ∷ fails isDottedAbbrev "a." ∷ fails isDottedAbbrev "a..b" ∷ fails isDottedAbbrev "ab.c" ∷ []
+unfoldable pub verdictCorners : List VerdictCorner
+verdictCorners =
+    accepts isDouble "-1" ∷ rejects isDouble "--1" ∷ rejects isDouble "+1" ∷ accepts isDouble "1." ∷ accepts isDouble ".5" ∷ rejects isDouble "." ∷ rejects isDouble "1e"
+    ∷ accepts isDouble "1e+5" ∷ accepts isDouble "1.5E-5" ∷ rejects isDouble "1e5.5" ∷ accepts isUsMoney "$," ∷ accepts isOrdinal "1,,th" ∷ accepts isOrdinal "1TH"
+    ∷ accepts isDigitsDashDigits "-5-6" ∷ accepts isDigitsDashDigits "5--6" ∷ rejects isDigitsDashDigits "5-" ∷ rejects isDigitsDashDigits "56"
+    ∷ accepts isRoman "IX" ∷ rejects isRoman "IIX" ∷ accepts isRoman "XVI" ∷ accepts isRoman "X" ∷ rejects isRoman "XL" ∷ rejects isRoman "ix"
+    ∷ accepts isDrOrSt "Dr" ∷ accepts isDrOrSt "sT" ∷ rejects isDrOrSt "Dr." ∷ accepts isAlpha "aZ" ∷ rejects isAlpha "a1" ∷ rejects isAlpha ""
+    ∷ accepts isDottedAbbrev "a.B." ∷ accepts isDottedAbbrev "a.B" ∷ rejects isDottedAbbrev "a." ∷ rejects isDottedAbbrev "a..b" ∷ rejects isDottedAbbrev "ab.c" ∷ []
 
-pub corners-hold : all holds corners ≡ true
-unfolding corners all any span split onto filled sameBy isDigits isAlpha isExponent isUnsigned isOrdinal isAmount isDottedAbbrev isDigitsDashDigits
-corners-hold = refl
+pub verdict-corners-hold : all cornerHolds verdictCorners ≡ true
+unfolding verdictCorners all any span split onto nonEmpty sameBy isDigits isAlpha isExponent isUnsigned isOrdinal isAmount isDottedAbbrev isDigitsDashDigits
+verdict-corners-hold = refl

@@ -11,18 +11,18 @@ use lib.Dec.{eqb, leb, ltb}
 use lib.ListN.{length, take, drop, getD, length-append, length-take, take-append-drop, drop-of-length-le}
 use lib.Seq.{take-at, drop-at, getD-at, split-at, take-suc, drop-drop, drop-length}
 use borrow.Author.Tests.{eqb-true, eqb-false, eq-eqb, ne-eqb, ltb-true, lt-ltb, leb-true, le-leb, not-true, not-false}
-use Rattle.lists.specs.Bytes.{bytes, all, any, span, afterLast, listed, split, onto, same, sameBy, capital, lower, starts, ends}
-use Rattle.lists.specs.Classes.{digit, digitOrComma, colonNorPoint, except}
+use Rattle.lists.specs.Bytes.{bytes, all, any, span, afterLast, listed, split, onto, same, sameBy, uppercase, toLower, startsWith, endsWith}
+use Rattle.lists.specs.Classes.{digit, digitOrComma, notColonOrPoint, except}
 use Rattle.lists.proofs.Bools.{or-true-elim}
 use Rattle.lists.proofs.Parts.{split-some}
-use Rattle.lists.proofs.Scan.{all-append, last-le, last-passes, last-drop, span-le, span-all, span-fails, span-before, all-span, all-within, apart, starts-first}
+use Rattle.lists.proofs.Scan.{all-append, last-le, last-passes, last-drop, span-le, span-all, span-fails, span-before, all-span, all-within, class-apart, startsWith-first}
 use Rattle.lists.proofs.Table.{same-true}
 use Rattle.shapes.specs.Shapes.{isDigits, isNDigits, isCommaGroups, isCommaInt, startsChar, isOrdinalSuffix, isOrdinal, isAmount, isUsMoney, isIllion}
 use Rattle.units.specs.Units.{unitAbbreviations, abbreviations, isUnit}
 use Rattle.shapes.specs.Shapes.{unitAt, hasUnit, isNumberS, isLeadingZeroDigits, splitOnce, isPhoneParts, isSevenDigitPhone, isHourMinute, isTime, areDigits, isDigitsSlashDigits}
 use Rattle.shapes.specs.Times.{endsInMeridiem, separatorAt, timeOf, isMeridiemTime}
-use Rattle.shapes.specs.Grammar.{join, suffixes, TimeForm, PhoneForm, SlashedForm, CommaIntForm, LeadingZeroForm, IllionForm, NumberSForm, MeridiemForm, OrdinalForm, MoneyForm, UnitForm}
-use Rattle.shapes.specs.Grammar.{time, phone, slashed, comma-int, leading-zero, illion, number-s, meridiem-time, ordinal, dollars, cents, measure}
+use Rattle.shapes.specs.Grammar.{joinBy, suffixes, TimeForm, PhoneForm, SlashedForm, CommaIntForm, LeadingZeroForm, IllionForm, NumberSForm, MeridiemForm, OrdinalForm, MoneyForm, UnitForm}
+use Rattle.shapes.specs.Grammar.{time, phone, slashed, comma-int, leading-zero, illion, number-s, meridiem-time, ordinal-number, dollars, cents, measure}
 use Rattle.shapes.proofs.Laws.{digits-all, digits-some}
 
 -- ---- a text at its first separator
@@ -56,7 +56,7 @@ once-taken c both a b f p =
 
 -- digits have no such separator
 no-separator : (c : ℕ) → digit c ≡ false → (s : List ℕ) → isDigits s ≡ true → all (except c) s ≡ true
-no-separator c e s h = all-within digit (except c) (λ b k. rw (apart digit c b e k)) s (digits-all s h)
+no-separator c e s h = all-within digit (except c) (λ b k. rw (class-apart digit c b e k)) s (digits-all s h)
 
 -- n digits are digits
 n-digits : (n : ℕ) (s : List ℕ) → isNDigits n s ≡ true → isDigits s ≡ true
@@ -114,12 +114,12 @@ slashed-form s = (
 -- ---- a text by its parts
 
 -- the parts of a text give the text
-pub join-split : (c : ℕ) (s : List ℕ) → join c (split c s) ≡ s
+pub joinBy-split : (c : ℕ) (s : List ℕ) → joinBy c (split c s) ≡ s
 unfolding split onto flatten
-join-split c [] = refl
-join-split c (b ∷ s) = go (eqb b c) refl (split c s) (split-some c s) (join-split c s)
+joinBy-split c [] = refl
+joinBy-split c (b ∷ s) = go (eqb b c) refl (split c s) (split-some c s) (joinBy-split c s)
   where
-    go : (t : Bool) → eqb b c ≡ t → (ps : List (List ℕ)) → 0 < length ps → join c ps ≡ s → join c (cond t ([] ∷ ps) (onto b ps)) ≡ b ∷ s
+    go : (t : Bool) → eqb b c ≡ t → (ps : List (List ℕ)) → 0 < length ps → joinBy c ps ≡ s → joinBy c (cond t ([] ∷ ps) (onto b ps)) ≡ b ∷ s
     go t e [] l i = absurd (omega arith)
     go true e (p ∷ ps) l i = rw (eqb-true b c e) (ap (λ (r : List ℕ). c ∷ r) i)
     go false e (p ∷ ps) l i = ap (λ (r : List ℕ). b ∷ r) i
@@ -133,26 +133,26 @@ front-part c (b ∷ p) rest ps e h =
     rw (not-true (eqb b c) (k .0), front-part c p rest ps e (k .1))
 
 -- parts without the separator are the parts of what they give
-pub split-join : (c : ℕ) (p : List ℕ) (ps : List (List ℕ)) → all (all (except c)) (p ∷ ps) ≡ true → split c (join c (p ∷ ps)) ≡ p ∷ ps
+pub split-joinBy : (c : ℕ) (p : List ℕ) (ps : List (List ℕ)) → all (all (except c)) (p ∷ ps) ≡ true → split c (joinBy c (p ∷ ps)) ≡ p ∷ ps
 unfolding split flatten all
-split-join c p [] h = front-part c p [] [] refl (and-eq-true-iff (all (except c) p) true .0 h .0)
-split-join c p (q ∷ qs) h =
+split-joinBy c p [] h = front-part c p [] [] refl (and-eq-true-iff (all (except c) p) true .0 h .0)
+split-joinBy c p (q ∷ qs) h =
     let k = and-eq-true-iff (all (except c) p) (all (all (except c)) (q ∷ qs)) .0 h in
-    front-part c p (c ∷ join c (q ∷ qs)) (q ∷ qs) (rw (eq-eqb c c refl) (ap (λ (r : List (List ℕ)). [] ∷ r) (split-join c q qs (k .1)))) (k .0)
+    front-part c p (c ∷ joinBy c (q ∷ qs)) (q ∷ qs) (rw (eq-eqb c c refl) (ap (λ (r : List (List ℕ)). [] ∷ r) (split-joinBy c q qs (k .1)))) (k .0)
 
 comma-taken : (s : List ℕ) → CommaIntForm s → isCommaInt s ≡ true
 unfolding isCommaGroups all
 comma-taken _ (comma-int first g gs d l h) =
     let none = no-separator (code ",") refl in
     let others = all-within (isNDigits 3) (all (except (code ","))) (λ p k. none p (n-digits 3 p k)) (g ∷ gs) h in
-    rw (split-join (code ",") first (g ∷ gs) (rw (none first d) others), d, le-leb (length first) 3 l, ne-eqb (suc (length gs)) 0 (omega arith)) h
+    rw (split-joinBy (code ",") first (g ∷ gs) (rw (none first d) others), d, le-leb (length first) 3 l, ne-eqb (suc (length gs)) 0 (omega arith)) h
 
 -- the shape takes a text exactly where a number with commas is of its form
 pub comma-form : (s : List ℕ) → (isCommaInt s ≡ true) ↔ CommaIntForm s
 unfolding isCommaGroups
-comma-form s = (λ e. go (split (code ",") s) (join-split (code ",") s) e, comma-taken s)
+comma-form s = (λ e. go (split (code ",") s) (joinBy-split (code ",") s) e, comma-taken s)
   where
-    go : (ps : List (List ℕ)) → join (code ",") ps ≡ s → isCommaGroups ps ≡ true → CommaIntForm s
+    go : (ps : List (List ℕ)) → joinBy (code ",") ps ≡ s → isCommaGroups ps ≡ true → CommaIntForm s
     go [] j e = absurd (false≢true e)
     go (first ∷ gs) j e =
         let a = and-eq-true-iff (isDigits first && leb (length first) 3 && not (eqb (length gs) 0)) (all (isNDigits 3) gs) .0 e in
@@ -160,7 +160,7 @@ comma-form s = (λ e. go (split (code ",") s) (join-split (code ",") s) e, comma
         let c = and-eq-true-iff (isDigits first) (leb (length first) 3) .0 (b .0) in
         more gs j (c .0) (leb-true (length first) 3 (c .1)) (b .1) (a .1)
       where
-        more : (gs : List (List ℕ)) → join (code ",") (first ∷ gs) ≡ s → isDigits first ≡ true → length first ≤ 3 → not (eqb (length gs) 0) ≡ true
+        more : (gs : List (List ℕ)) → joinBy (code ",") (first ∷ gs) ≡ s → isDigits first ≡ true → length first ≤ 3 → not (eqb (length gs) 0) ≡ true
             → all (isNDigits 3) gs ≡ true → CommaIntForm s
         more [] j d l n h = absurd (false≢true n)
         more (g ∷ gs) j d l n h = subst CommaIntForm j (comma-int first g gs d l h)
@@ -178,9 +178,9 @@ unfolding isDigits all
 zero-form [] = (λ e. absurd (false≢true e), zero-taken [])
 zero-form (b ∷ d) = (
   λ e.
-      let p = and-eq-true-iff (ltb 1 (suc (length d)) && starts (code "0") (b ∷ d)) (isDigits (b ∷ d)) .0 e in
-      let q = and-eq-true-iff (ltb 1 (suc (length d))) (starts (code "0") (b ∷ d)) .0 (p .0) in
-      let z : b ≡ code "0" = eqb-true b (code "0") (sym (starts-first (code "0") b d) ∙ q .1) in
+      let p = and-eq-true-iff (ltb 1 (suc (length d)) && startsWith (code "0") (b ∷ d)) (isDigits (b ∷ d)) .0 e in
+      let q = and-eq-true-iff (ltb 1 (suc (length d))) (startsWith (code "0") (b ∷ d)) .0 (p .0) in
+      let z : b ≡ code "0" = eqb-true b (code "0") (sym (startsWith-first (code "0") b d) ∙ q .1) in
       let l = ltb-true 1 (suc (length d)) (q .0) in
       let h = and-eq-true-iff (digit b) (all digit d) .0 (digits-all (b ∷ d) (p .1)) .1 in
       subst (λ c. LeadingZeroForm (c ∷ d)) (sym z) (leading-zero d (rw (ne-eqb (length d) 0 (omega arith), h))),
@@ -221,8 +221,8 @@ pub number-form : (s : List ℕ) → (isNumberS s ≡ true) ↔ NumberSForm s
 number-form s = (
   λ e.
       let n = length s - 1 in
-      let p = and-eq-true-iff (leb 2 (length s) && ends (code "s") s) (isDigits (take n s)) .0 e in
-      let q = and-eq-true-iff (leb 2 (length s)) (ends (code "s") s) .0 (p .0) in
+      let p = and-eq-true-iff (leb 2 (length s) && endsWith (code "s") s) (isDigits (take n s)) .0 e in
+      let q = and-eq-true-iff (leb 2 (length s)) (endsWith (code "s") s) .0 (p .0) in
       let two = leb-true 2 (length s) (q .0) in
       let last : getD s n 0 ≡ code "s" = eqb-true _ _ (and-eq-true-iff (not (eqb (length s) 0)) (eqb (getD s n 0) (code "s")) .0 (q .1) .1) in
       let w : s ≡ take n s ++ bytes "s" = rw (last, drop-of-length-le s {i = suc n} (omega arith)) at (split-at s n 0 (omega arith)) in
@@ -231,43 +231,43 @@ number-form s = (
 )
 
 -- two bytes that are a suffix once they are lowered, the first below 128
-two-bytes : (s : List ℕ) (c d : ℕ) → c < 128 → sameBy lower s (c ∷ d ∷ []) ≡ true → (length s ≡ 2) × (startsChar (getD s 0 0) ≡ true)
+two-bytes : (s : List ℕ) (c d : ℕ) → c < 128 → sameBy toLower s (c ∷ d ∷ []) ≡ true → (length s ≡ 2) × (startsChar (getD s 0 0) ≡ true)
 unfolding sameBy
 two-bytes [] c d l h = absurd (false≢true h)
-two-bytes (a ∷ []) c d l h = absurd (false≢true (and-eq-true-iff (eqb (lower a) c) false .0 h .1))
-two-bytes (a ∷ b ∷ []) c d l h = (refl, rw (lt-ltb a 128 (go (capital a) (eqb-true (lower a) c (and-eq-true-iff (eqb (lower a) c) _ .0 h .0)))))
+two-bytes (a ∷ []) c d l h = absurd (false≢true (and-eq-true-iff (eqb (toLower a) c) false .0 h .1))
+two-bytes (a ∷ b ∷ []) c d l h = (refl, rw (lt-ltb a 128 (go (uppercase a) (eqb-true (toLower a) c (and-eq-true-iff (eqb (toLower a) c) _ .0 h .0)))))
   where
     go : (t : Bool) → cond t (a + 32) a ≡ c → a < 128
     go true e = omega arith
     go false e = omega arith
 two-bytes (a ∷ b ∷ x ∷ s) c d l h =
-    absurd (false≢true (and-eq-true-iff (eqb (lower b) d) false .0 (and-eq-true-iff (eqb (lower a) c) (eqb (lower b) d && false) .0 h .1) .1))
+    absurd (false≢true (and-eq-true-iff (eqb (toLower b) d) false .0 (and-eq-true-iff (eqb (toLower a) c) (eqb (toLower b) d && false) .0 h .1) .1))
 
 -- a suffix is two bytes, of which the first starts a character
 suffix-bytes : (s : List ℕ) → isOrdinalSuffix s ≡ true → (length s ≡ 2) × (startsChar (getD s 0 0) ≡ true)
 suffix-bytes s =
-    or-true-elim (sameBy lower s (bytes "th") || sameBy lower s (bytes "st") || sameBy lower s (bytes "nd")) (sameBy lower s (bytes "rd"))
-    (or-true-elim (sameBy lower s (bytes "th") || sameBy lower s (bytes "st")) (sameBy lower s (bytes "nd"))
-    (or-true-elim (sameBy lower s (bytes "th")) (sameBy lower s (bytes "st")) (two-bytes s (code "t") (code "h") (omega arith)) (two-bytes s (code "s") (code "t") (omega arith)))
+    or-true-elim (sameBy toLower s (bytes "th") || sameBy toLower s (bytes "st") || sameBy toLower s (bytes "nd")) (sameBy toLower s (bytes "rd"))
+    (or-true-elim (sameBy toLower s (bytes "th") || sameBy toLower s (bytes "st")) (sameBy toLower s (bytes "nd"))
+    (or-true-elim (sameBy toLower s (bytes "th")) (sameBy toLower s (bytes "st")) (two-bytes s (code "t") (code "h") (omega arith)) (two-bytes s (code "s") (code "t") (omega arith)))
     (two-bytes s (code "n") (code "d") (omega arith))) (two-bytes s (code "r") (code "d") (omega arith))
 
 -- the hour's digits are no separators
-hour-unparted : (h m : List ℕ) → isHourMinute h m ≡ true → all colonNorPoint h ≡ true
+hour-unparted : (h m : List ℕ) → isHourMinute h m ≡ true → all notColonOrPoint h ≡ true
 unfolding isHourMinute
 hour-unparted h m e =
     let few = leb 1 (length h) && leb (length h) 2 in
     let a = and-eq-true-iff (few && isDigits h && isNDigits 2 m) (leb (getD m 0 0) (code "5")) .0 e .0 in
     let d = and-eq-true-iff few (isDigits h) .0 (and-eq-true-iff (few && isDigits h) (isNDigits 2 m) .0 a .0) .1 in
-    all-within digit colonNorPoint (λ b k. rw (apart digit (code ":") b refl k, apart digit (code ".") b refl k)) h (digits-all h d)
+    all-within digit notColonOrPoint (λ b k. rw (class-apart digit (code ":") b refl k, class-apart digit (code ".") b refl k)) h (digits-all h d)
 
 meridiem-taken : (s : List ℕ) → MeridiemForm s → isMeridiemTime s ≡ true
 meridiem-taken _ (meridiem-time h m x c p q e) =
     let t = h ++ (c ∷ m) in
     let s = t ++ x in
-    let two = or-true-elim (sameBy lower x (bytes "am")) (sameBy lower x (bytes "pm")) (two-bytes x (code "a") (code "m") (omega arith))
+    let two = or-true-elim (sameBy toLower x (bytes "am")) (sameBy toLower x (bytes "pm")) (two-bytes x (code "a") (code "m") (omega arith))
     (two-bytes x (code "p") (code "m") (omega arith)) e .0 in
     let l = length-append t x in
-    let sep : span colonNorPoint t ≡ length h = span-before colonNorPoint h c m q ∙ all-span colonNorPoint h (hour-unparted h m p) in
+    let sep : span notColonOrPoint t ≡ length h = span-before notColonOrPoint h c m q ∙ all-span notColonOrPoint h (hour-unparted h m p) in
     rw (
       le-leb 2 (length s) (omega arith),
       drop-at t x (length s - 2) (omega arith),
@@ -293,8 +293,8 @@ meridiem-form s = (
       let l = ltb-true sep (length t) (b .0) in
       let w : take sep t ++ (getD t sep 0 ∷ drop (sep + 1) t) ≡ t = sym (rw (← add-one sep) at (split-at t sep 0 l)) in
       subst MeridiemForm (ap (λ (r : List ℕ). r ++ x) w ∙ take-append-drop (length s - 2) s)
-      (meridiem-time (take sep t) (drop (sep + 1) t) x (getD t sep 0) (b .1) (span-fails colonNorPoint t l)
-      (last-two (leb 2 (length s)) (sameBy lower x (bytes "am")) (sameBy lower x (bytes "pm")) (a .0))),
+      (meridiem-time (take sep t) (drop (sep + 1) t) x (getD t sep 0) (b .1) (span-fails notColonOrPoint t l)
+      (last-two (leb 2 (length s)) (sameBy toLower x (bytes "am")) (sameBy toLower x (bytes "pm")) (a .0))),
   meridiem-taken s,
 )
   where
@@ -303,12 +303,12 @@ meridiem-form s = (
     last-two false u v h = absurd (false≢true h)
 
 -- a comparison that lowers the first text is one with the lowered text
-same-lowered : (s t : List ℕ) → sameBy lower s t ≡ same t (map lower s)
+same-lowered : (s t : List ℕ) → sameBy toLower s t ≡ same t (map toLower s)
 unfolding sameBy
 same-lowered [] [] = refl
 same-lowered [] (c ∷ t) = refl
 same-lowered (b ∷ s) [] = refl
-same-lowered (b ∷ s) (c ∷ t) = rw (same-lowered s t) (ap (λ (x : Bool). x && same t (map lower s)) (eqb-sym (lower b) c))
+same-lowered (b ∷ s) (c ∷ t) = rw (same-lowered s t) (ap (λ (x : Bool). x && same t (map toLower s)) (eqb-sym (toLower b) c))
   where
     eqb-sym : (m n : ℕ) → eqb m n ≡ eqb n m
     eqb-sym m n = go (eqb n m) refl
@@ -318,11 +318,11 @@ same-lowered (b ∷ s) (c ∷ t) = rw (same-lowered s t) (ap (λ (x : Bool). x &
         go false e = ne-eqb m n (λ z. eqb-false n m e (sym z))
 
 -- the suffixes, one by one
-suffix-listed : (s : List ℕ) → isOrdinalSuffix s ≡ listed (map lower s) suffixes
+suffix-listed : (s : List ℕ) → isOrdinalSuffix s ≡ listed (map toLower s) suffixes
 unfolding any
 suffix-listed s =
     rw (same-lowered s (bytes "th"), same-lowered s (bytes "st"), same-lowered s (bytes "nd"), same-lowered s (bytes "rd"))
-    (go (same (bytes "th") (map lower s)) (same (bytes "st") (map lower s)) (same (bytes "nd") (map lower s)) (same (bytes "rd") (map lower s)))
+    (go (same (bytes "th") (map toLower s)) (same (bytes "st") (map toLower s)) (same (bytes "nd") (map toLower s)) (same (bytes "rd") (map toLower s)))
   where
     go : (a b c d : Bool) → (a || b || c || d) ≡ (a || (b || (c || (d || false))))
     go true b c d = refl
@@ -333,8 +333,8 @@ suffix-listed s =
 
 ordinal-taken : (s : List ℕ) → OrdinalForm s → isOrdinal s ≡ true
 unfolding isOrdinal
-ordinal-taken _ (ordinal [] suf f h x) = absurd (false≢true f)
-ordinal-taken _ (ordinal (b ∷ num) suf f h x) =
+ordinal-taken _ (ordinal-number [] suf f h x) = absurd (false≢true f)
+ordinal-taken _ (ordinal-number (b ∷ num) suf f h x) =
     let s = b ∷ num ++ suf in
     let suffix = suffix-listed suf ∙ x in
     let two = suffix-bytes suf suffix in
@@ -360,7 +360,7 @@ ordinal-form s = (
       let p = and-eq-true-iff (long && isOrdinalSuffix suf && digit (getD num 0 0)) (all digitOrComma num) .0 e in
       let q = and-eq-true-iff (long && isOrdinalSuffix suf) (digit (getD num 0 0)) .0 (p .0) in
       let x = and-eq-true-iff long (isOrdinalSuffix suf) .0 (q .0) .1 in
-      subst OrdinalForm (take-append-drop (length s - 2) s) (ordinal num suf (q .1) (p .1) (sym (suffix-listed suf) ∙ x)),
+      subst OrdinalForm (take-append-drop (length s - 2) s) (ordinal-number num suf (q .1) (p .1) (sym (suffix-listed suf) ∙ x)),
   ordinal-taken s,
 )
 
@@ -388,8 +388,8 @@ amount-form s e = go (drop n s) refl (p .1)
     n : ℕ
     n = span digitOrComma s
 
-    p : (not (eqb n 0) ≡ true) × (cond (starts (code ".") (drop n s)) (isDigits (drop 1 (drop n s))) (eqb (length (drop n s)) 0) ≡ true)
-    p = and-eq-true-iff (not (eqb n 0)) (cond (starts (code ".") (drop n s)) (isDigits (drop 1 (drop n s))) (eqb (length (drop n s)) 0)) .0 e
+    p : (not (eqb n 0) ≡ true) × (cond (startsWith (code ".") (drop n s)) (isDigits (drop 1 (drop n s))) (eqb (length (drop n s)) 0) ≡ true)
+    p = and-eq-true-iff (not (eqb n 0)) (cond (startsWith (code ".") (drop n s)) (isDigits (drop 1 (drop n s))) (eqb (length (drop n s)) 0)) .0 e
 
     some : 0 < length (take n s)
     some = omega (arith, eqb-false n 0 (not-true (eqb n 0) (p .0)), length-take n s, span-le digitOrComma s)
@@ -397,10 +397,10 @@ amount-form s e = go (drop n s) refl (p .1)
     whole : (r : List ℕ) → drop n s ≡ r → take n s ++ r ≡ s
     whole r q = ap (λ (x : List ℕ). take n s ++ x) (sym q) ∙ take-append-drop n s
 
-    go : (r : List ℕ) → drop n s ≡ r → cond (starts (code ".") r) (isDigits (drop 1 r)) (eqb (length r) 0) ≡ true → MoneyForm (bytes "$" ++ s)
+    go : (r : List ℕ) → drop n s ≡ r → cond (startsWith (code ".") r) (isDigits (drop 1 r)) (eqb (length r) 0) ≡ true → MoneyForm (bytes "$" ++ s)
     go [] q h =
         subst (λ x. MoneyForm (code "$" ∷ x)) (sym (append-nil (take n s)) ∙ whole [] q) (dollars (take n s) some (span-all digitOrComma s))
-    go (b ∷ d) q h = more (eqb b (code ".")) refl (rw (starts-first (code ".") b d) at h)
+    go (b ∷ d) q h = more (eqb b (code ".")) refl (rw (startsWith-first (code ".") b d) at h)
       where
         more : (t : Bool) → eqb b (code ".") ≡ t → cond t (isDigits d) (eqb (suc (length d)) 0) ≡ true → MoneyForm (bytes "$" ++ s)
         more true f h =
@@ -413,8 +413,8 @@ pub money-form : (s : List ℕ) → (isUsMoney s ≡ true) ↔ MoneyForm s
 money-form [] = (λ e. absurd (false≢true e), money-taken [])
 money-form (b ∷ s) = (
   λ e.
-      let p = and-eq-true-iff (starts (code "$") (b ∷ s)) (isAmount s) .0 e in
-      let z : b ≡ code "$" = eqb-true b (code "$") (sym (starts-first (code "$") b s) ∙ p .0) in
+      let p = and-eq-true-iff (startsWith (code "$") (b ∷ s)) (isAmount s) .0 e in
+      let z : b ≡ code "$" = eqb-true b (code "$") (sym (startsWith-first (code "$") b s) ∙ p .0) in
       subst (λ c. MoneyForm (c ∷ s)) (sym z) (amount-form s (p .1)),
   money-taken (b ∷ s),
 )

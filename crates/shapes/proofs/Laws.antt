@@ -7,7 +7,7 @@ use native.Mathlib.Omega.{arith}
 use lib.Dec.{leb, ltb, eqb}
 use lib.ListN.{length, take, drop, getD, length-take, length-drop}
 use borrow.Author.Tests.{ne-eqb, ltb-true, leb-true, eqb-true, eqb-false, not-true}
-use Rattle.lists.specs.Bytes.{all, span, split, onto, filled}
+use Rattle.lists.specs.Bytes.{all, span, split, onto, nonEmpty}
 use Rattle.lists.specs.Classes.{digit, digitOrComma, digitOrDash, except}
 use Rattle.lists.proofs.Parts.{split-some, split-more, split-last}
 use Rattle.shapes.specs.Shapes.{isDigits, isCommaGroups, isCommaInt, isNDigits, isPhoneParts, isHourMinute, isSevenDigitPhone, isTime, splitOnce, unitAt, hasUnit}
@@ -20,12 +20,12 @@ unfolding isDigits
 digits-all s h = and-eq-true-iff (not (eqb (length s) 0)) (all digit s) .0 h .1
 
 -- and there are some
-pub digits-filled : (s : List ℕ) → isDigits s ≡ true → eqb (length s) 0 ≡ false
+pub digits-nonempty : (s : List ℕ) → isDigits s ≡ true → eqb (length s) 0 ≡ false
 unfolding isDigits
-digits-filled s h = not-true (eqb (length s) 0) (and-eq-true-iff (not (eqb (length s) 0)) (all digit s) .0 h .0)
+digits-nonempty s h = not-true (eqb (length s) 0) (and-eq-true-iff (not (eqb (length s) 0)) (all digit s) .0 h .0)
 
 pub digits-some : (s : List ℕ) → isDigits s ≡ true → 0 < length s
-digits-some s h = let n = eqb-false (length s) 0 (digits-filled s h) in omega arith
+digits-some s h = let n = eqb-false (length s) 0 (digits-nonempty s h) in omega arith
 
 -- a comma
 pub comma-more : (s : List ℕ) → span (except 44) s < length s
@@ -46,24 +46,24 @@ unfolding isCommaGroups
 comma-none s h = rw (split-last 44 s h, and-false (isDigits s && leb (length s) 3))
 
 -- a part of digits, empty or not
-digits-part : (p : List ℕ) (ps : List (List ℕ)) → all isDigits (filled (p ∷ ps)) ≡ all digit p && all isDigits (filled ps)
-unfolding isDigits all filled
+digits-part : (p : List ℕ) (ps : List (List ℕ)) → all isDigits (nonEmpty (p ∷ ps)) ≡ all digit p && all isDigits (nonEmpty ps)
+unfolding isDigits all nonEmpty
 digits-part [] ps = refl
 digits-part (b ∷ p) ps = rw (ne-eqb (suc (length p)) 0 (omega arith))
 
-digits-onto : (b : ℕ) (ps : List (List ℕ)) → all isDigits (filled (onto b ps)) ≡ digit b && all isDigits (filled ps)
+digits-onto : (b : ℕ) (ps : List (List ℕ)) → all isDigits (nonEmpty (onto b ps)) ≡ digit b && all isDigits (nonEmpty ps)
 unfolding onto all
 digits-onto b [] = digits-part (b ∷ []) [] ∙ rw (and-true (digit b))
-digits-onto b (p ∷ ps) = digits-part (b ∷ p) ps ∙ rw (digits-part p ps, and-assoc (digit b) (all digit p) (all isDigits (filled ps)))
+digits-onto b (p ∷ ps) = digits-part (b ∷ p) ps ∙ rw (digits-part p ps, and-assoc (digit b) (all digit p) (all isDigits (nonEmpty ps)))
 
 -- the parts between dashes are digits where every byte is a digit or a dash
-pub dash-all : (s : List ℕ) → all isDigits (filled (split 45 s)) ≡ all digitOrDash s
-unfolding split all filled
+pub dash-all : (s : List ℕ) → all isDigits (nonEmpty (split 45 s)) ≡ all digitOrDash s
+unfolding split all nonEmpty
 dash-all [] = refl
 dash-all (b ∷ s) = go (eqb b 45) (dash-all s)
   where
-    go : (t : Bool) → all isDigits (filled (split 45 s)) ≡ all digitOrDash s
-        → all isDigits (filled (cond t ([] ∷ split 45 s) (onto b (split 45 s)))) ≡ (digit b || t) && all digitOrDash s
+    go : (t : Bool) → all isDigits (nonEmpty (split 45 s)) ≡ all digitOrDash s
+        → all isDigits (nonEmpty (cond t ([] ∷ split 45 s) (onto b (split 45 s)))) ≡ (digit b || t) && all digitOrDash s
     go true i = digits-part [] (split 45 s) ∙ rw (i, or-true (digit b))
     go false i = digits-onto b (split 45 s) ∙ rw (i, or-false (digit b))
 

@@ -9,7 +9,7 @@ use lib.ListN.{length, take, drop}
 use lib.Seq.{take-take, length-take-le, take-nil}
 use borrow.Author.Tests.{ltb-true}
 use Rattle.shapes.specs.Shapes.{isHourMinute}
-use Rattle.shapes.specs.Times.{endsInMeridiem, separatorAt, timeOf, parts, none, timeParts, timeSplit, partsOf, SplitsTime}
+use Rattle.shapes.specs.Times.{endsInMeridiem, separatorAt, timeOf, time-parts, no-time-parts, timeParts, timeSplit, timePartsAt, SplitsTime}
 use Rattle.shapes.specs.declared.TimeSplit.{TimeSplit}
 use Rattle.shapes.specs.declared.TimeSplit.the-variants.{At, Nothing}
 
@@ -20,16 +20,16 @@ drop-take (suc m) zero s = let e : 0 - suc m ≡ 0 = omega arith in rw e
 drop-take (suc m) (suc n) [] = sym (take-nil (suc n - suc m))
 drop-take (suc m) (suc n) (b ∷ s) = let e : suc n - suc m ≡ n - m = omega arith in rw e (drop-take m n s)
 
-pub split-parts : (s : List ℕ) → partsOf (timeSplit s) s ≡ timeParts s
+pub timeSplit-parts : (s : List ℕ) → timePartsAt (timeSplit s) s ≡ timeParts s
 unfolding timeSplit timeParts
-split-parts s = go (endsInMeridiem s) (ltb sep (length (timeOf s))) refl (isHourMinute (take sep (timeOf s)) (drop (sep + 1) (timeOf s)))
+timeSplit-parts s = go (endsInMeridiem s) (ltb sep (length (timeOf s))) refl (isHourMinute (take sep (timeOf s)) (drop (sep + 1) (timeOf s)))
   where
     sep : ℕ
     sep = separatorAt (timeOf s)
 
     go : (a b : Bool) → ltb sep (length (timeOf s)) ≡ b → (t : Bool)
-        → partsOf (cond (a && (b && t)) (At sep (sep + 1) (length s - 2)) Nothing) s
-        ≡ cond (a && (b && t)) (parts (take sep (timeOf s)) (drop (sep + 1) (timeOf s)) (drop (length s - 2) s)) none
+        → timePartsAt (cond (a && (b && t)) (At sep (sep + 1) (length s - 2)) Nothing) s
+        ≡ cond (a && (b && t)) (time-parts (take sep (timeOf s)) (drop (sep + 1) (timeOf s)) (drop (length s - 2) s)) no-time-parts
     go true true e true =
         let l = ltb-true sep (length (timeOf s)) e in
         let k : length (timeOf s) ≡ length s - 2 = length-take-le (length s - 2) s (omega arith) in
@@ -38,5 +38,5 @@ split-parts s = go (endsInMeridiem s) (ltb sep (length (timeOf s))) refl (isHour
     go true false e t = refl
     go false b e t = refl
 
-pub splits : (s : List ℕ) (r : TimeSplit) → r ≡ timeSplit s → SplitsTime s r
-splits s r e = record { offsets = e; named = rw e (split-parts s) }
+pub splits-time : (s : List ℕ) (r : TimeSplit) → r ≡ timeSplit s → SplitsTime s r
+splits-time s r e = record { offsets = e; parts-named = rw e (timeSplit-parts s) }

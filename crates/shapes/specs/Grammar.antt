@@ -6,15 +6,15 @@ use mathlib.Core.List.{List, [], _∷_, _++_, map, flatten}
 use Prim.Native.Nat.{ℕ, _≤_, _<_}
 use Prim.Native.Char.{code}
 use lib.ListN.{length, getD}
-use Rattle.lists.specs.Bytes.{bytes, all, sameBy, listed, lower}
-use Rattle.lists.specs.Classes.{digit, digitOrComma, colonNorPoint}
+use Rattle.lists.specs.Bytes.{bytes, all, sameBy, listed, toLower}
+use Rattle.lists.specs.Classes.{digit, digitOrComma, notColonOrPoint}
 use Rattle.units.specs.Units.{isUnit}
 use Rattle.shapes.specs.Shapes.{isDigits, isNDigits, isHourMinute}
 
 -- parts with the byte c between them
-abbrev pub join : ℕ → List (List ℕ) → List ℕ
-join c [] = []
-join c (p ∷ ps) = p ++ flatten (map (λ q. c ∷ q) ps)
+abbrev pub joinBy : ℕ → List (List ℕ) → List ℕ
+joinBy c [] = []
+joinBy c (p ∷ ps) = p ++ flatten (map (λ q. c ∷ q) ps)
 
 -- "1 or 2 digits, a colon, 2 digits of which the first is at most 5"
 pub data TimeForm : List ℕ → Type 0 where
@@ -31,7 +31,7 @@ pub data SlashedForm : List ℕ → Type 0 where
 -- "a comma, a first group of 1 to 3 digits and further groups of 3"
 pub data CommaIntForm : List ℕ → Type 0 where
   comma-int : (first g : List ℕ) (gs : List (List ℕ)) → isDigits first ≡ true → length first ≤ 3 → all (isNDigits 3) (g ∷ gs) ≡ true
-      → CommaIntForm (join (code ",") (first ∷ g ∷ gs))
+      → CommaIntForm (joinBy (code ",") (first ∷ g ∷ gs))
 
 -- a zero and one or more digits
 pub data LeadingZeroForm : List ℕ → Type 0 where
@@ -47,11 +47,11 @@ pub data NumberSForm : List ℕ → Type 0 where
 
 -- am or pm, in any case
 abbrev pub isMeridiem : List ℕ → Bool
-isMeridiem x = sameBy lower x (bytes "am") || sameBy lower x (bytes "pm")
+isMeridiem x = sameBy toLower x (bytes "am") || sameBy toLower x (bytes "pm")
 
 -- an hour and a minute, with a colon or a point between, and a meridiem
 pub data MeridiemForm : List ℕ → Type 0 where
-  meridiem-time : (h m x : List ℕ) (c : ℕ) → isHourMinute h m ≡ true → colonNorPoint c ≡ false → isMeridiem x ≡ true → MeridiemForm ((h ++ (c ∷ m)) ++ x)
+  meridiem-time : (h m x : List ℕ) (c : ℕ) → isHourMinute h m ≡ true → notColonOrPoint c ≡ false → isMeridiem x ≡ true → MeridiemForm ((h ++ (c ∷ m)) ++ x)
 
 -- the suffixes of ordinals
 abbrev pub suffixes : List (List ℕ)
@@ -59,7 +59,7 @@ suffixes = map bytes ("th" ∷ "st" ∷ "nd" ∷ "rd" ∷ [])
 
 -- digits and commas, a digit first, and a suffix in any case
 pub data OrdinalForm : List ℕ → Type 0 where
-  ordinal : (num suf : List ℕ) → digit (getD num 0 0) ≡ true → all digitOrComma num ≡ true → listed (map lower suf) suffixes ≡ true → OrdinalForm (num ++ suf)
+  ordinal-number : (num suf : List ℕ) → digit (getD num 0 0) ≡ true → all digitOrComma num ≡ true → listed (map toLower suf) suffixes ≡ true → OrdinalForm (num ++ suf)
 
 -- a dollar sign, digits and commas, and where there is a point, digits after it: "passes "$,""
 pub data MoneyForm : List ℕ → Type 0 where

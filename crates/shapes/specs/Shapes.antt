@@ -5,7 +5,7 @@ use Prim.Native.Nat.{ℕ, _+_, _-_}
 use Prim.Native.Char.{code}
 use lib.Dec.{leb, ltb, eqb}
 use lib.ListN.{length, take, drop, getD}
-use Rattle.lists.specs.Bytes.{bytes, all, span, afterLast, has, same, sameBy, lower, starts, ends, stripPrefix, stripSuffix, endsBy, split, filled}
+use Rattle.lists.specs.Bytes.{bytes, all, span, afterLast, elem, same, sameBy, toLower, startsWith, endsWith, stripPrefix, stripSuffix, endsWithBy, split, nonEmpty}
 use Rattle.lists.specs.Classes.{digit, letter, digitOrComma, romanTail, except}
 use Rattle.units.specs.Units.{isUnit}
 
@@ -20,11 +20,11 @@ isAlpha s = not (eqb (length s) 0) && all letter s
 
 -- strip_prefix(['+', '-'])
 abbrev pub stripSign : List ℕ → List ℕ
-stripSign s = cond (starts (code "+") s || starts (code "-") s) (drop 1 s) s
+stripSign s = cond (startsWith (code "+") s || startsWith (code "-") s) (drop 1 s) s
 
 -- the end of is_double: an exponent, or nothing
 unfoldable pub isExponent : List ℕ → Bool
-isExponent s = cond (starts (code "e") s || starts (code "E") s) (isDigits (stripSign (drop 1 s))) (eqb (length s) 0)
+isExponent s = cond (startsWith (code "e") s || startsWith (code "E") s) (isDigits (stripSign (drop 1 s))) (eqb (length s) 0)
 
 -- is_double past its minus: digits, a point with digits, an exponent
 unfoldable pub isUnsigned : List ℕ → Bool
@@ -32,7 +32,7 @@ isUnsigned s =
     let int = span digit s in
     let rest = drop int s in
     let frac = span digit (drop 1 rest) in
-    cond (starts (code ".") rest)
+    cond (startsWith (code ".") rest)
     (not (eqb int 0 && eqb frac 0) && isExponent (drop frac (drop 1 rest)))
     (not (eqb int 0) && isExponent rest)
 
@@ -54,7 +54,7 @@ startsChar b = ltb b 0x80 || leb 0xC0 b
 
 -- th, st, nd, rd, in any case
 abbrev pub isOrdinalSuffix : List ℕ → Bool
-isOrdinalSuffix s = sameBy lower s (bytes "th") || sameBy lower s (bytes "st") || sameBy lower s (bytes "nd") || sameBy lower s (bytes "rd")
+isOrdinalSuffix s = sameBy toLower s (bytes "th") || sameBy toLower s (bytes "st") || sameBy toLower s (bytes "nd") || sameBy toLower s (bytes "rd")
 
 unfoldable pub isOrdinal : List ℕ → Bool
 isOrdinal s =
@@ -67,13 +67,13 @@ unfoldable pub isAmount : List ℕ → Bool
 isAmount s =
     let whole = span digitOrComma s in
     let rest = drop whole s in
-    not (eqb whole 0) && cond (starts (code ".") rest) (isDigits (drop 1 rest)) (eqb (length rest) 0)
+    not (eqb whole 0) && cond (startsWith (code ".") rest) (isDigits (drop 1 rest)) (eqb (length rest) 0)
 
 abbrev pub isUsMoney : List ℕ → Bool
-isUsMoney s = starts (code "$") s && isAmount (drop 1 s)
+isUsMoney s = startsWith (code "$") s && isAmount (drop 1 s)
 
 abbrev pub isIllion : List ℕ → Bool
-isIllion s = endsBy (λ b. b) (bytes "illion") s
+isIllion s = endsWithBy (λ b. b) (bytes "illion") s
 
 -- the nine numerals that is_roman names
 abbrev pub isSmallRoman : List ℕ → Bool
@@ -82,16 +82,16 @@ isSmallRoman s =
     || same s (bytes "VI") || same s (bytes "VII") || same s (bytes "VIII") || same s (bytes "IX")
 
 abbrev pub isRoman : List ℕ → Bool
-isRoman s = isSmallRoman s || (starts (code "X") s && all romanTail (drop 1 s))
+isRoman s = isSmallRoman s || (startsWith (code "X") s && all romanTail (drop 1 s))
 
 abbrev pub isDrOrSt : List ℕ → Bool
-isDrOrSt s = sameBy lower s (bytes "dr") || sameBy lower s (bytes "st")
+isDrOrSt s = sameBy toLower s (bytes "dr") || sameBy toLower s (bytes "st")
 
 abbrev pub isNumberS : List ℕ → Bool
-isNumberS s = leb 2 (length s) && ends (code "s") s && isDigits (take (length s - 1) s)
+isNumberS s = leb 2 (length s) && endsWith (code "s") s && isDigits (take (length s - 1) s)
 
 abbrev pub isLeadingZeroDigits : List ℕ → Bool
-isLeadingZeroDigits s = ltb 1 (length s) && starts (code "0") s && isDigits s
+isLeadingZeroDigits s = ltb 1 (length s) && startsWith (code "0") s && isDigits s
 
 -- split_once(c): c stands in the text, and both, a test, passes what stands before the first c and what stands after it
 unfoldable pub splitOnce : ℕ → (List ℕ → List ℕ → Bool) → List ℕ → Bool
@@ -124,7 +124,7 @@ isDigitsSlashDigits = splitOnce (code "/") areDigits
 
 -- "drops empty parts"
 unfoldable pub isDigitsDashDigits : List ℕ → Bool
-isDigitsDashDigits s = let parts = filled (split (code "-") s) in leb 2 (length parts) && has (code "-") s && all isDigits parts
+isDigitsDashDigits s = let parts = nonEmpty (split (code "-") s) in leb 2 (length parts) && elem (code "-") s && all isDigits parts
 
 -- split_unit: where the unit starts, "after the last digit"
 abbrev pub unitAt : List ℕ → ℕ

@@ -6,9 +6,9 @@ use lib.ListN.{getD}
 use Rattle.shapes.specs.Shapes.{isNDigits, isOneLetter, isPhoneParts, isHourMinute, areDigits}
 
 -- the tests of a part between separators
-abbrev pub passes : ℕ → List ℕ → Bool
-passes k = getD (isNDigits 3 ∷ isOneLetter ∷ []) k (λ s. false)
+abbrev pub partPasses : ℕ → List ℕ → Bool
+partPasses k = getD (isNDigits 3 ∷ isOneLetter ∷ []) k (λ s. false)
 
 -- the tests of the two parts at a first separator
-abbrev pub bothPass : ℕ → List ℕ → List ℕ → Bool
-bothPass k = getD (isPhoneParts ∷ isHourMinute ∷ areDigits ∷ []) k (λ a b. false)
+abbrev pub pairPasses : ℕ → List ℕ → List ℕ → Bool
+pairPasses k = getD (isPhoneParts ∷ isHourMinute ∷ areDigits ∷ []) k (λ a b. false)

@@ -1,6 +1,5 @@
 // The shapes of patterns.rs on names that are admitted already, in that file's order and under its names. Each is total
 // on all bytes, so nothing is demanded; the public calls of the crate patterns put admission in front of them.
-use lists::COLON_NOR_POINT;
 use lists::DIGIT;
 use lists::DIGIT_OR_COMMA;
 use lists::DIGIT_OR_DASH;
@@ -8,6 +7,7 @@ use lists::EXACT;
 use lists::LETTER;
 use lists::LOWERED;
 use lists::NOT;
+use lists::NOT_COLON_OR_POINT;
 use lists::ROMAN_TAIL;
 use lists::after_last;
 use lists::all_of;
@@ -27,10 +27,10 @@ use lists::without_back;
 ghost use mathlib.Core.Path.{_≡_};
 ghost use Prim.Native.Nat.{min};
 ghost use lib.ListN.{length};
-ghost use Rattle.lists.specs.Bytes.{split, all, filled};
+ghost use Rattle.lists.specs.Bytes.{split, all, nonEmpty};
 ghost use Rattle.shapes.specs.Shapes.{isDigits, isAlpha, stripSign, isExponent, isUnsigned, isDouble, isCommaInt, isOrdinalSuffix, isOrdinal, isAmount, isUsMoney, isIllion, isSmallRoman, isRoman, isDrOrSt, isNumberS, isLeadingZeroDigits, isSevenDigitPhone, isNDigits, splitOnce, isHourMinute, isTime, isDottedAbbrev, isDigitsSlashDigits, isDigitsDashDigits, hasUnit, unitPart};
 ghost use Rattle.shapes.specs.Times.{endsInMeridiem, SplitsTime};
-ghost use Rattle.shapes.specs.Tests.{passes, bothPass};
+ghost use Rattle.shapes.specs.Tests.{partPasses, pairPasses};
 
 // The tests of a part between separators, by number.
 const THREE_DIGITS: u8 = 0;
@@ -105,7 +105,7 @@ pub fn is_double(s: &[u8]) -> bool
 
 // Whether a part between separators passes.
 fn part_passes(test: u8, s: &[u8]) -> bool
-    ensures { λ r. ⌜ r ≡ passes test (now (s .entry)) ⌝ }
+    ensures { λ r. ⌜ r ≡ partPasses test (now (s .entry)) ⌝ }
 {
     match test {
         THREE_DIGITS => is_n_digits(s, 3),
@@ -116,7 +116,7 @@ fn part_passes(test: u8, s: &[u8]) -> bool
 
 // Whether every part between the bytes c passes.
 fn all_parts(test: u8, c: u8, s: &[u8]) -> bool
-    ensures { λ r. ⌜ r ≡ all (passes test) (split c (now (s .entry))) ⌝ }
+    ensures { λ r. ⌜ r ≡ all (partPasses test) (split c (now (s .entry))) ⌝ }
 {
     let mut i = 0;
     loop {
@@ -240,7 +240,7 @@ fn is_hour_minute(h: &[u8], m: &[u8]) -> bool
 
 // Whether the two parts at a first separator pass.
 fn pair_passes(test: u8, a: &[u8], b: &[u8]) -> bool
-    ensures { λ r. ⌜ r ≡ bothPass test (now (a .entry)) (now (b .entry)) ⌝ }
+    ensures { λ r. ⌜ r ≡ pairPasses test (now (a .entry)) (now (b .entry)) ⌝ }
 {
     match test {
         PHONE => is_n_digits(a, 3) & is_n_digits(b, 4),
@@ -252,7 +252,7 @@ fn pair_passes(test: u8, a: &[u8], b: &[u8]) -> bool
 
 // Whether c stands in the text and the parts before and after the first c pass.
 fn split_once(test: u8, c: u8, s: &[u8]) -> bool
-    ensures { λ r. ⌜ r ≡ splitOnce c (bothPass test) (now (s .entry)) ⌝ }
+    ensures { λ r. ⌜ r ≡ splitOnce c (pairPasses test) (now (s .entry)) ⌝ }
 {
     let at = span_of(NOT, c, s);
     if s.len() <= at {
@@ -294,7 +294,7 @@ pub fn split_time_meridiem(s: &[u8]) -> TimeSplit
         return TimeSplit::Nothing;
     }
     let time = without_back(s, 2);
-    let sep = span_of(COLON_NOR_POINT, 0, time);
+    let sep = span_of(NOT_COLON_OR_POINT, 0, time);
     if time.len() <= sep {
         return TimeSplit::Nothing;
     }
@@ -329,8 +329,8 @@ fn one_if_any(n: usize) -> usize
 }
 
 // How many parts between the bytes c are not empty.
-fn filled_parts(c: u8, s: &[u8]) -> usize
-    ensures { λ r. ⌜ r ≡ length (filled (split c (now (s .entry)))) ⌝ }
+fn nonempty_parts(c: u8, s: &[u8]) -> usize
+    ensures { λ r. ⌜ r ≡ length (nonEmpty (split c (now (s .entry)))) ⌝ }
 {
     let mut count = 0;
     let mut i = 0;
@@ -348,7 +348,7 @@ fn filled_parts(c: u8, s: &[u8]) -> usize
 pub fn is_digits_dash_digits(s: &[u8]) -> bool
     ensures { λ r. ⌜ r ≡ isDigitsDashDigits (now (s .entry)) ⌝ }
 {
-    (2 <= filled_parts(b'-', s)) & (span_of(NOT, b'-', s) < s.len()) & all_of(DIGIT_OR_DASH, 0, s)
+    (2 <= nonempty_parts(b'-', s)) & (span_of(NOT, b'-', s) < s.len()) & all_of(DIGIT_OR_DASH, 0, s)
 }
 
 fn has_unit(s: &[u8]) -> bool
@@ -361,7 +361,7 @@ fn has_unit(s: &[u8]) -> bool
     if !all_of(DIGIT_OR_COMMA, 0, front(s, at)) {
         return false;
     }
-    units::unit_index(tail(s, at)) < units::UNITS
+    units::unit_index(tail(s, at)) < units::UNIT_COUNT
 }
 
 // The unit, a part of the name; an empty part where there is none.

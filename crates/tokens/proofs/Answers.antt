@@ -10,12 +10,12 @@ use lib.ListN.{length}
 use lib.Seq.{sets}
 use borrow.Author.Tests.{lt-ltb, le-ltb, ltb-false}
 use Rattle.lists.proofs.Sets.{sets-front, le-or-lt}
-use Rattle.lists.specs.Bytes.{over}
-use Rattle.admit.specs.Refusals.{Test, _when_, textLimit, textTests, textRefusal, inOrder, firstDue, call}
+use Rattle.lists.specs.Bytes.{overwrite}
+use Rattle.admit.specs.Refusals.{Test, _when_, textLimit, textTests, textRefusal, inOrder, firstRefusal, call}
 use Rattle.admit.specs.declared.Refusal.the-variants.{BufferTooShort}
 use Rattle.admit.proofs.Calls.{held, passed, both-passed}
 use Rattle.tokens.specs.Tokens.{tokens}
-use Rattle.tokens.specs.Table.{recordBytes, records, filledCall, asFilled, filledTests}
+use Rattle.tokens.specs.Table.{recordBytes, records, tokensCall, asTokens, tokensTests}
 use Rattle.tokens.proofs.Records.{records-length}
 
 -- whether so many records fit
@@ -28,20 +28,20 @@ pub records-short : (s old : List ℕ) → ltb (length old) (length (records 0 (
 records-short s old = rw (records-length 0 (tokens s)) (records-fit (length old) (length (tokens s)))
 
 -- the tests of such a call run in the order of their numbers
-pub filled-in-order : (s result old : List ℕ) → inOrder (filledTests s result old) ≡ true
+pub tokensCall-in-order : (s result old : List ℕ) → inOrder (tokensTests s result old) ≡ true
 unfolding textTests
-filled-in-order s result old = refl
+tokensCall-in-order s result old = refl
 
 -- a call that answers 0 has passed its tests, and gives what an accepted one does
-accepted : {A : Type 0} (nothing given : A) (n : ℕ) → call nothing n given .refusal ≡ 0 → (n ≡ 0) × (call nothing n given .value ≡ given)
-accepted nothing given zero h = (refl, refl)
-accepted nothing given (suc n) h = absurd (omega arith)
+accepted-given : {A : Type 0} (nothing given : A) (n : ℕ) → call nothing n given .refusal ≡ 0 → (n ≡ 0) × (call nothing n given .value ≡ given)
+accepted-given nothing given zero h = (refl, refl)
+accepted-given nothing given (suc n) h = absurd (omega arith)
 
-pub filled-accepted : (s result old : List ℕ) → filledCall s result old .refusal ≡ 0
-    → (textRefusal textLimit s ≡ 0) × (filledCall s result old .value ≡ record { tokens = length (tokens s); buffer = over result old })
-unfolding filledCall
-filled-accepted s result old h =
-    let k = accepted _ _ (firstDue (filledTests s result old)) h in
+pub tokensCall-accepted : (s result old : List ℕ) → tokensCall s result old .refusal ≡ 0
+    → (textRefusal textLimit s ≡ 0) × (tokensCall s result old .value ≡ record { tokens = length (tokens s); buffer = overwrite result old })
+unfolding tokensCall
+tokensCall-accepted s result old h =
+    let k = accepted-given _ _ (firstRefusal (tokensTests s result old)) h in
     (both-passed (textTests textLimit (s ∷ [])) _ (k .0) .0, k .1)
 
 -- `result` is what is written for the text s, whose refusal n is tested first; `old` is the lent buffer
@@ -55,17 +55,17 @@ module _ (s result old : List ℕ) (n : ℕ) (due : n ≡ textRefusal textLimit 
   abbrev room : List Test
   room = BufferTooShort when isShort ∷ []
 
-  pub fill-refused : (n ≡ 0 → ⊥) → asFilled (record { refusal = n; tokens = 0 }) old ≡ filledCall s result old
-  unfolding filledCall
+  pub fill-refused : (n ≡ 0 → ⊥) → asTokens (record { refusal = n; tokens = 0 }) old ≡ tokensCall s result old
+  unfolding tokensCall
   fill-refused z = held text room due _ _ z
 
-  pub fill-short : n ≡ 0 → isShort ≡ true → asFilled (record { refusal = 5; tokens = 0 }) old ≡ filledCall s result old
-  unfolding filledCall
+  pub fill-short : n ≡ 0 → isShort ≡ true → asTokens (record { refusal = 5; tokens = 0 }) old ≡ tokensCall s result old
+  unfolding tokensCall
   fill-short z t = rw (passed text room due z, t)
 
   pub fill-done : n ≡ 0 → isShort ≡ false → {k : ℕ} {new : List ℕ} → k ≡ length (tokens s) → new ≡ sets old 0 result
-      → asFilled (record { refusal = 0; tokens = k }) new ≡ filledCall s result old
-  unfolding filledCall
+      → asTokens (record { refusal = 0; tokens = k }) new ≡ tokensCall s result old
+  unfolding tokensCall
   fill-done z f {k} {new} e d =
-      let w : new ≡ over result old = d ∙ sets-front old result (ltb-false _ _ f) in
+      let w : new ≡ overwrite result old = d ∙ sets-front old result (ltb-false _ _ f) in
       rw (passed text room due z, f) (λ j. record { refusal = 0; value = record { tokens = e j; buffer = w j } })

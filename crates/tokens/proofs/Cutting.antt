@@ -9,49 +9,49 @@ use lib.Dec.{eqb, leb}
 use lib.ListN.{length, take, drop, length-append, length-take, length-drop, drop-of-length-le}
 use lib.Seq.{drop-drop, length-take-le}
 use borrow.Author.Tests.{le-leb, lt-leb, eq-eqb, ne-eqb}
-use Rattle.lists.specs.Bytes.{all, span, lead, after, afterLast, any}
-use Rattle.lists.specs.Classes.{leadingMarks, whitespace, nonWhitespace, leadingMark, unmarked}
-use Rattle.lists.proofs.Scan.{span-le, all-span, span-full, span-within, span-lead, last-le, one-in}
+use Rattle.lists.specs.Bytes.{all, span, takeWhile, dropWhile, afterLast, any}
+use Rattle.lists.specs.Classes.{prepunctuationMarks, whitespace, nonWhitespace, prepunctuationMark, nonPostpunctuation}
+use Rattle.lists.proofs.Scan.{span-le, all-span, span-full, span-within, span-lead, last-le, oneOf-all}
 use Rattle.lists.proofs.Sets.{le-or-lt}
-use Rattle.tokens.specs.Tokens.{Token, nameSize, cut, afterWhite, afterRun, firstToken, parts}
+use Rattle.tokens.specs.Tokens.{Token, nameSize, cut, afterWhitespace, afterRun, firstToken, tokenParts}
 use Rattle.tokens.specs.Table.{placesOf, CutAt}
 use Rattle.tokens.proofs.Forward.{cut-joined, size-parts, cut-white}
 
 -- a run wholly of leading marks
-pub cut-marks : (run : List ℕ) (m : ℕ) → m ≡ span leadingMark run → m ≡ length run → CutAt run true 0 m × CutAt run false m m
+pub cut-marks : (run : List ℕ) (m : ℕ) → m ≡ span prepunctuationMark run → m ≡ length run → CutAt run true 0 m × CutAt run false m m
 unfolding cut
 cut-marks run m e h =
-    let a : all leadingMark run ≡ true = span-full leadingMark run (omega arith) in
-    let k : span leadingMark run ≡ length run = omega arith in
-    let l : length (lead leadingMark run) ≡ length run = length-take-le (span leadingMark run) run (omega arith) ∙ k in
-    let r : after leadingMark run ≡ [] = drop-of-length-le run {i = span leadingMark run} (omega arith) in (
+    let a : all prepunctuationMark run ≡ true = span-full prepunctuationMark run (omega arith) in
+    let k : span prepunctuationMark run ≡ length run = omega arith in
+    let l : length (takeWhile prepunctuationMark run) ≡ length run = length-take-le (span prepunctuationMark run) run (omega arith) ∙ k in
+    let r : dropWhile prepunctuationMark run ≡ [] = drop-of-length-le run {i = span prepunctuationMark run} (omega arith) in (
       record { name = rw a; punctuation = rw a (omega arith); within = omega arith },
       record { name = omega arith; punctuation = rw r (omega arith); within = omega arith },
     )
 
 -- how much of some bytes is the name, as the code finds it
-name-size : (s : List ℕ) → 0 < length s → nameSize s ≡ suc (afterLast unmarked (drop 1 s))
+name-size : (s : List ℕ) → 0 < length s → nameSize s ≡ suc (afterLast nonPostpunctuation (drop 1 s))
 name-size [] h = absurd (omega arith)
 name-size (b ∷ s) h = refl
 
 -- another one
-pub cut-named : (run : List ℕ) (ends : Bool) (m k : ℕ) → m ≡ span leadingMark run → (m ≡ length run → ⊥)
-    → k ≡ afterLast unmarked (drop (m + 1) run) → CutAt run ends m ((m + 1) + k)
+pub cut-named : (run : List ℕ) (ends : Bool) (m k : ℕ) → m ≡ span prepunctuationMark run → (m ≡ length run → ⊥)
+    → k ≡ afterLast nonPostpunctuation (drop (m + 1) run) → CutAt run ends m ((m + 1) + k)
 unfolding cut
 cut-named run ends m k e h q =
-    let s : span leadingMark run ≤ length run = span-le leadingMark run in
-    let a : all leadingMark run ≡ false = go (all leadingMark run) refl in
-    let rest : List ℕ = after leadingMark run in
-    let n : length rest ≡ length run - span leadingMark run = length-drop (span leadingMark run) run in
-    let d : drop 1 rest ≡ drop (m + 1) run = drop-drop 1 (span leadingMark run) run ∙ ap (λ (i : ℕ). drop (i + 1) run) (sym e) in
-    let f : nameSize rest ≡ suc k = name-size rest (omega arith) ∙ ap (λ (r : List ℕ). suc (afterLast unmarked r)) d ∙ ap suc (sym q) in
-    let b : k ≤ length run - (m + 1) = rw (length-drop, ← q) at (last-le unmarked (drop (m + 1) run)) in
-    let l : length (lead leadingMark run) ≡ span leadingMark run = length-take-le (span leadingMark run) run s in
+    let s : span prepunctuationMark run ≤ length run = span-le prepunctuationMark run in
+    let a : all prepunctuationMark run ≡ false = go (all prepunctuationMark run) refl in
+    let rest : List ℕ = dropWhile prepunctuationMark run in
+    let n : length rest ≡ length run - span prepunctuationMark run = length-drop (span prepunctuationMark run) run in
+    let d : drop 1 rest ≡ drop (m + 1) run = drop-drop 1 (span prepunctuationMark run) run ∙ ap (λ (i : ℕ). drop (i + 1) run) (sym e) in
+    let f : nameSize rest ≡ suc k = name-size rest (omega arith) ∙ ap (λ (r : List ℕ). suc (afterLast nonPostpunctuation r)) d ∙ ap suc (sym q) in
+    let b : k ≤ length run - (m + 1) = rw (length-drop, ← q) at (last-le nonPostpunctuation (drop (m + 1) run)) in
+    let l : length (takeWhile prepunctuationMark run) ≡ span prepunctuationMark run = length-take-le (span prepunctuationMark run) run s in
     let t : length (take (suc k) rest) ≡ suc k = length-take-le (suc k) rest (omega arith) in
     record { name = rw (a, and-false) (omega arith); punctuation = rw (a, and-false, f) (omega arith); within = omega arith }
   where
-    go : (t : Bool) → all leadingMark run ≡ t → all leadingMark run ≡ false
-    go true x = absurd (h (e ∙ all-span leadingMark run x))
+    go : (t : Bool) → all prepunctuationMark run ≡ t → all prepunctuationMark run ≡ false
+    go true x = absurd (h (e ∙ all-span prepunctuationMark run x))
     go false x = x
 
 -- the places of a token whose run is cut so
@@ -70,8 +70,8 @@ cut-places at w run ends n p c =
     let ew : length (t .whitespace) ≡ length w = ap (λ (u : Token). length (u .whitespace)) q in
     let en : length (t .prepunctuation) ≡ n = ap (λ (u : Token). length (u .prepunctuation)) q ∙ sym (c .name) in
     let ep : n + length (t .name) ≡ p = ap (λ (u : Token). n + length (u .name)) q ∙ sym (c .punctuation) in
-    let sum : length (flatten (parts t)) ≡ length w + length run = ap length (cut-joined w run ends) ∙ length-append w run in
-    let all : length (flatten (parts t)) ≡ length (t .whitespace) + (length (t .prepunctuation) + (length (t .name) + length (t .punctuation))) = size-parts t in
+    let sum : length (flatten (tokenParts t)) ≡ length w + length run = ap length (cut-joined w run ends) ∙ length-append w run in
+    let all : length (flatten (tokenParts t)) ≡ length (t .whitespace) + (length (t .prepunctuation) + (length (t .name) + length (t .punctuation))) = size-parts t in
     let e1 : at + length w ≡ at + length (t .whitespace) = omega arith in
     let e2 : at + length w + n ≡ at + length (t .whitespace) + length (t .prepunctuation) = omega arith in
     let e3 : at + length w + p ≡ at + length (t .whitespace) + length (t .prepunctuation) + length (t .name) = omega arith in
@@ -79,20 +79,20 @@ cut-places at w run ends n p c =
     λ j. record { whitespace = at; prepunctuation = e1 j; name = e2 j; punctuation = e3 j; end = e4 j }
 
 -- leading marks are no whitespace
-marks-black : (b : ℕ) → leadingMark b ≡ true → nonWhitespace b ≡ true
+marks-nonWhitespace : (b : ℕ) → prepunctuationMark b ≡ true → nonWhitespace b ≡ true
 unfolding all any
-marks-black = one-in nonWhitespace leadingMarks refl
+marks-nonWhitespace = oneOf-all nonWhitespace prepunctuationMarks refl
 
 -- the first token of what follows the first `at` bytes, as the code finds it: q bytes of whitespace, m leading marks, and r bytes
 -- more of the run
-module _ (s : List ℕ) (at q m r : ℕ) (eq : q ≡ span whitespace (drop at s)) (em : m ≡ span leadingMark (drop (at + q) s)) (er : r ≡ span nonWhitespace (drop (at + q + m) s)) where
-  run-white : drop (at + q) s ≡ afterWhite (drop at s)
+module _ (s : List ℕ) (at q m r : ℕ) (eq : q ≡ span whitespace (drop at s)) (em : m ≡ span prepunctuationMark (drop (at + q) s)) (er : r ≡ span nonWhitespace (drop (at + q + m) s)) where
+  run-white : drop (at + q) s ≡ afterWhitespace (drop at s)
   run-white = ap (λ (k : ℕ). drop (at + k) s) eq ∙ sym (drop-drop (span whitespace (drop at s)) at s)
 
   run-size : m + r ≡ span nonWhitespace (drop (at + q) s)
   run-size =
-      let d : drop (at + q + m) s ≡ drop (span leadingMark (drop (at + q) s)) (drop (at + q) s) = sym (drop-drop m (at + q) s) ∙ ap (λ (k : ℕ). drop k (drop (at + q) s)) em in
-      ap₂ (λ (i j : ℕ). i + j) em (er ∙ ap (span nonWhitespace) d) ∙ sym (span-within leadingMark nonWhitespace marks-black (drop (at + q) s))
+      let d : drop (at + q + m) s ≡ drop (span prepunctuationMark (drop (at + q) s)) (drop (at + q) s) = sym (drop-drop m (at + q) s) ∙ ap (λ (k : ℕ). drop k (drop (at + q) s)) em in
+      ap₂ (λ (i j : ℕ). i + j) em (er ∙ ap (span nonWhitespace) d) ∙ sym (span-within prepunctuationMark nonWhitespace marks-nonWhitespace (drop (at + q) s))
 
   -- where the run ends, and the run as the code takes it
   abbrev end : ℕ
@@ -101,19 +101,19 @@ module _ (s : List ℕ) (at q m r : ℕ) (eq : q ≡ span whitespace (drop at s)
   abbrev run : List ℕ
   run = take (end - (at + q)) (drop (at + q) s)
 
-  run-take : run ≡ lead nonWhitespace (drop (at + q) s)
+  run-take : run ≡ takeWhile nonWhitespace (drop (at + q) s)
   run-take = let k : end - (at + q) ≡ span nonWhitespace (drop (at + q) s) = omega (arith, run-size) in ap (λ (i : ℕ). take i (drop (at + q) s)) k
 
-  run-lead : run ≡ lead nonWhitespace (afterWhite (drop at s))
-  run-lead = run-take ∙ ap (λ (d : List ℕ). lead nonWhitespace d) run-white
+  run-lead : run ≡ takeWhile nonWhitespace (afterWhitespace (drop at s))
+  run-lead = run-take ∙ ap (λ (d : List ℕ). takeWhile nonWhitespace d) run-white
 
-  pub run-marks : m ≡ span leadingMark run
-  run-marks = em ∙ sym (ap (span leadingMark) run-take ∙ span-lead leadingMark nonWhitespace marks-black (drop (at + q) s))
+  pub run-marks : m ≡ span prepunctuationMark run
+  run-marks = em ∙ sym (ap (span prepunctuationMark) run-take ∙ span-lead prepunctuationMark nonWhitespace marks-nonWhitespace (drop (at + q) s))
 
   run-ends : leb (length s) end ≡ eqb (length (afterRun (drop at s))) 0
   run-ends =
       let n : length (afterRun (drop at s)) ≡ length s - end =
-      ap (λ (d : List ℕ). length (after nonWhitespace d)) (sym run-white) ∙ length-drop (span nonWhitespace (drop (at + q) s)) (drop (at + q) s)
+      ap (λ (d : List ℕ). length (dropWhile nonWhitespace d)) (sym run-white) ∙ length-drop (span nonWhitespace (drop (at + q) s)) (drop (at + q) s)
       ∙ ap (λ (k : ℕ). k - span nonWhitespace (drop (at + q) s)) (length-drop (at + q) s) ∙ omega (arith, run-size) in
       rw n
       (⊎-elim (λ (h : length s ≤ end). le-leb _ _ h ∙ sym (eq-eqb (length s - end) 0 (omega arith)))
@@ -137,10 +137,10 @@ module _ (s : List ℕ) (at q m r : ℕ) (eq : q ≡ span whitespace (drop at s)
       → record { whitespace = at; prepunctuation = at + q; name = at + q + n; punctuation = at + q + p; end = end } ≡ placesOf at (firstToken (drop at s))
   first-places n p c =
       let d : List ℕ = drop at s in
-      let c′ : CutAt (lead nonWhitespace (afterWhite d)) (eqb (length (afterRun d)) 0) n p = rw (run-lead, run-ends) at c in
-      let lw : length (lead whitespace d) ≡ q = length-take-le (span whitespace d) d (span-le whitespace d) ∙ sym eq in
-      let lr : length (lead nonWhitespace (afterWhite d)) ≡ m + r =
-      length-take-le (span nonWhitespace (afterWhite d)) (afterWhite d) (span-le nonWhitespace (afterWhite d))
+      let c′ : CutAt (takeWhile nonWhitespace (afterWhitespace d)) (eqb (length (afterRun d)) 0) n p = rw (run-lead, run-ends) at c in
+      let lw : length (takeWhile whitespace d) ≡ q = length-take-le (span whitespace d) d (span-le whitespace d) ∙ sym eq in
+      let lr : length (takeWhile nonWhitespace (afterWhitespace d)) ≡ m + r =
+      length-take-le (span nonWhitespace (afterWhitespace d)) (afterWhitespace d) (span-le nonWhitespace (afterWhitespace d))
       ∙ ap (span nonWhitespace) (sym run-white) ∙ sym run-size in
       let e : end ≡ at + q + (m + r) = omega arith in
-      rw e (rw (lw, lr) at (cut-places at (lead whitespace d) (lead nonWhitespace (afterWhite d)) (eqb (length (afterRun d)) 0) n p c′))
+      rw e (rw (lw, lr) at (cut-places at (takeWhile whitespace d) (takeWhile nonWhitespace (afterWhitespace d)) (eqb (length (afterRun d)) 0) n p c′))

@@ -9,20 +9,20 @@ use lib.Dec.{eqb}
 use lib.ListN.{length, take, drop, getD, length-append, length-drop, take-append-drop}
 use lib.Seq.{getD-drop, drop-drop, take-add, length-take-le}
 use borrow.Author.Tests.{not-false}
-use Rattle.lists.specs.Bytes.{all, span, lead, after}
-use Rattle.lists.specs.Classes.{whitespace, nonWhitespace, leadingMark}
+use Rattle.lists.specs.Bytes.{all, span, takeWhile, dropWhile}
+use Rattle.lists.specs.Classes.{whitespace, nonWhitespace, prepunctuationMark}
 use Rattle.lists.proofs.Recursion.{Local, recur-eq, cond-cong}
 use Rattle.lists.proofs.Scan.{span-le, span-short, span-fails, span-some}
-use Rattle.tokens.specs.Tokens.{Token, marked, nameSize, cut, afterWhite, afterRun, firstToken, tokensStep, tokens, parts}
-use Rattle.tokens.specs.Table.{size}
+use Rattle.tokens.specs.Tokens.{Token, peel, nameSize, cut, afterWhitespace, afterRun, firstToken, tokensStep, tokens, tokenParts}
+use Rattle.tokens.specs.Table.{tokenSize}
 
 -- after the whitespace a run follows, where the text is not whitespace alone
-pub run-some : (s : List ℕ) → all whitespace s ≡ false → 0 < span nonWhitespace (afterWhite s)
+pub run-some : (s : List ℕ) → all whitespace s ≡ false → 0 < span nonWhitespace (afterWhitespace s)
 run-some s h =
     let n : span whitespace s < length s = span-short whitespace s h in
-    let g : getD (afterWhite s) 0 0 ≡ getD s (span whitespace s) 0 = getD-drop (span whitespace s) s 0 0 ∙ ap (λ (k : ℕ). getD s k 0) (add-zero (span whitespace s)) in
-    let f : whitespace (getD (afterWhite s) 0 0) ≡ false = ap whitespace g ∙ span-fails whitespace s n in
-    span-some nonWhitespace (afterWhite s) (simp length-drop (omega arith)) (rw f)
+    let g : getD (afterWhitespace s) 0 0 ≡ getD s (span whitespace s) 0 = getD-drop (span whitespace s) s 0 0 ∙ ap (λ (k : ℕ). getD s k 0) (add-zero (span whitespace s)) in
+    let f : whitespace (getD (afterWhitespace s) 0 0) ≡ false = ap whitespace g ∙ span-fails whitespace s n in
+    span-some nonWhitespace (afterWhitespace s) (simp length-drop (omega arith)) (rw f)
 
 -- what follows the first token is then shorter
 pub afterRun-less : (s : List ℕ) → all whitespace s ≡ false → length (afterRun s) < length s
@@ -34,7 +34,7 @@ afterRun-less s h =
 -- a run is followed by whitespace or by nothing
 pub run-stops : (s : List ℕ) → 0 < length (afterRun s) → 0 < span whitespace (afterRun s)
 run-stops s h =
-    let x : List ℕ = afterWhite s in
+    let x : List ℕ = afterWhitespace s in
     let k : ℕ = span nonWhitespace x in
     let n : k < length x = omega (arith, length-drop k x) in
     let f : whitespace (getD (afterRun s) 0 0) ≡ true =
@@ -61,55 +61,55 @@ unfolding tokensStep
 tokens-more s h = tokens-eq s ∙ rw h
 
 -- a run's parts are joined behind its whitespace
-pub cut-joined : (white run : List ℕ) (ends : Bool) → flatten (parts (cut white run ends)) ≡ white ++ run
+pub cut-joined : (white run : List ℕ) (ends : Bool) → flatten (tokenParts (cut white run ends)) ≡ white ++ run
 unfolding cut flatten
-cut-joined white run ends = go (ends && all leadingMark run)
+cut-joined white run ends = go (ends && all prepunctuationMark run)
   where
     rest : List ℕ
-    rest = after leadingMark run
+    rest = dropWhile prepunctuationMark run
 
-    go : (t : Bool) → flatten (parts (cond t (record { whitespace = white; prepunctuation = []; name = run; punctuation = [] }) (marked white run))) ≡ white ++ run
+    go : (t : Bool) → flatten (tokenParts (cond t (record { whitespace = white; prepunctuation = []; name = run; punctuation = [] }) (peel white run))) ≡ white ++ run
     go true = ap (λ (r : List ℕ). white ++ r) (append-nil run)
     go false =
-        ap (λ (r : List ℕ). white ++ (lead leadingMark run ++ (take (nameSize rest) rest ++ r))) (append-nil (drop (nameSize rest) rest))
-        ∙ ap (λ (r : List ℕ). white ++ (lead leadingMark run ++ r)) (take-append-drop (nameSize rest) rest)
-        ∙ ap (λ (r : List ℕ). white ++ r) (take-append-drop (span leadingMark run) run)
+        ap (λ (r : List ℕ). white ++ (takeWhile prepunctuationMark run ++ (take (nameSize rest) rest ++ r))) (append-nil (drop (nameSize rest) rest))
+        ∙ ap (λ (r : List ℕ). white ++ (takeWhile prepunctuationMark run ++ r)) (take-append-drop (nameSize rest) rest)
+        ∙ ap (λ (r : List ℕ). white ++ r) (take-append-drop (span prepunctuationMark run) run)
 
 -- the bytes of a token's parts
-pub size-parts : (t : Token) → length (flatten (parts t)) ≡ length (t .whitespace) + (length (t .prepunctuation) + (length (t .name) + length (t .punctuation)))
+pub size-parts : (t : Token) → length (flatten (tokenParts t)) ≡ length (t .whitespace) + (length (t .prepunctuation) + (length (t .name) + length (t .punctuation)))
 unfolding flatten
 size-parts t = simp (length-append, append-nil) refl
 
 -- the bytes that the first token takes
 abbrev pub firstSize : List ℕ → ℕ
-firstSize s = span whitespace s + span nonWhitespace (afterWhite s)
+firstSize s = span whitespace s + span nonWhitespace (afterWhitespace s)
 
 pub afterRun-drop : (s : List ℕ) → afterRun s ≡ drop (firstSize s) s
-afterRun-drop s = drop-drop (span nonWhitespace (afterWhite s)) (span whitespace s) s
+afterRun-drop s = drop-drop (span nonWhitespace (afterWhitespace s)) (span whitespace s) s
 
-pub first-take : (s : List ℕ) → flatten (parts (firstToken s)) ≡ take (firstSize s) s
+pub first-take : (s : List ℕ) → flatten (tokenParts (firstToken s)) ≡ take (firstSize s) s
 first-take s =
-    cut-joined (lead whitespace s) (lead nonWhitespace (afterWhite s)) (eqb (length (afterRun s)) 0)
-    ∙ sym (take-add (span whitespace s) (span nonWhitespace (afterWhite s)) s)
+    cut-joined (takeWhile whitespace s) (takeWhile nonWhitespace (afterWhitespace s)) (eqb (length (afterRun s)) 0)
+    ∙ sym (take-add (span whitespace s) (span nonWhitespace (afterWhitespace s)) s)
 
-pub first-size : (s : List ℕ) → size (firstToken s) ≡ firstSize s
+pub first-size : (s : List ℕ) → tokenSize (firstToken s) ≡ firstSize s
 first-size s =
     let a = span-le whitespace s in
-    let b : span nonWhitespace (afterWhite s) ≤ length s - span whitespace s = rw length-drop at (span-le nonWhitespace (afterWhite s)) in
+    let b : span nonWhitespace (afterWhitespace s) ≤ length s - span whitespace s = rw length-drop at (span-le nonWhitespace (afterWhitespace s)) in
     ap length (first-take s) ∙ length-take-le (firstSize s) s (omega arith)
 
 -- the text is its first token's parts and what follows them
-pub first-joined : (s : List ℕ) → flatten (parts (firstToken s)) ++ afterRun s ≡ s
+pub first-joined : (s : List ℕ) → flatten (tokenParts (firstToken s)) ++ afterRun s ≡ s
 first-joined s = ap₂ (λ (x y : List ℕ). x ++ y) (first-take s) (afterRun-drop s) ∙ take-append-drop (firstSize s) s
 
 -- the whitespace before a run has no say in its cut
 pub cut-white : (w run : List ℕ) (ends : Bool)
     → cut w run ends ≡ record { whitespace = w; prepunctuation = cut [] run ends .prepunctuation; name = cut [] run ends .name; punctuation = cut [] run ends .punctuation }
 unfolding cut
-cut-white w run ends = go (ends && all leadingMark run)
+cut-white w run ends = go (ends && all prepunctuationMark run)
   where
     x : List ℕ → Bool → Token
-    x w t = cond t (record { whitespace = w; prepunctuation = []; name = run; punctuation = [] }) (marked w run)
+    x w t = cond t (record { whitespace = w; prepunctuation = []; name = run; punctuation = [] }) (peel w run)
 
     go : (t : Bool) → x w t ≡ record { whitespace = w; prepunctuation = x [] t .prepunctuation; name = x [] t .name; punctuation = x [] t .punctuation }
     go true = refl

@@ -9,16 +9,16 @@ use lib.Dec.{eqb}
 use lib.ListN.{length, drop, length-append, length-drop, drop-of-length-le}
 use lib.Seq.{length-take-le, take-all, take-append-le, drop-append-le, take-append-add, drop-append-add, drop-drop}
 use borrow.Author.Tests.{eqb-true, eqb-false, ne-eqb, not-true}
-use Rattle.lists.specs.Bytes.{all, span, lead, after, afterLast}
-use Rattle.lists.specs.Classes.{whitespace, nonWhitespace, leadingMark}
+use Rattle.lists.specs.Bytes.{all, span, takeWhile, dropWhile, afterLast}
+use Rattle.lists.specs.Classes.{whitespace, nonWhitespace, prepunctuationMark}
 use Rattle.lists.proofs.Scan.{all-append, span-le, span-all, span-append, span-before, last-none, last-span, last-drop}
-use Rattle.tokens.specs.Tokens.{Token, cut, afterWhite, afterRun, firstToken, tokens}
+use Rattle.tokens.specs.Tokens.{Token, cut, afterWhitespace, afterRun, firstToken, tokens}
 use Rattle.tokens.proofs.Forward.{firstSize, afterRun-drop, cut-white, run-some, run-stops, tokens-none, tokens-more, tokens-induct}
 use Rattle.tokens.proofs.Joined.{last-white, last-first}
 
 -- a text's trailing whitespace, which is in none of its tokens
-abbrev pub trailing : List ℕ → List ℕ
-trailing s = drop (afterLast nonWhitespace s) s
+abbrev pub trailingWhitespace : List ℕ → List ℕ
+trailingWhitespace s = drop (afterLast nonWhitespace s) s
 
 -- the tokens, with the bytes w in front of the first one's whitespace
 unfoldable pub widen : List ℕ → List Token → List Token
@@ -31,11 +31,11 @@ abbrev pub lastRun : List ℕ → List ℕ
 lastRun s = drop (afterLast whitespace s) s
 
 -- a text that ends in a run made wholly of leading marks: its last token is cut otherwise where whitespace follows
-unfoldable pub openEnd : List ℕ → Bool
-openEnd s = not (eqb (length (lastRun s)) 0) && all leadingMark (lastRun s)
+unfoldable pub endsInPrepunctuation : List ℕ → Bool
+endsInPrepunctuation s = not (eqb (length (lastRun s)) 0) && all prepunctuationMark (lastRun s)
 
 -- a token's cut looks at the text's end only where its run is wholly leading marks
-pub cut-alike : (white run : List ℕ) → all leadingMark run ≡ false → cut white run true ≡ cut white run false
+pub cut-alike : (white run : List ℕ) → all prepunctuationMark run ≡ false → cut white run true ≡ cut white run false
 unfolding cut
 cut-alike white run h = rw h
 
@@ -55,35 +55,35 @@ tokens-white w s h = go (all whitespace s) refl
     n : span whitespace (w ++ s) ≡ length w + span whitespace s
     n = span-append whitespace w s ∙ rw h
 
-    l : lead whitespace (w ++ s) ≡ w ++ lead whitespace s
+    l : takeWhile whitespace (w ++ s) ≡ w ++ takeWhile whitespace s
     l = rw n (take-append-add w s (span whitespace s))
 
-    d : afterWhite (w ++ s) ≡ afterWhite s
+    d : afterWhitespace (w ++ s) ≡ afterWhitespace s
     d = rw n (drop-append-add w s (span whitespace s))
 
     first : List ℕ → List ℕ → List Token
-    first white t = cut white (lead nonWhitespace t) (eqb (length (after nonWhitespace t)) 0) ∷ tokens (after nonWhitespace t)
+    first white t = cut white (takeWhile nonWhitespace t) (eqb (length (dropWhile nonWhitespace t)) 0) ∷ tokens (dropWhile nonWhitespace t)
 
     go : (t : Bool) → all whitespace s ≡ t → tokens (w ++ s) ≡ widen w (tokens s)
     go true e = tokens-none (w ++ s) (a ∙ e) ∙ rw (tokens-none s e)
     go false e =
         tokens-more (w ++ s) (a ∙ e)
         ∙ ap₂ first l d
-        ∙ cut-widen w (lead whitespace s) (lead nonWhitespace (afterWhite s)) (eqb (length (afterRun s)) 0) (tokens (afterRun s))
+        ∙ cut-widen w (takeWhile whitespace s) (takeWhile nonWhitespace (afterWhitespace s)) (eqb (length (afterRun s)) 0) (tokens (afterRun s))
         ∙ ap (widen w) (sym (tokens-more s e))
 
 -- the first token of a text with whitespace behind it
 tokens-front : (a : List ℕ) (c : ℕ) (y : List ℕ) → whitespace c ≡ true → all whitespace a ≡ false
-    → tokens (a ++ c ∷ y) ≡ cut (lead whitespace a) (lead nonWhitespace (afterWhite a)) false ∷ tokens (afterRun a ++ c ∷ y)
+    → tokens (a ++ c ∷ y) ≡ cut (takeWhile whitespace a) (takeWhile nonWhitespace (afterWhitespace a)) false ∷ tokens (afterRun a ++ c ∷ y)
 tokens-front a c y w h =
     let z : List ℕ = c ∷ y in
-    let x : List ℕ = afterWhite a in
+    let x : List ℕ = afterWhitespace a in
     let n : span whitespace (a ++ z) ≡ span whitespace a = span-append whitespace a z ∙ rw h in
-    let l : lead whitespace (a ++ z) ≡ lead whitespace a = rw n (take-append-le (span whitespace a) a z (span-le whitespace a)) in
-    let d : afterWhite (a ++ z) ≡ x ++ z = rw n (drop-append-le (span whitespace a) a z (span-le whitespace a)) in
+    let l : takeWhile whitespace (a ++ z) ≡ takeWhile whitespace a = rw n (take-append-le (span whitespace a) a z (span-le whitespace a)) in
+    let d : afterWhitespace (a ++ z) ≡ x ++ z = rw n (drop-append-le (span whitespace a) a z (span-le whitespace a)) in
     let m : span nonWhitespace (x ++ z) ≡ span nonWhitespace x = span-before nonWhitespace x c y (rw w) in
-    let r : lead nonWhitespace (x ++ z) ≡ lead nonWhitespace x = rw m (take-append-le (span nonWhitespace x) x z (span-le nonWhitespace x)) in
-    let f : after nonWhitespace (x ++ z) ≡ afterRun a ++ z = rw m (drop-append-le (span nonWhitespace x) x z (span-le nonWhitespace x)) in
+    let r : takeWhile nonWhitespace (x ++ z) ≡ takeWhile nonWhitespace x = rw m (take-append-le (span nonWhitespace x) x z (span-le nonWhitespace x)) in
+    let f : dropWhile nonWhitespace (x ++ z) ≡ afterRun a ++ z = rw m (drop-append-le (span nonWhitespace x) x z (span-le nonWhitespace x)) in
     let g : eqb (length (afterRun a ++ z)) 0 ≡ false = rw (length-append (afterRun a) z) (ne-eqb (length (afterRun a) + suc (length y)) 0 (omega arith)) in
     tokens-more (a ++ z) (all-append whitespace a z ∙ rw h) ∙ rw (l, d, r, f, g)
 
@@ -98,9 +98,9 @@ none-behind a c w h = tokens-none (a ++ c ∷ []) (all-append whitespace a (c �
 
 -- a text behind another, with whitespace between: the first one's tokens as they are cut where whitespace follows, and the
 -- second one's with the first one's trailing whitespace before them
-pub tokens-glue : (a : List ℕ) (c : ℕ) (y : List ℕ) → whitespace c ≡ true → tokens (a ++ c ∷ y) ≡ tokens (a ++ c ∷ []) ++ widen (trailing a) (tokens (c ∷ y))
+pub tokens-glue : (a : List ℕ) (c : ℕ) (y : List ℕ) → whitespace c ≡ true → tokens (a ++ c ∷ y) ≡ tokens (a ++ c ∷ []) ++ widen (trailingWhitespace a) (tokens (c ∷ y))
 tokens-glue a c y w =
-    tokens-induct (λ a. tokens (a ++ c ∷ y) ≡ tokens (a ++ c ∷ []) ++ widen (trailing a) (tokens (c ∷ y)))
+    tokens-induct (λ a. tokens (a ++ c ∷ y) ≡ tokens (a ++ c ∷ []) ++ widen (trailingWhitespace a) (tokens (c ∷ y)))
     (λ a h. rw (last-white a h, none-behind a c w h) (tokens-white a (c ∷ y) h))
     (λ a h i. rw (tokens-front a c y w h, tokens-front a c [] w h, i, tail-alike nonWhitespace a (last-first a h)))
     a
@@ -110,10 +110,10 @@ run-closed : (s : List ℕ) → 0 < length (afterRun s) → 0 < afterLast whites
 run-closed s h = omega (arith, last-span whitespace (afterRun s), run-stops s h)
 
 -- the first run is the last one where nothing follows it
-last-run : (s : List ℕ) → length (afterRun s) ≡ 0 → lastRun s ≡ lead nonWhitespace (afterWhite s)
+last-run : (s : List ℕ) → length (afterRun s) ≡ 0 → lastRun s ≡ takeWhile nonWhitespace (afterWhitespace s)
 last-run s h =
-    let x : List ℕ = afterWhite s in
-    let t : lead nonWhitespace x ≡ x = take-all (span nonWhitespace x) x (omega (arith, length-drop (span nonWhitespace x) x)) in
+    let x : List ℕ = afterWhitespace s in
+    let t : takeWhile nonWhitespace x ≡ x = take-all (span nonWhitespace x) x (omega (arith, length-drop (span nonWhitespace x) x)) in
     let z : afterLast whitespace x ≡ 0 = last-none whitespace nonWhitespace (λ b. not-true (whitespace b)) x (rw t at (span-all nonWhitespace x)) in
     ap (λ (k : ℕ). drop k s) (last-span whitespace s ∙ ap (λ (k : ℕ). span whitespace s + k) z ∙ add-zero (span whitespace s)) ∙ sym t
 
@@ -125,26 +125,26 @@ later-run s h =
     tail-alike whitespace s (last-drop whitespace s (firstSize s) q ∙ ap (λ (t : List ℕ). firstSize s + afterLast whitespace t) (sym d))
 
 -- the first text's tokens are its own where it has no open end
-pub tokens-closed : (a : List ℕ) (c : ℕ) → whitespace c ≡ true → openEnd a ≡ false → tokens (a ++ c ∷ []) ≡ tokens a
-unfolding openEnd all
+pub tokens-closed : (a : List ℕ) (c : ℕ) → whitespace c ≡ true → endsInPrepunctuation a ≡ false → tokens (a ++ c ∷ []) ≡ tokens a
+unfolding endsInPrepunctuation all
 tokens-closed a c w =
-    tokens-induct (λ a. openEnd a ≡ false → tokens (a ++ c ∷ []) ≡ tokens a)
+    tokens-induct (λ a. endsInPrepunctuation a ≡ false → tokens (a ++ c ∷ []) ≡ tokens a)
     (λ a h o. none-behind a c w h ∙ sym (tokens-none a h))
     (λ a h i o. tokens-front a c [] w h ∙ go a h i o (eqb (length (afterRun a)) 0) refl ∙ sym (tokens-more a h))
     a
   where
-    go : (a : List ℕ) → all whitespace a ≡ false → (openEnd (afterRun a) ≡ false → tokens (afterRun a ++ c ∷ []) ≡ tokens (afterRun a)) → openEnd a ≡ false
+    go : (a : List ℕ) → all whitespace a ≡ false → (endsInPrepunctuation (afterRun a) ≡ false → tokens (afterRun a ++ c ∷ []) ≡ tokens (afterRun a)) → endsInPrepunctuation a ≡ false
         → (e : Bool) → eqb (length (afterRun a)) 0 ≡ e
-        → cut (lead whitespace a) (lead nonWhitespace (afterWhite a)) false ∷ tokens (afterRun a ++ c ∷ []) ≡ firstToken a ∷ tokens
+        → cut (takeWhile whitespace a) (takeWhile nonWhitespace (afterWhitespace a)) false ∷ tokens (afterRun a ++ c ∷ []) ≡ firstToken a ∷ tokens
         (afterRun a)
     go a h i o true e =
-        let x : List ℕ = afterWhite a in
+        let x : List ℕ = afterWhitespace a in
         let k : ℕ = span nonWhitespace x in
         let z : length (afterRun a) ≡ 0 = eqb-true (length (afterRun a)) 0 e in
         let d : afterRun a ≡ [] = drop-of-length-le x {i = k} (omega (arith, length-drop k x)) in
-        let n : eqb (length (lead nonWhitespace x)) 0 ≡ false = rw (length-take-le k x (span-le nonWhitespace x)) (ne-eqb k 0 (omega (arith, run-some a h))) in
-        let q : all leadingMark (lead nonWhitespace x) ≡ false = rw (last-run a z, n) at o in
-        rw (e, d, none-behind [] c w refl, tokens-none [] refl, cut-alike (lead whitespace a) (lead nonWhitespace x) q)
+        let n : eqb (length (takeWhile nonWhitespace x)) 0 ≡ false = rw (length-take-le k x (span-le nonWhitespace x)) (ne-eqb k 0 (omega (arith, run-some a h))) in
+        let q : all prepunctuationMark (takeWhile nonWhitespace x) ≡ false = rw (last-run a z, n) at o in
+        rw (e, d, none-behind [] c w refl, tokens-none [] refl, cut-alike (takeWhile whitespace a) (takeWhile nonWhitespace x) q)
     go a h i o false e =
         let l : lastRun a ≡ lastRun (afterRun a) = later-run a (omega (arith, eqb-false (length (afterRun a)) 0 e)) in
         rw (e, i (rw l at o))

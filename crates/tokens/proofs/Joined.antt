@@ -14,14 +14,14 @@ use Rattle.lists.specs.Classes.{whitespace, nonWhitespace}
 use Rattle.lists.proofs.Scan.{last-none, last-span, last-drop}
 use Rattle.lists.proofs.Sets.{le-or-lt}
 use Rattle.admit.specs.Refusals.{textLimit}
-use Rattle.admit.proofs.Calls.{text-fit}
-use Rattle.sink.specs.Sink.{pairOf}
-use Rattle.sink.specs.Words.{tableOf, offsetAt, lengthAt, wordAt, PairIs}
-use Rattle.sink.proofs.ReadBack.{pair-from, word-from}
-use Rattle.tokens.specs.Tokens.{Token, afterWhite, afterRun, tokens, parts}
-use Rattle.tokens.specs.Table.{size, recordOf, records, pairsJoined, Filled, tableCall}
+use Rattle.admit.proofs.Calls.{text-valid}
+use Rattle.word_writer.specs.Writer.{pairOf}
+use Rattle.word_writer.specs.Words.{tableOf, offsetAt, lengthAt, wordAt, PairIs}
+use Rattle.word_writer.proofs.ReadBack.{pair-from, word-from}
+use Rattle.tokens.specs.Tokens.{Token, afterWhitespace, afterRun, tokens, tokenParts}
+use Rattle.tokens.specs.Table.{tokenSize, recordOf, records, pairsJoined, TokensResult, tableCall}
 use Rattle.tokens.proofs.Forward.{firstSize, afterRun-drop, first-take, run-some, tokens-none, tokens-more, tokens-induct}
-use Rattle.tokens.proofs.Answers.{filled-accepted}
+use Rattle.tokens.proofs.Answers.{tokensCall-accepted}
 
 -- where a text's trailing whitespace starts
 pub last-white : (s : List ℕ) → all whitespace s ≡ true → afterLast nonWhitespace s ≡ 0
@@ -30,7 +30,7 @@ last-white s h = last-none nonWhitespace whitespace (λ b e. rw e) s h
 pub last-first : (s : List ℕ) → all whitespace s ≡ false → afterLast nonWhitespace s ≡ firstSize s + afterLast nonWhitespace (afterRun s)
 last-first s h =
     let r = run-some s h in
-    let e = last-span nonWhitespace (afterWhite s) in
+    let e = last-span nonWhitespace (afterWhitespace s) in
     let d = last-drop nonWhitespace s (span whitespace s) (omega arith) in
     omega arith
 
@@ -74,38 +74,38 @@ module _ (ws : List (List ℕ)) (u : List ℕ) (below : length (flatten ws) < 25
 -- ---- the tokens
 
 -- the parts of all tokens in their order
-abbrev pub partsOf : List Token → List (List ℕ)
-partsOf ts = flatMap parts ts
+abbrev pub allParts : List Token → List (List ℕ)
+allParts ts = flatMap tokenParts ts
 
 -- the parts of a text's tokens, joined, are the text less its trailing whitespace
-pub tokens-joined : (s : List ℕ) → flatten (partsOf (tokens s)) ≡ take (afterLast nonWhitespace s) s
+pub tokens-joined : (s : List ℕ) → flatten (allParts (tokens s)) ≡ take (afterLast nonWhitespace s) s
 unfolding flatMap flatten
 tokens-joined =
-    tokens-induct (λ s. flatten (partsOf (tokens s)) ≡ take (afterLast nonWhitespace s) s)
+    tokens-induct (λ s. flatten (allParts (tokens s)) ≡ take (afterLast nonWhitespace s) s)
     (λ s h. rw (tokens-none s h, last-white s h))
     (λ s h i.
     rw (tokens-more s h, last-first s h, take-add (firstSize s), ← afterRun-drop s, flatten-append, i)
     (ap (λ (x : List ℕ). x ++ take (afterLast nonWhitespace (afterRun s)) (afterRun s)) (first-take s)))
 
 -- the records are one table of all parts
-pub records-table : (at : ℕ) (ts : List Token) → records at ts ≡ tableOf at (partsOf ts)
+pub records-table : (at : ℕ) (ts : List Token) → records at ts ≡ tableOf at (allParts ts)
 unfolding records recordOf flatMap tableOf
 records-table at [] = refl
-records-table at (t ∷ ts) = rw (records-table (at + size t) ts) (sym (table-append at (parts t) (partsOf ts)))
+records-table at (t ∷ ts) = rw (records-table (at + tokenSize t) ts) (sym (table-append at (tokenParts t) (allParts ts)))
 
-parts-length : (ts : List Token) → length (partsOf ts) ≡ 4 * length ts
+parts-length : (ts : List Token) → length (allParts ts) ≡ 4 * length ts
 unfolding flatMap
 parts-length [] = refl
 parts-length (t ∷ ts) = omega (arith, parts-length ts)
 
 -- part j of token i among all parts
-parts-at : (ts : List Token) (none : Token) (i j : ℕ) → i < length ts → j < 4 → getD (partsOf ts) (4 * i + j) [] ≡ getD (parts (getD ts i none)) j []
+parts-at : (ts : List Token) (none : Token) (i j : ℕ) → i < length ts → j < 4 → getD (allParts ts) (4 * i + j) [] ≡ getD (tokenParts (getD ts i none)) j []
 unfolding flatMap
 parts-at [] none i j h k = absurd (omega arith)
-parts-at (t ∷ ts) none zero j h k = let e : 4 * 0 + j ≡ j = omega arith in rw e (List·getD-append (parts t) (partsOf ts) [] j k)
+parts-at (t ∷ ts) none zero j h k = let e : 4 * 0 + j ≡ j = omega arith in rw e (List·getD-append (tokenParts t) (allParts ts) [] j k)
 parts-at (t ∷ ts) none (suc i) j h k =
     let e : 4 * suc i + j ≡ 4 + (4 * i + j) = omega arith in
-    rw e (getD-append-add (parts t) (partsOf ts) (4 * i + j) [] ∙ parts-at ts none i j (omega arith) k)
+    rw e (getD-append-add (tokenParts t) (allParts ts) (4 * i + j) [] ∙ parts-at ts none i j (omega arith) k)
 
 -- ---- the table that an accepted call leaves, whatever stands past it
 
@@ -118,7 +118,7 @@ module _ (s old : List ℕ) (accepted : tableCall s old .refusal ≡ 0) where
   table = tableCall s old .value .buffer
 
   abbrev ws : List (List ℕ)
-  ws = partsOf (tokens s)
+  ws = allParts (tokens s)
 
   abbrev rest : List ℕ
   rest = drop (afterLast nonWhitespace s) s
@@ -128,20 +128,20 @@ module _ (s old : List ℕ) (accepted : tableCall s old .refusal ≡ 0) where
   whole = ap (λ (x : List ℕ). x ++ rest) (tokens-joined s) ∙ take-append-drop (afterLast nonWhitespace s) s
 
   short : length (flatten ws) < 256 ^ 4
-  short = let a = text-fit textLimit s (filled-accepted s _ old accepted .0) .short in omega (arith, sym (length-append (flatten ws) rest) ∙ ap length whole)
+  short = let a = text-valid textLimit s (tokensCall-accepted s _ old accepted .0) .within-limit in omega (arith, sym (length-append (flatten ws) rest) ∙ ap length whole)
 
   -- four pairs a token are the table of all parts
   count-is : 4 * count ≡ length ws
-  count-is = ap (λ (f : Filled). 4 * f .tokens) (filled-accepted s _ old accepted .1) ∙ sym (parts-length (tokens s))
+  count-is = ap (λ (f : TokensResult). 4 * f .tokens) (tokensCall-accepted s _ old accepted .1) ∙ sym (parts-length (tokens s))
 
   abbrev past : List ℕ
   past = drop (length (records 0 (tokens s))) old
 
   table-is : table ≡ tableOf 0 ws ++ past
-  table-is = ap (λ (f : Filled). f .buffer) (filled-accepted s _ old accepted .1) ∙ ap (λ (r : List ℕ). r ++ past) (records-table 0 (tokens s))
+  table-is = ap (λ (f : TokensResult). f .buffer) (tokensCall-accepted s _ old accepted .1) ∙ ap (λ (r : List ℕ). r ++ past) (records-table 0 (tokens s))
 
   -- part j of token i is in the text where its pair says
-  pub part-read : (none : Token) (i j : ℕ) → i < count → j < 4 → wordAt (4 * i + j) table s ≡ getD (parts (getD (tokens s) i none)) j []
+  pub part-read : (none : Token) (i j : ℕ) → i < count → j < 4 → wordAt (4 * i + j) table s ≡ getD (tokenParts (getD (tokens s) i none)) j []
   part-read none i j h k =
       ap₂ (λ (t r : List ℕ). wordAt (4 * i + j) t r) table-is (sym whole) ∙ word-from ws past rest (4 * i + j) (omega (arith, count-is)) short
       ∙ parts-at (tokens s) none i j (omega (arith, count-is, parts-length (tokens s))) k

@@ -7,10 +7,10 @@ use lib.ListN.{length, length-append}
 use lib.Seq.{sets}
 use Rattle.lists.specs.LittleEndian.{leBytes}
 use Rattle.lists.proofs.Sets.{sets-append}
-use Rattle.sink.specs.Sink.{pairOf}
-use Rattle.sink.specs.Words.{tableOf}
+use Rattle.word_writer.specs.Writer.{pairOf}
+use Rattle.word_writer.specs.Words.{tableOf}
 use Rattle.tokens.specs.Tokens.{Token}
-use Rattle.tokens.specs.Table.{recordOf, recordBytes, records, placesOf, recordAt, size}
+use Rattle.tokens.specs.Table.{recordOf, recordBytes, records, placesOf, recordAt, tokenSize}
 use Rattle.tokens.specs.declared.Places.{Places}
 use Rattle.tokens.proofs.Forward.{size-parts}
 
@@ -51,19 +51,19 @@ record-length at t = refl
 pub records-length : (at : ℕ) (ts : List Token) → length (records at ts) ≡ recordBytes * length ts
 unfolding records
 records-length at [] = refl
-records-length at (t ∷ ts) = length-append (recordOf at t) (records (at + size t) ts) ∙ omega (arith, record-length at t, records-length (at + size t) ts)
+records-length at (t ∷ ts) = length-append (recordOf at t) (records (at + tokenSize t) ts) ∙ omega (arith, record-length at t, records-length (at + tokenSize t) ts)
 
 -- a turn of the loop: the record of the first token is stored, those of the others are left
-pub records-turn : (l : List ℕ) (n at : ℕ) (t : Token) (ts us : List Token) (p : Places) → p ≡ placesOf at t → us ≡ t ∷ ts
+pub records-step : (l : List ℕ) (n at : ℕ) (t : Token) (ts us : List Token) (p : Places) → p ≡ placesOf at t → us ≡ t ∷ ts
     → {z : List ℕ} → sets l (recordBytes * n) (records at us) ≡ z → sets (sets l (recordBytes * n) (recordAt p)) (recordBytes * (n + 1)) (records (p .end) ts) ≡ z
 unfolding records
-records-turn l n at t ts us p e u k =
-    let f : p .end ≡ at + size t = ap (λ (q : Places). q .end) e ∙ omega (arith, size-parts t) in
+records-step l n at t ts us p e u k =
+    let f : p .end ≡ at + tokenSize t = ap (λ (q : Places). q .end) e ∙ omega (arith, size-parts t) in
     let g : recordAt p ≡ recordOf at t = ap recordAt e ∙ record-at at t in
     let h : recordBytes * n + length (recordOf at t) ≡ recordBytes * (n + 1) = omega (arith, record-length at t) in
     ap₂ (λ (r : List ℕ) (i : ℕ). sets (sets l (recordBytes * n) r) (recordBytes * (n + 1)) (records i ts)) g f
-    ∙ ap (λ (i : ℕ). sets (sets l (recordBytes * n) (recordOf at t)) i (records (at + size t) ts)) (sym h)
-    ∙ sym (sets-append l (recordBytes * n) (recordOf at t) (records (at + size t) ts)) ∙ ap (λ (vs : List Token). sets l (recordBytes * n) (records at vs)) (sym u) ∙ k
+    ∙ ap (λ (i : ℕ). sets (sets l (recordBytes * n) (recordOf at t)) i (records (at + tokenSize t) ts)) (sym h)
+    ∙ sym (sets-append l (recordBytes * n) (recordOf at t) (records (at + tokenSize t) ts)) ∙ ap (λ (vs : List Token). sets l (recordBytes * n) (records at vs)) (sym u) ∙ k
 
 -- nothing is left
 pub records-end : (l : List ℕ) (n at : ℕ) (us : List Token) → us ≡ [] → {z : List ℕ} → sets l (recordBytes * n) (records at us) ≡ z → l ≡ z

@@ -9,22 +9,22 @@ use lib.Dec.{eqb}
 use lib.ListN.{length, take, drop, length-drop, length-append, drop-of-length-le}
 use lib.Seq.{drop-drop, take-append-seam, drop-append-seam, length-take-le}
 use borrow.Author.Tests.{eq-eqb, ne-eqb}
-use Rattle.lists.specs.Bytes.{all, span, lead}
+use Rattle.lists.specs.Bytes.{all, span, takeWhile}
 use Rattle.lists.specs.Classes.{whitespace, nonWhitespace}
 use Rattle.lists.proofs.Scan.{span-le, span-full, all-span}
-use Rattle.tokens.specs.Tokens.{Token, afterWhite, afterRun, firstToken, tokens, parts}
-use Rattle.tokens.specs.Table.{size, placesOf, noneLeft}
+use Rattle.tokens.specs.Tokens.{Token, afterWhitespace, afterRun, firstToken, tokens, tokenParts}
+use Rattle.tokens.specs.Table.{tokenSize, placesOf, noneLeft}
 use Rattle.tokens.specs.declared.Places.{Places}
 use Rattle.tokens.proofs.Forward.{afterRun-less, tokens-none, tokens-more, afterRun-drop, first-size, first-joined, size-parts, cut-white}
 
 -- what follows the first token
-first-after : (s : List ℕ) → drop (size (firstToken s)) s ≡ afterRun s
+first-after : (s : List ℕ) → drop (tokenSize (firstToken s)) s ≡ afterRun s
 first-after s = ap (λ (k : ℕ). drop k s) (first-size s) ∙ sym (afterRun-drop s)
 
 -- its whitespace
 pub first-white : (s : List ℕ) → length (firstToken s .whitespace) ≡ span whitespace s
 first-white s =
-    ap (λ (t : Token). length (t .whitespace)) (cut-white (lead whitespace s) (lead nonWhitespace (afterWhite s)) (eqb (length (afterRun s)) 0))
+    ap (λ (t : Token). length (t .whitespace)) (cut-white (takeWhile whitespace s) (takeWhile nonWhitespace (afterWhitespace s)) (eqb (length (afterRun s)) 0))
     ∙ length-take-le (span whitespace s) s (span-le whitespace s)
 
 -- the text in its first token's parts
@@ -32,7 +32,7 @@ first-split : (s : List ℕ) → firstToken s .whitespace ++ (firstToken s .prep
 unfolding flatten
 first-split s =
     let t : Token = firstToken s in
-    let j : flatten (parts t) ++ afterRun s ≡ t .whitespace ++ (t .prepunctuation ++ (t .name ++ (t .punctuation ++ afterRun s))) =
+    let j : flatten (tokenParts t) ++ afterRun s ≡ t .whitespace ++ (t .prepunctuation ++ (t .name ++ (t .punctuation ++ afterRun s))) =
     simp (append-assoc, append-nil) refl in
     sym j ∙ first-joined s
 
@@ -61,7 +61,7 @@ module _ (s : List ℕ) (at : ℕ) (p : Places) (h : at ≤ length s) (e : p ≡
   white-end : p .prepunctuation ≡ at + span whitespace (drop at s)
   white-end = ap (λ (q : Places). q .prepunctuation) e ∙ ap (λ (k : ℕ). at + k) (first-white (drop at s))
 
-  end-at : p .end ≡ at + size (firstToken (drop at s))
+  end-at : p .end ≡ at + tokenSize (firstToken (drop at s))
   end-at = ap (λ (q : Places). q .end) e ∙ omega (arith, size-parts (firstToken (drop at s)))
 
   -- the parts of the token, as the code takes them from the text
@@ -107,9 +107,9 @@ module _ (s : List ℕ) (at : ℕ) (p : Places) (h : at ≤ length s) (e : p ≡
         let t : Token = firstToken (drop at s) in
         let m : all whitespace (drop at s) ≡ false = sym (test ∙ only-white) ∙ f in
         let a = afterRun-less (drop at s) m in
-        let b : size t + length (afterRun (drop at s)) ≡ length (drop at s) =
-        sym (length-append (flatten (parts t)) (afterRun (drop at s))) ∙ ap length (first-joined (drop at s)) in
-        let d : afterRun (drop at s) ≡ drop (p .end) s = sym (ap (λ (k : ℕ). drop k s) end-at ∙ sym (drop-drop (size t) at s) ∙ first-after (drop at s)) in
+        let b : tokenSize t + length (afterRun (drop at s)) ≡ length (drop at s) =
+        sym (length-append (flatten (tokenParts t)) (afterRun (drop at s))) ∙ ap length (first-joined (drop at s)) in
+        let d : afterRun (drop at s) ≡ drop (p .end) s = sym (ap (λ (k : ℕ). drop k s) end-at ∙ sym (drop-drop (tokenSize t) at s) ∙ first-after (drop at s)) in
         let n = length-drop at s in
         record {
           places = e;
@@ -131,7 +131,7 @@ tokens-past s at h = rw (drop-of-length-le s {i = at} h) (tokens-none [] refl)
 -- after n tokens those are left that follow the first `at` bytes
 pub record Left (s : List ℕ) (n at : ℕ) : Type 0 where
   pub within : at ≤ length s
-  pub few : n ≤ at
+  pub bounded : n ≤ at
   pub count : n + length (tokens (drop at s)) ≡ length (tokens s)
 
 -- none is left, and all are counted
@@ -141,7 +141,7 @@ pub record Done (s : List ℕ) (n at : ℕ) : Type 0 where
 
 -- at the start all are left
 pub left-all : {s : List ℕ} → Left s 0 0
-left-all {s} = record { within = omega arith; few = omega arith; count = zero-add _ }
+left-all {s} = record { within = omega arith; bounded = omega arith; count = zero-add _ }
 
 module _ {s : List ℕ} {n at : ℕ} (l : Left s n at) where
   -- where no token follows, all are counted
@@ -166,4 +166,4 @@ module _ {s : List ℕ} {n at : ℕ} (l : Left s n at) where
   left-on {p} next =
       let c : length (tokens (drop at s)) ≡ suc (length (tokens (drop (p .end) s))) = ap (λ (ts : List Token). length ts) (next .token) in
       let k = l .count in
-      record { within = next .within; few = omega (arith, l .few, next .on); count = omega arith }
+      record { within = next .within; bounded = omega (arith, l .bounded, next .on); count = omega arith }

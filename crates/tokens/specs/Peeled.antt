@@ -7,7 +7,7 @@ use Prim.Native.Nat.{ℕ, _-_, _<_}
 use lib.Dec.{eqb}
 use lib.ListN.{length, getD}
 use Rattle.lists.specs.Bytes.{all, afterLast}
-use Rattle.lists.specs.Classes.{whitespace, nonWhitespace, leadingMark, trailingMark}
+use Rattle.lists.specs.Classes.{whitespace, nonWhitespace, prepunctuationMark, postpunctuationMark}
 use Rattle.tokens.specs.Tokens.{Token}
 
 -- what follows a token's whitespace
@@ -20,14 +20,14 @@ pub record Peeled (ends : Bool) (t : Token) : Type 0 where
   pub white : all whitespace (t .whitespace) ≡ true
   pub run : (0 < length (runOf t)) × (all nonWhitespace (runOf t) ≡ true)
   -- "Leading marks from `PREPUNCTUATION` are its prepunctuation; trailing marks from `POSTPUNCTUATION` are peeled"
-  pub leading : all leadingMark (t .prepunctuation) ≡ true
-  pub trailing : all trailingMark (t .punctuation) ≡ true
+  pub leading : all prepunctuationMark (t .prepunctuation) ≡ true
+  pub trailing : all postpunctuationMark (t .punctuation) ≡ true
   -- "A run wholly of leading marks has an empty name if whitespace follows and is itself the name if the text ends there."
-  pub marks : all leadingMark (runOf t) ≡ true → (t .name ≡ cond ends (runOf t) []) × (t .punctuation ≡ [])
+  pub marks : all prepunctuationMark (runOf t) ≡ true → (t .name ≡ cond ends (runOf t) []) × (t .punctuation ≡ [])
   -- of another run no leading mark is left: "the first byte of what follows the prepunctuation always stays in the name"
-  pub first : all leadingMark (runOf t) ≡ false → (0 < length (t .name)) × (leadingMark (getD (t .name) 0 0) ≡ false)
+  pub first : all prepunctuationMark (runOf t) ≡ false → (0 < length (t .name)) × (prepunctuationMark (getD (t .name) 0 0) ≡ false)
   -- nor a trailing mark after that byte
-  pub last : all leadingMark (runOf t) ≡ false → 1 < length (t .name) → trailingMark (getD (t .name) (length (t .name) - 1) 0) ≡ false
+  pub last : all prepunctuationMark (runOf t) ≡ false → 1 < length (t .name) → postpunctuationMark (getD (t .name) (length (t .name) - 1) 0) ≡ false
 
 -- tokens one after the other, each but the first with whitespace before it; `ends` says that the text ends with the last one
 abbrev pub AllPeeled : Bool → List Token → Type 0

@@ -6,53 +6,53 @@ use mathlib.Core.List.{List, [], _∷_, _++_, flatten}
 use Prim.Native.Nat.{ℕ, zero, suc, _+_, _-_, _≤_}
 use lib.Dec.{eqb, ltb}
 use lib.ListN.{length}
-use Rattle.lists.specs.Bytes.{over}
-use Rattle.admit.specs.Refusals.{Test, _when_, firstDue, textLimit, textTests, Call, call}
+use Rattle.lists.specs.Bytes.{overwrite}
+use Rattle.admit.specs.Refusals.{Test, _when_, firstRefusal, textLimit, textTests, Call, call}
 use Rattle.admit.specs.declared.Refusal.the-variants.{BufferTooShort}
-use Rattle.sink.specs.Sink.{pairOf}
-use Rattle.sink.specs.Words.{tableOf, wordAt}
-use Rattle.tokens.specs.Tokens.{Token, cut, tokens, parts}
+use Rattle.word_writer.specs.Writer.{pairOf}
+use Rattle.word_writer.specs.Words.{tableOf, wordAt}
+use Rattle.tokens.specs.Tokens.{Token, cut, tokens, tokenParts}
 use Rattle.tokens.specs.declared.Tokens.{Tokens}
 use Rattle.tokens.specs.declared.Places.{Places}
 
 -- the bytes that a token takes of its text, from its whitespace to its punctuation
-abbrev pub size : Token → ℕ
-size t = length (flatten (parts t))
+abbrev pub tokenSize : Token → ℕ
+tokenSize t = length (flatten (tokenParts t))
 
 -- "A token is four pairs of offset and length, sorted by offset": the record of a token that starts at the offset `at`.
 -- "Each starts where the one before it ends, empty ones too."
 unfoldable pub recordOf : ℕ → Token → List ℕ
-recordOf at t = tableOf at (parts t)
+recordOf at t = tableOf at (tokenParts t)
 
 -- the records of tokens of which the first starts at the offset `at`
 unfoldable pub records : ℕ → List Token → List ℕ
 records at [] = []
-records at (t ∷ ts) = recordOf at t ++ records (at + size t) ts
+records at (t ∷ ts) = recordOf at t ++ records (at + tokenSize t) ts
 
 -- the count of tokens, and the buffer's final bytes
-pub record Filled : Type 0 where
+pub record TokensResult : Type 0 where
   pub tokens : ℕ
   pub buffer : List ℕ
 
 -- the tests of a call that is given the text s and writes `result` over `old`, in their order
-abbrev pub filledTests : List ℕ → List ℕ → List ℕ → List Test
-filledTests s result old = textTests textLimit (s ∷ []) ++ BufferTooShort when ltb (length old) (length result) ∷ []
+abbrev pub tokensTests : List ℕ → List ℕ → List ℕ → List Test
+tokensTests s result old = textTests textLimit (s ∷ []) ++ BufferTooShort when ltb (length old) (length result) ∷ []
 
 -- the call that is given the text s and writes `result` over `old`: "A refused call answers its number, with every count and
 -- value 0 .. and writes nothing"; "bytes past the result stay"
-unfoldable pub filledCall : List ℕ → List ℕ → List ℕ → Call Filled
-filledCall s result old =
+unfoldable pub tokensCall : List ℕ → List ℕ → List ℕ → Call TokensResult
+tokensCall s result old =
     call (record { tokens = 0; buffer = old })
-    (firstDue (filledTests s result old))
-    (record { tokens = length (tokens s); buffer = over result old })
+    (firstRefusal (tokensTests s result old))
+    (record { tokens = length (tokens s); buffer = overwrite result old })
 
 -- an answer, with the buffer as the call leaves it
-abbrev pub asFilled : Tokens → List ℕ → Call Filled
-asFilled r buffer = record { refusal = r .refusal; value = record { tokens = r .tokens; buffer = buffer } }
+abbrev pub asTokens : Tokens → List ℕ → Call TokensResult
+asTokens r buffer = record { refusal = r .refusal; value = record { tokens = r .tokens; buffer = buffer } }
 
 -- the call of `tokenize`, which writes the table over `old`
-abbrev pub tableCall : List ℕ → List ℕ → Call Filled
-tableCall s old = filledCall s (records 0 (tokens s)) old
+abbrev pub tableCall : List ℕ → List ℕ → Call TokensResult
+tableCall s old = tokensCall s (records 0 (tokens s)) old
 
 -- the parts of the text s that the first n pairs of a table name, joined
 abbrev pub pairsJoined : ℕ → List ℕ → List ℕ → List ℕ

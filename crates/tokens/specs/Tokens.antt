@@ -4,8 +4,8 @@ use mathlib.Core.List.{List, [], _∷_}
 use Prim.Native.Nat.{ℕ, suc}
 use lib.Dec.{eqb}
 use lib.ListN.{length, take, drop}
-use Rattle.lists.specs.Bytes.{all, lead, after, afterLast}
-use Rattle.lists.specs.Classes.{whitespace, nonWhitespace, leadingMark, unmarked}
+use Rattle.lists.specs.Bytes.{all, takeWhile, dropWhile, afterLast}
+use Rattle.lists.specs.Classes.{whitespace, nonWhitespace, prepunctuationMark, nonPostpunctuation}
 use Rattle.lists.specs.Recur.{recur}
 
 -- a token: "whitespace, prepunctuation, name, punctuation"
@@ -19,33 +19,33 @@ pub record Token : Type 0 where
 -- byte of what follows the prepunctuation always stays in the name"
 abbrev pub nameSize : List ℕ → ℕ
 nameSize [] = 0
-nameSize (b ∷ s) = suc (afterLast unmarked s)
+nameSize (b ∷ s) = suc (afterLast nonPostpunctuation s)
 
 -- "Leading marks from `PREPUNCTUATION` are its prepunctuation". In a run wholly of them nothing follows, so name and punctuation
 -- are empty
-abbrev pub marked : List ℕ → List ℕ → Token
-marked white run =
-    let rest : List ℕ = after leadingMark run in
-    record { whitespace = white; prepunctuation = lead leadingMark run; name = take (nameSize rest) rest; punctuation = drop (nameSize rest) rest }
+abbrev pub peel : List ℕ → List ℕ → Token
+peel white run =
+    let rest : List ℕ = dropWhile prepunctuationMark run in
+    record { whitespace = white; prepunctuation = takeWhile prepunctuationMark run; name = take (nameSize rest) rest; punctuation = drop (nameSize rest) rest }
 
 -- a run of other bytes, after its whitespace: "A run wholly of leading marks has an empty name if whitespace follows and is
 -- itself the name if the text ends there."
 unfoldable pub cut : List ℕ → List ℕ → Bool → Token
 cut white run ends =
-    cond (ends && all leadingMark run)
+    cond (ends && all prepunctuationMark run)
     (record { whitespace = white; prepunctuation = []; name = run; punctuation = [] })
-    (marked white run)
+    (peel white run)
 
 -- the text after the whitespace at its front, and after the run that follows
-abbrev pub afterWhite : List ℕ → List ℕ
-afterWhite s = after whitespace s
+abbrev pub afterWhitespace : List ℕ → List ℕ
+afterWhitespace s = dropWhile whitespace s
 
 abbrev pub afterRun : List ℕ → List ℕ
-afterRun s = after nonWhitespace (afterWhite s)
+afterRun s = dropWhile nonWhitespace (afterWhitespace s)
 
 -- the first token of a text; where it has none, all of it as whitespace and three empty parts
 abbrev pub firstToken : List ℕ → Token
-firstToken s = cut (lead whitespace s) (lead nonWhitespace (afterWhite s)) (eqb (length (afterRun s)) 0)
+firstToken s = cut (takeWhile whitespace s) (takeWhile nonWhitespace (afterWhitespace s)) (eqb (length (afterRun s)) 0)
 
 -- "Each maximal run of other bytes is one token."
 unfoldable pub tokensStep : (List ℕ → List Token) → List ℕ → List Token
@@ -55,5 +55,5 @@ unfoldable pub tokens : List ℕ → List Token
 tokens = recur [] tokensStep
 
 -- a token's four parts in their order
-abbrev pub parts : Token → List (List ℕ)
-parts t = t .whitespace ∷ t .prepunctuation ∷ t .name ∷ t .punctuation ∷ []
+abbrev pub tokenParts : Token → List (List ℕ)
+tokenParts t = t .whitespace ∷ t .prepunctuation ∷ t .name ∷ t .punctuation ∷ []

@@ -1,28 +1,28 @@
 // Tokens of a text, as `tokenize` of text.rs gives them: where each one's parts are, how many there are, and their table.
 use admit::Refusal;
 use admit::refusal_of;
-use lists::LEADING_MARK;
+use lists::NON_POSTPUNCTUATION;
 use lists::NON_WHITESPACE;
-use lists::UNMARKED;
+use lists::PREPUNCTUATION;
 use lists::WHITESPACE;
 use lists::after_last;
 use lists::in_class;
-use lists::minus;
+use lists::one_if;
 use lists::part;
+use lists::saturating_sub;
 use lists::span_of;
 use lists::tail;
-use lists::tally;
-use sink::PAIR;
-use sink::put_pair_at;
+use word_writer::PAIR_BYTES;
+use word_writer::put_pair_at;
 ghost use mathlib.Core.Path.{_≡_};
 ghost use Prim.Native.Nat.{_+_, _*_, _≤_};
 ghost use lib.Dec.{ltb};
 ghost use lib.ListN.{length, drop};
 ghost use lib.Seq.{sets};
 ghost use Rattle.lists.specs.Bytes.{span};
-ghost use Rattle.lists.specs.Classes.{leadingMark};
+ghost use Rattle.lists.specs.Classes.{prepunctuationMark};
 ghost use Rattle.tokens.specs.Tokens.{tokens, firstToken};
-ghost use Rattle.tokens.specs.Table.{recordBytes, records, filledCall, asFilled, placesOf, noneLeft, recordAt, CutAt};
+ghost use Rattle.tokens.specs.Table.{recordBytes, records, tokensCall, asTokens, placesOf, noneLeft, recordAt, CutAt};
 
 // The bytes of a token's record in the table.
 const RECORD_BYTES: usize = 32;
@@ -60,7 +60,7 @@ pub struct Tokens {
 
 // The run, which has so many leading marks, cut into its parts; `ends` says that the text ends with it.
 fn cut_run(run: &[u8], marks: usize, ends: bool) -> Cut
-    requires { ⌜ marks ≡ span leadingMark (now run) ⌝ }
+    requires { ⌜ marks ≡ span prepunctuationMark (now run) ⌝ }
     ensures { λ r. ⌜ CutAt (now (run .entry)) ends (r .name) (r .punctuation) ⌝ }
 {
     if marks == run.len() {
@@ -78,7 +78,7 @@ fn cut_run(run: &[u8], marks: usize, ends: bool) -> Cut
     let name = marks + 1;
     Cut {
         name: marks,
-        punctuation: name + after_last(UNMARKED, 0, tail(run, name)),
+        punctuation: name + after_last(NON_POSTPUNCTUATION, 0, tail(run, name)),
     }
 }
 
@@ -87,7 +87,7 @@ pub fn token_at(s: &[u8], at: usize) -> Places
     ensures { λ r. ⌜ r ≡ placesOf at (firstToken (drop at (now (s .entry)))) ⌝ }
 {
     let start = at + span_of(WHITESPACE, 0, tail(s, at));
-    let marks = span_of(LEADING_MARK, 0, tail(s, start));
+    let marks = span_of(PREPUNCTUATION, 0, tail(s, start));
     let first = start + marks;
     let end = first + span_of(NON_WHITESPACE, 0, tail(s, first));
     let run = cut_run(part(s, start, end), marks, s.len() <= end);
@@ -109,7 +109,7 @@ fn count_tokens(s: &[u8]) -> usize
     let mut i = 0;
     while i < s.len() {
         let next = in_class(WHITESPACE, 0, s[i]);
-        n += tally(white & !next);
+        n += one_if(white & !next);
         white = next;
         i += 1;
     }
@@ -117,7 +117,7 @@ fn count_tokens(s: &[u8]) -> usize
 }
 
 // Whether s has more than n tokens. At most every second byte starts one, so where there is ample room nothing is counted.
-pub fn exceeds(s: &[u8], n: usize) -> bool
+pub fn has_more_tokens(s: &[u8], n: usize) -> bool
     ensures { λ r. ⌜ r ≡ ltb n (length (tokens (now (s .entry)))) ⌝ }
 {
     if s.len() / 2 < n {
@@ -135,25 +135,25 @@ fn put_record(table: &mut [u8], place: usize, t: Places)
         table,
         place,
         t.whitespace,
-        minus(t.prepunctuation, t.whitespace),
+        saturating_sub(t.prepunctuation, t.whitespace),
     );
     put_pair_at(
         table,
-        place + PAIR,
+        place + PAIR_BYTES,
         t.prepunctuation,
-        minus(t.name, t.prepunctuation),
+        saturating_sub(t.name, t.prepunctuation),
     );
     put_pair_at(
         table,
-        place + 2 * PAIR,
+        place + 2 * PAIR_BYTES,
         t.name,
-        minus(t.punctuation, t.name),
+        saturating_sub(t.punctuation, t.name),
     );
     put_pair_at(
         table,
-        place + 3 * PAIR,
+        place + 3 * PAIR_BYTES,
         t.punctuation,
-        minus(t.end, t.punctuation),
+        saturating_sub(t.end, t.punctuation),
     );
 }
 
@@ -178,13 +178,13 @@ fn write_records(s: &[u8], table: &mut [u8]) -> usize
 
 // The table of the tokens of s.
 pub fn tokenize(s: &[u8], table: &mut [u8]) -> Tokens
-    ensures { λ r. ⌜ asFilled r (now (table .exit)) ≡ filledCall (now (s .entry)) (records 0 (tokens (now (s .entry)))) (now (table .entry)) ⌝ }
+    ensures { λ r. ⌜ asTokens r (now (table .exit)) ≡ tokensCall (now (s .entry)) (records 0 (tokens (now (s .entry)))) (now (table .entry)) ⌝ }
 {
     let refusal = refusal_of(s);
     if refusal != 0 {
         return Tokens { refusal, tokens: 0 };
     }
-    if exceeds(s, table.len() / RECORD_BYTES) {
+    if has_more_tokens(s, table.len() / RECORD_BYTES) {
         return Tokens {
             refusal: Refusal::BufferTooShort.number(),
             tokens: 0,

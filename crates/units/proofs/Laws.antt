@@ -14,9 +14,9 @@ use Rattle.lists.specs.Bytes.{all, any, same, sameBy, listed}
 use Rattle.lists.specs.LittleEndian.{leValue}
 use Rattle.lists.proofs.Scan.{same-long}
 use Rattle.lists.proofs.Table.{below, same-true}
-use Rattle.lexicon.specs.Lexicon.{wordOf}
-use Rattle.lexicon.proofs.Laws.{lexicon}
-use Rattle.units.specs.Units.{unitAbbreviations, abbreviations, unitWords, before, unitIndex, isUnit, unitWord, unitKey, unitKeys, wordNumbers}
+use Rattle.vocabulary.specs.Vocabulary.{wordOf}
+use Rattle.vocabulary.proofs.Laws.{unfoldVocabulary}
+use Rattle.units.specs.Units.{unitAbbreviations, abbreviations, unitWords, indexOf, unitIndex, isUnit, unitWord, unitKey, unitKeys, wordNumbers}
 
 -- two numbers of a lowest digit and a rest are equal where both parts are
 digit-same : (n b c v w : ℕ) → b < n → c < n → eqb (b + n * v) (c + n * w) ≡ eqb b c && eqb v w
@@ -79,53 +79,53 @@ unfolding unitKey
 key-long u h = rw (lt-leb (length u) 3 h)
 
 -- each abbreviation has 1 to 3 bytes
-fine : ℕ → Bool
-fine k = let a = getD abbreviations k [] in leb 1 (length a) && leb (length a) 3 && bytesb a
+hasShortKey : ℕ → Bool
+hasShortKey k = let a = getD abbreviations k [] in leb 1 (length a) && leb (length a) 3 && bytesb a
 
 -- the key of row k tells whether its abbreviation is u
-row-same : (u : List ℕ) (k : ℕ) → Bytes u → k < 22 → eqb (getD unitKeys k 0) (unitKey u) ≡ same (getD abbreviations k []) u
-unfolding fine abbreviations unitAbbreviations unitKeys unitKey leValue all
-row-same u k b h =
+unit-key-same : (u : List ℕ) (k : ℕ) → Bytes u → k < 22 → eqb (getD unitKeys k 0) (unitKey u) ≡ same (getD abbreviations k []) u
+unfolding hasShortKey abbreviations unitAbbreviations unitKeys unitKey leValue all
+unit-key-same u k b h =
     let a = getD abbreviations k [] in
-    let y = and-eq-true-iff (leb 1 (length a) && leb (length a) 3) (bytesb a) .0 (below fine 22 refl k h) in
+    let y = and-eq-true-iff (leb 1 (length a) && leb (length a) 3) (bytesb a) .0 (below hasShortKey 22 refl k h) in
     let z = and-eq-true-iff (leb 1 (length a)) (leb (length a) 3) .0 (y .0) in
     rw (List·getD-map unitKey abbreviations k []) (key-same a u (leb-true _ _ (z .0)) (leb-true _ _ (z .1)) (y .1) b)
 
 -- row k's word is the lexicon's of its number
-worded : ℕ → Bool
-worded k = same (wordOf (getD wordNumbers k 0)) (getD unitWords k [])
+hasWord : ℕ → Bool
+hasWord k = same (wordOf (getD wordNumbers k 0)) (getD unitWords k [])
 
-pub word-row : (k : ℕ) → k < 22 → wordOf (getD wordNumbers k 0) ≡ getD unitWords k []
-unfolding worded lexicon wordNumbers before unitWords unitAbbreviations
-word-row k h = same-true _ _ (below worded 22 refl k h)
+pub unit-word-number : (k : ℕ) → k < 22 → wordOf (getD wordNumbers k 0) ≡ getD unitWords k []
+unfolding hasWord unfoldVocabulary wordNumbers indexOf unitWords unitAbbreviations
+unit-word-number k h = same-true _ _ (below hasWord 22 refl k h)
 
-named : length abbreviations ≡ 22
+abbreviations-length : length abbreviations ≡ 22
 unfolding abbreviations unitAbbreviations
-named = refl
+abbreviations-length = refl
 
 -- the look-up from row k on: this row, or those after it
 pub index-more : (u : List ℕ) (k : ℕ) → Bytes u → k < 22
-    → before u (drop k abbreviations) ≡ cond (eqb (getD unitKeys k 0) (unitKey u)) 0 (suc (before u (drop (k + 1) abbreviations)))
-unfolding before
-index-more u k b h = rw (row-same u k b h, add-one, drop-cons abbreviations k [] (rw named h))
+    → indexOf u (drop k abbreviations) ≡ cond (eqb (getD unitKeys k 0) (unitKey u)) 0 (suc (indexOf u (drop (k + 1) abbreviations)))
+unfolding indexOf
+index-more u k b h = rw (unit-key-same u k b h, add-one, drop-cons abbreviations k [] (rw abbreviations-length h))
 
-pub index-end : (u : List ℕ) (k : ℕ) → 22 ≤ k → before u (drop k abbreviations) ≡ 0
-unfolding before
-index-end u k h = rw (drop-of-length-le abbreviations {i = k} (rw named h))
+pub index-end : (u : List ℕ) (k : ℕ) → 22 ≤ k → indexOf u (drop k abbreviations) ≡ 0
+unfolding indexOf
+index-end u k h = rw (drop-of-length-le abbreviations {i = k} (rw abbreviations-length h))
 
 -- a text is one of those listed where fewer than all stand before it
-pub listed-before : (t : List ℕ) (ss : List (List ℕ)) → listed t ss ≡ ltb (before t ss) (length ss)
-unfolding any before
-listed-before t [] = refl
-listed-before t (s ∷ ss) = go (same s t) (listed-before t ss)
+pub listed-indexOf : (t : List ℕ) (ss : List (List ℕ)) → listed t ss ≡ ltb (indexOf t ss) (length ss)
+unfolding any indexOf
+listed-indexOf t [] = refl
+listed-indexOf t (s ∷ ss) = go (same s t) (listed-indexOf t ss)
   where
-    go : (b : Bool) → listed t ss ≡ ltb (before t ss) (length ss) → (b || listed t ss) ≡ ltb (cond b 0 (suc (before t ss))) (suc (length ss))
+    go : (b : Bool) → listed t ss ≡ ltb (indexOf t ss) (length ss) → (b || listed t ss) ≡ ltb (cond b 0 (suc (indexOf t ss))) (suc (length ss))
     go true h = sym (lt-ltb 0 (suc (length ss)) (omega arith))
-    go false h = h ∙ sym (leb·suc-suc (suc (before t ss)) (length ss))
+    go false h = h ∙ sym (leb·suc-suc (suc (indexOf t ss)) (length ss))
 
 -- a unit is a row of the table
 pub unit-in-table : (u : List ℕ) → isUnit u ≡ ltb (unitIndex u) 22
-unit-in-table u = listed-before u abbreviations ∙ ap (ltb (unitIndex u)) named
+unit-in-table u = listed-indexOf u abbreviations ∙ ap (ltb (unitIndex u)) abbreviations-length
 
 -- no abbreviation is empty
 pub empty-none : isUnit [] ≡ false

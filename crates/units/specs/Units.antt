@@ -7,17 +7,17 @@ use lib.Dec.{leb}
 use lib.ListN.{length, getD}
 use Rattle.lists.specs.Bytes.{bytes, same, listed}
 use Rattle.lists.specs.LittleEndian.{leValue}
-use Rattle.lexicon.specs.Lexicon.{words}
+use Rattle.vocabulary.specs.Vocabulary.{vocabulary}
 
 -- a row of the table
-pub record UnitRow : Type 0 where
+pub record UnitAbbreviation : Type 0 where
   pub abbreviation : List ℕ
   pub word : List ℕ
 
-abbrev pub unit : String → String → UnitRow
+abbrev pub unit : String → String → UnitAbbreviation
 unit a w = record { abbreviation = bytes a; word = bytes w }
 
-unfoldable pub unitAbbreviations : List UnitRow
+unfoldable pub unitAbbreviations : List UnitAbbreviation
 unitAbbreviations =
     unit "LB" "pounds" ∷ unit "LBS" "pounds" ∷ unit "lb" "pounds" ∷ unit "lbs" "pounds"
     ∷ unit "ft" "feet" ∷ unit "FT" "feet" ∷ unit "kg" "kilograms" ∷ unit "km" "kilometers"
@@ -28,19 +28,19 @@ unitAbbreviations =
 
 -- the two columns
 unfoldable pub abbreviations : List (List ℕ)
-abbreviations = map (λ (r : UnitRow). r .abbreviation) unitAbbreviations
+abbreviations = map (λ (r : UnitAbbreviation). r .abbreviation) unitAbbreviations
 
 unfoldable pub unitWords : List (List ℕ)
-unitWords = map (λ (r : UnitRow). r .word) unitAbbreviations
+unitWords = map (λ (r : UnitAbbreviation). r .word) unitAbbreviations
 
 -- how many texts stand before the first that is t
-unfoldable pub before : List ℕ → List (List ℕ) → ℕ
-before t [] = 0
-before t (s ∷ ss) = cond (same s t) 0 (suc (before t ss))
+unfoldable pub indexOf : List ℕ → List (List ℕ) → ℕ
+indexOf t [] = 0
+indexOf t (s ∷ ss) = cond (same s t) 0 (suc (indexOf t ss))
 
 -- the number of the first row whose abbreviation is u, the table's length where there is none
 abbrev pub unitIndex : List ℕ → ℕ
-unitIndex u = before u abbreviations
+unitIndex u = indexOf u abbreviations
 
 -- some row's abbreviation is u
 abbrev pub isUnit : List ℕ → Bool
@@ -62,4 +62,4 @@ unitKeys = map unitKey abbreviations
 
 -- the words as the code holds them: their numbers in the lexicon
 unfoldable pub wordNumbers : List ℕ
-wordNumbers = map (λ (w : List ℕ). before w words) unitWords
+wordNumbers = map (λ (w : List ℕ). indexOf w vocabulary) unitWords

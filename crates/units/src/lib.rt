@@ -5,7 +5,7 @@ ghost use lib.ListN.{getD};
 ghost use Rattle.units.specs.Units.{unitIndex, unitKey, unitKeys, wordNumbers};
 
 // The rows of the table.
-pub const UNITS: u8 = 22;
+pub const UNIT_COUNT: u8 = 22;
 
 // The key of each row's abbreviation.
 fn unit_keys() -> [u32; 22]
@@ -57,13 +57,13 @@ pub fn unit_index(u: &[u8]) -> u8
     let keys = unit_keys();
     let key = unit_key(u);
     let mut k: u8 = 0;
-    while k < UNITS {
+    while k < UNIT_COUNT {
         if keys[k as usize] == key {
             return k;
         }
         k += 1;
     }
-    UNITS
+    UNIT_COUNT
 }
 
 // The number, in the lexicon, of row k's word; 0 where there is no row k. Rows 0 to 3 share a word, and so do 4 and 5, and

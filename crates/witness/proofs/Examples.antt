@@ -3,31 +3,31 @@ use mathlib.Core.Path.{_≡_, refl}
 use mathlib.Core.List.{List, [], _∷_, flatten}
 use Prim.Native.String.{String}
 use mathlib.Core.Bool.{Bool, true}
-use Rattle.lists.specs.Bytes.{bytes, same, sameBy, split, onto, filled, span, keep, all, any, afterLast, count}
+use Rattle.lists.specs.Bytes.{bytes, same, sameBy, split, onto, nonEmpty, span, filterb, all, any, afterLast, countb}
 use Rattle.lists.specs.Recur.{recur, recurAt}
-use Rattle.lexicon.proofs.Laws.{lexicon}
-use Rattle.units.specs.Units.{unitAbbreviations, abbreviations, unitWords, before}
+use Rattle.vocabulary.proofs.Laws.{unfoldVocabulary}
+use Rattle.units.specs.Units.{unitAbbreviations, abbreviations, unitWords, indexOf}
 use Rattle.shapes.specs.Shapes.{isDigits, isAlpha, splitOnce, isHourMinute, isDottedAbbrev, isCommaGroups, isExponent, isUnsigned, isOrdinal, hasUnit}
 use Rattle.shapes.specs.Times.{timeParts}
 use Rattle.numerals.specs.Words.{spell, spelled}
-use Rattle.numerals.specs.Cardinal.{clean, pair, join, byScale, cardinalStep, cardinalFew, cardinalOf, cardinal, digits}
+use Rattle.numerals.specs.Cardinal.{digitValues, pairWords, joinAtScale, byScale, cardinalStep, shortCardinal, cardinalOf, cardinal, digits}
 use Rattle.numerals.specs.Ordinal.{formIn, ordinalForm, orZero, onLast, ordinal}
 use Rattle.years.specs.Year.{yearStep, yearOf, year}
 use Rattle.reals.specs.Real.{pointed, realStep, real}
 use Rattle.letters.specs.Letters.{letterWord, chars, letters}
 use Rattle.rows.specs.Rows.{clock, clockLetters, readStep, readWith}
 use Rattle.tokens.specs.Tokens.{cut, tokensStep, tokens}
-use Rattle.sentences.specs.Sentences.{starts, startsAfter, breakAfter}
-use Rattle.sheets.specs.Sheet.{entriesOf, spaced, lineOf, callSheet}
+use Rattle.sentences.specs.Sentences.{sentenceStarts, sentenceStartsAfter, breakAfter}
+use Rattle.call_spec.specs.Sheet.{entriesOf, spacedWords, lineOf, callSheet}
 
 -- a sheet, and its call sheet
 infix 70 _calls_
-pub data Called : Type 0 where
-  _calls_ : String → String → Called
+pub data CallExample : Type 0 where
+  _calls_ : String → String → CallExample
 
 -- 01's own sheet; sentences that end and do not; a name for most rows
-unfoldable pub examples : List Called
-examples =
+unfoldable pub callExamples : List CallExample
+callExamples =
     "Bar 12 at 9:30. Rack 5mm (21st)\n"
     calls "+ bar\n- twelve\n- at\n- nine thirty\n+ rack\n- five millimeters\n- twenty first\n"
     ∷ "Yahoo! is\nNote: me? a\n\nb Abcd. Who Dr. Who Abc.  Who Yahoo!\n\nis"
@@ -36,9 +36,9 @@ examples =
     calls "+ _a b\n- one thousand two hundred\n- nine\n- nine p m\n- zero zero seven\n- one point five e three\n- minus two\n- five per cent\n- five kilograms\n- three pounds\n"
     ∷ []
 
-unfoldable pub holds : Called → Bool
-holds (s calls t) = same (callSheet (bytes s)) (bytes t)
+unfoldable pub exampleHolds : CallExample → Bool
+exampleHolds (s calls t) = same (callSheet (bytes s)) (bytes t)
 
-pub examples-hold : all holds examples ≡ true
-unfolding examples holds sameBy split onto filled span keep all any afterLast count recur recurAt lexicon unitAbbreviations abbreviations unitWords before isDigits isAlpha isOrdinal splitOnce isHourMinute isDottedAbbrev isCommaGroups isExponent isUnsigned hasUnit timeParts spell spelled clean pair join byScale cardinalStep cardinalFew cardinalOf cardinal digits formIn ordinalForm orZero onLast ordinal yearStep yearOf year pointed realStep real letterWord chars letters clock clockLetters readStep readWith cut tokensStep tokens starts startsAfter breakAfter entriesOf spaced lineOf flatten
-examples-hold = refl
+pub call-examples-hold : all exampleHolds callExamples ≡ true
+unfolding callExamples exampleHolds sameBy split onto nonEmpty span filterb all any afterLast countb recur recurAt unfoldVocabulary unitAbbreviations abbreviations unitWords indexOf isDigits isAlpha isOrdinal splitOnce isHourMinute isDottedAbbrev isCommaGroups isExponent isUnsigned hasUnit timeParts spell spelled digitValues pairWords joinAtScale byScale cardinalStep shortCardinal cardinalOf cardinal digits formIn ordinalForm orZero onLast ordinal yearStep yearOf year pointed realStep real letterWord chars letters clock clockLetters readStep readWith cut tokensStep tokens sentenceStarts sentenceStartsAfter breakAfter entriesOf spacedWords lineOf flatten
+call-examples-hold = refl

@@ -6,31 +6,31 @@ use Prim.Native.Nat.{ℕ}
 use Rattle.lists.specs.Bytes.{bytes, sameBy, split, onto, span, all, any, afterLast}
 use Rattle.lists.specs.Recur.{recur, recurAt}
 use Rattle.lists.proofs.Every.{every-tested}
-use Rattle.admit.specs.Utf8.{utf8, utf8Step, charBytes}
+use Rattle.admit.specs.Utf8.{utf8, utf8Step, sequenceLen}
 use Rattle.admit.specs.Refusals.{textTests}
-use Rattle.units.specs.Units.{unitAbbreviations, abbreviations, unitWords, before}
-use Rattle.lexicon.specs.Lexicon.{ones, teens, tens, ordinalOnes, ordinalTeens, ordinalTens}
+use Rattle.units.specs.Units.{unitAbbreviations, abbreviations, unitWords, indexOf}
+use Rattle.vocabulary.specs.Vocabulary.{ones, teens, tens, ordinalOnes, ordinalTeens, ordinalTens}
 use Rattle.shapes.specs.Shapes.{isDigits, isAlpha, splitOnce, isHourMinute, isDottedAbbrev}
 use Rattle.tokens.specs.Tokens.{cut, tokensStep, tokens}
-use Rattle.sentences.specs.Sentences.{starts, startsAfter, breakAfter}
-use Rattle.sheets.specs.Sheet.{entriesOf}
-use Rattle.sheets.specs.Calls.{Accepted}
+use Rattle.sentences.specs.Sentences.{sentenceStarts, sentenceStartsAfter, breakAfter}
+use Rattle.call_spec.specs.Sheet.{entriesOf}
+use Rattle.call_spec.specs.Calls.{AcceptedSheet}
 use Rattle.clear.specs.Clear.{suffix, tableWords, Clear}
 use Rattle.clear.specs.Test.{isExponentClear, isFractionClear, isFigureClear, isClear}
 use Rattle.clear.proofs.Tested.{test-clear}
-use Rattle.hearing.specs.Sheets.{names, AllClear}
+use Rattle.decoder.specs.Sheets.{names, AllClear}
 
 -- the kinds of 01's list, and both kinds that may end in %, with it
-unfoldable pub sheet : List ℕ
-sheet = bytes "rack 12 -1.50e+3 007% -2.5% 9:30 9:00am 21st 5mm A.B"
+unfoldable pub witnessSheet : List ℕ
+witnessSheet = bytes "rack 12 -1.50e+3 007% -2.5% 9:30 9:00am 21st 5mm A.B"
 
-pub accepted : Accepted sheet
-unfolding sheet recur recurAt span all afterLast cut tokensStep tokens starts startsAfter breakAfter entriesOf any textTests utf8 utf8Step charBytes
-accepted = refl
+pub witness-accepted : AcceptedSheet witnessSheet
+unfolding witnessSheet recur recurAt span all afterLast cut tokensStep tokens sentenceStarts sentenceStartsAfter breakAfter entriesOf any textTests utf8 utf8Step sequenceLen
+witness-accepted = refl
 
-passes : all isClear (names sheet) ≡ true
-unfolding sheet recur recurAt span all afterLast any cut tokensStep tokens isClear isExponentClear isFractionClear isFigureClear suffix tableWords before unitAbbreviations abbreviations unitWords sameBy split onto isDigits isAlpha splitOnce isHourMinute isDottedAbbrev ones teens tens ordinalOnes ordinalTeens ordinalTens
-passes = refl
+witness-passes : all isClear (names witnessSheet) ≡ true
+unfolding witnessSheet recur recurAt span all afterLast any cut tokensStep tokens isClear isExponentClear isFractionClear isFigureClear suffix tableWords indexOf unitAbbreviations abbreviations unitWords sameBy split onto isDigits isAlpha splitOnce isHourMinute isDottedAbbrev ones teens tens ordinalOnes ordinalTeens ordinalTens
+witness-passes = refl
 
-pub all-clear : AllClear (names sheet)
-all-clear = every-tested isClear Clear test-clear (names sheet) passes
+pub witness-clear : AllClear (names witnessSheet)
+witness-clear = every-tested isClear Clear test-clear (names witnessSheet) witness-passes

@@ -7,23 +7,23 @@ use lib.Dec.{leb, eqb}
 use lib.ListN.{length}
 use Rattle.lists.proofs.Recursion.{recur-induct, cond-elim}
 use Rattle.numerals.specs.Words.{Word, hundred, spell}
-use Rattle.numerals.specs.Cardinal.{clean, cardinalOf}
-use Rattle.numerals.specs.Walk.{Digits}
-use Rattle.numerals.proofs.Vocabulary.{clean-digits}
-use Rattle.numerals.proofs.Room.{Number, together, one-room, two-room, hundred-room, cardinalOf-room, clean-le, ones-room}
+use Rattle.numerals.specs.Cardinal.{digitValues, cardinalOf}
+use Rattle.numerals.specs.Walk.{BelowTen}
+use Rattle.numerals.proofs.NumberWords.{digitValues-below-ten}
+use Rattle.numerals.proofs.Room.{RoomForNumber, together, one-room, two-room, hundred-room, cardinalOf-room, digitValues-le, ones-room}
 use Rattle.years.specs.Year.{zeroAt, yearStep, yearOf, year}
 
-abbrev Years : List ℕ → List Word → Type 0
-Years s ws = Digits s → Number (length s) ws
+abbrev RoomForYear : List ℕ → List Word → Type 0
+RoomForYear s ws = BelowTen s → RoomForNumber (length s) ws
 
-year-step : (f : List ℕ → List Word) (s : List ℕ) → ((t : List ℕ) → length t < length s → Years t (f t)) → Years s (yearStep f s)
+yearStep-room : (f : List ℕ → List Word) (s : List ℕ) → ((t : List ℕ) → length t < length s → RoomForYear t (f t)) → RoomForYear s (yearStep f s)
 unfolding yearStep spell
-year-step f [] h d = cardinalOf-room [] d
-year-step f (a ∷ []) h d = cardinalOf-room (a ∷ []) d
-year-step f (a ∷ b ∷ s) h d =
+yearStep-room f [] h d = cardinalOf-room [] d
+yearStep-room f (a ∷ []) h d = cardinalOf-room (a ∷ []) d
+yearStep-room f (a ∷ b ∷ s) h d =
     let t = a ∷ b ∷ s in
     let n = length t in
-    let P = Number n in
+    let P = RoomForNumber n in
     let first = one-room a (d .0) in
     let zero = one-room 0 (omega arith) in
     let pair = cardinalOf (a ∷ b ∷ []) in
@@ -38,6 +38,6 @@ year-step f (a ∷ b ∷ s) h d =
     cond-elim P (leb n 2) (λ e. all) (λ e.
     cond-elim P (eqb (n % 2) 1) (λ e. omega (arith, h (b ∷ s) (omega arith) (d .1))) (λ e. omega (arith, h s (omega arith) (d .1 .1), together pair (f s)))))))))
 
-pub year-room : (s : List ℕ) → Number (length s) (year s)
+pub year-room : (s : List ℕ) → RoomForNumber (length s) (year s)
 unfolding year yearOf
-year-room s = omega (arith, recur-induct Years [] yearStep year-step (clean s) (clean-digits s), clean-le s)
+year-room s = omega (arith, recur-induct RoomForYear [] yearStep yearStep-room (digitValues s) (digitValues-below-ten s), digitValues-le s)

@@ -9,53 +9,53 @@ use lib.Dec.{leb, eqb}
 use lib.ListN.{length, take, drop, getD, length-drop, drop-of-length-le, List·getD-eq-default}
 use lib.Seq.{getD-drop, drop-drop}
 use borrow.Author.Tests.{ne-eqb, lt-leb, leb-false, eqb-true, eqb-false}
-use Rattle.lists.specs.Bytes.{bytes, span, count, keep}
+use Rattle.lists.specs.Bytes.{bytes, span, countb, filterb}
 use Rattle.lists.specs.Classes.{digit, nonDigit}
 use Rattle.lists.proofs.Recursion.{Local, recur-eq}
 use Rattle.lists.proofs.Scan.{span-le}
-use Rattle.lexicon.specs.Lexicon.{wordOf, othersAt}
-use Rattle.lexicon.proofs.Laws.{lexicon}
+use Rattle.vocabulary.specs.Vocabulary.{wordOf, othersAt}
+use Rattle.vocabulary.proofs.Laws.{unfoldVocabulary}
 use Rattle.numerals.specs.Words.{Word, one, hundred, other, spelled}
-use Rattle.numerals.specs.Cardinal.{digitValue, clean, pair, cardinalFew, cardinalOf}
-use Rattle.numerals.specs.Walk.{Digits, fewOf}
-use Rattle.numerals.specs.declared.few.Few.{Few}
+use Rattle.numerals.specs.Cardinal.{digitValue, digitValues, pairWords, shortCardinal, cardinalOf}
+use Rattle.numerals.specs.Walk.{BelowTen, firstDigits}
+use Rattle.numerals.specs.declared.digits.FirstDigits.{FirstDigits}
 use Rattle.numerals.proofs.Digits.{spelled-append}
 use Rattle.numerals.proofs.Cardinal.{cardinal-2}
-use Rattle.numerals.proofs.Vocabulary.{clean-digits, digit-at}
+use Rattle.numerals.proofs.NumberWords.{digitValues-below-ten, digit-at}
 use Rattle.numerals.proofs.Picking.{few-digits}
 use Rattle.years.specs.Year.{yearStep, yearOf, year}
 use Rattle.years.specs.Walk.{PickedFrom, leadCount, leadWords}
 use Rattle.years.specs.declared.Picked.{Picked}
 
 -- the first digit of a text stands after those bytes that are none
-clean-some : (s : List ℕ) → span nonDigit s < length s → clean s ≡ digitValue (getD s (span nonDigit s) 0) ∷ clean (drop (span nonDigit s + 1) s)
-unfolding clean keep span
-clean-some [] h = absurd (omega arith)
-clean-some (b ∷ s) h = go (digit b) h (clean-some s)
+digitValues-some : (s : List ℕ) → span nonDigit s < length s → digitValues s ≡ digitValue (getD s (span nonDigit s) 0) ∷ digitValues (drop (span nonDigit s + 1) s)
+unfolding digitValues filterb span
+digitValues-some [] h = absurd (omega arith)
+digitValues-some (b ∷ s) h = go (digit b) h (digitValues-some s)
   where
     go : (t : Bool) → cond (not t) (suc (span nonDigit s)) 0 < suc (length s)
-        → (span nonDigit s < length s → clean s ≡ digitValue (getD s (span nonDigit s) 0) ∷ clean (drop (span nonDigit s + 1) s))
-        → map digitValue (cond t (b ∷ keep digit s) (keep digit s)) ≡ digitValue
-        (getD (b ∷ s) (cond (not t) (suc (span nonDigit s)) 0) 0) ∷ clean (drop (cond (not t) (suc (span nonDigit s)) 0 + 1) (b ∷ s))
+        → (span nonDigit s < length s → digitValues s ≡ digitValue (getD s (span nonDigit s) 0) ∷ digitValues (drop (span nonDigit s + 1) s))
+        → map digitValue (cond t (b ∷ filterb digit s) (filterb digit s)) ≡ digitValue
+        (getD (b ∷ s) (cond (not t) (suc (span nonDigit s)) 0) 0) ∷ digitValues (drop (cond (not t) (suc (span nonDigit s)) 0 + 1) (b ∷ s))
     go true h i = refl
     go false h i = i (omega arith) ∙ simp add-one
 
-clean-none : (s : List ℕ) → length s ≤ span nonDigit s → clean s ≡ []
-unfolding clean keep span
-clean-none [] h = refl
-clean-none (b ∷ s) h = go (digit b) h (clean-none s)
+digitValues-none : (s : List ℕ) → length s ≤ span nonDigit s → digitValues s ≡ []
+unfolding digitValues filterb span
+digitValues-none [] h = refl
+digitValues-none (b ∷ s) h = go (digit b) h (digitValues-none s)
   where
-    go : (t : Bool) → suc (length s) ≤ cond (not t) (suc (span nonDigit s)) 0 → (length s ≤ span nonDigit s → clean s ≡ [])
-        → map digitValue (cond t (b ∷ keep digit s) (keep digit s)) ≡ []
+    go : (t : Bool) → suc (length s) ≤ cond (not t) (suc (span nonDigit s)) 0 → (length s ≤ span nonDigit s → digitValues s ≡ [])
+        → map digitValue (cond t (b ∷ filterb digit s) (filterb digit s)) ≡ []
     go true h i = absurd (omega arith)
     go false h i = i (omega arith)
 
-pub clean-length : (s : List ℕ) → length (clean s) ≡ count digit s
-unfolding clean keep count
-clean-length [] = refl
-clean-length (b ∷ s) = go (digit b) (clean-length s)
+pub digitValues-count : (s : List ℕ) → length (digitValues s) ≡ countb digit s
+unfolding digitValues filterb countb
+digitValues-count [] = refl
+digitValues-count (b ∷ s) = go (digit b) (digitValues-count s)
   where
-    go : (t : Bool) → length (clean s) ≡ count digit s → length (map digitValue (cond t (b ∷ keep digit s) (keep digit s))) ≡ cond t (suc (count digit s)) (count digit s)
+    go : (t : Bool) → length (digitValues s) ≡ countb digit s → length (map digitValue (cond t (b ∷ filterb digit s) (filterb digit s))) ≡ cond t (suc (countb digit s)) (countb digit s)
     go true e = ap suc e
     go false e = e
 
@@ -64,12 +64,12 @@ module _ (s : List ℕ) (i v : ℕ) (e : i ≡ span nonDigit s) (d : v ≡ digit
   pub picked-some : i < length s → PickedFrom s (record { value = v; next = i + 1 })
   picked-some h =
       let l : span nonDigit s < length s = omega arith in
-      record { digit = rw (clean-some s l, ← e) d; others = rw (clean-some s l, ← e); within = omega arith }
+      record { digit = rw (digitValues-some s l, ← e) d; others = rw (digitValues-some s l, ← e); within = omega arith }
 
   pub picked-none : length s ≤ i → PickedFrom s (record { value = v; next = i })
-  unfolding clean keep
+  unfolding digitValues filterb
   picked-none h =
-      let n : clean s ≡ [] = clean-none s (omega arith) in
+      let n : digitValues s ≡ [] = digitValues-none s (omega arith) in
       record { digit = rw n (d ∙ rw (List·getD-eq-default s 0 h)); others = rw (n, drop-of-length-le s h); within = omega (arith, span-le nonDigit s) }
 
 year-local : Local yearStep
@@ -85,19 +85,19 @@ unfolding yearOf
 year-eq s = recur-eq [] yearStep year-local s
 
 -- a year of up to four digits
-pub year-few : (s : List ℕ) → length s ≤ 1 → yearOf s ≡ cardinalFew s
+pub year-short : (s : List ℕ) → length s ≤ 1 → yearOf s ≡ shortCardinal s
 unfolding yearStep cardinalOf
-year-few [] h = year-eq []
-year-few (a ∷ []) h = year-eq (a ∷ [])
-year-few (a ∷ b ∷ s) h = absurd (omega arith)
+year-short [] h = year-eq []
+year-short (a ∷ []) h = year-eq (a ∷ [])
+year-short (a ∷ b ∷ s) h = absurd (omega arith)
 
-pub year-two : (a b : ℕ) → yearOf (a ∷ b ∷ []) ≡ cond (eqb a 0) (cond (eqb b 0) (one 0 ∷ one 0 ∷ []) (other (bytes "oh") ∷ one b ∷ [])) (pair a b)
+pub year-two : (a b : ℕ) → yearOf (a ∷ b ∷ []) ≡ cond (eqb a 0) (cond (eqb b 0) (one 0 ∷ one 0 ∷ []) (other (bytes "oh") ∷ one b ∷ [])) (pairWords a b)
 unfolding yearStep cardinalOf
 year-two a b = year-eq (a ∷ b ∷ []) ∙ rw (cardinal-2 (a ∷ b ∷ []) refl) (go (eqb a 0) (eqb b 0))
   where
     go : (t u : Bool)
-        → cond (t && u) (one 0 ∷ one 0 ∷ []) (cond t (other (bytes "oh") ∷ one b ∷ []) (pair a b)) ≡ cond t
-        (cond u (one 0 ∷ one 0 ∷ []) (other (bytes "oh") ∷ one b ∷ [])) (pair a b)
+        → cond (t && u) (one 0 ∷ one 0 ∷ []) (cond t (other (bytes "oh") ∷ one b ∷ []) (pairWords a b)) ≡ cond t
+        (cond u (one 0 ∷ one 0 ∷ []) (other (bytes "oh") ∷ one b ∷ [])) (pairWords a b)
     go true true = refl
     go true false = refl
     go false u = refl
@@ -107,7 +107,7 @@ unfolding yearStep
 year-three a b c = year-eq (a ∷ b ∷ c ∷ [])
 
 pub year-four : (s : List ℕ) → length s ≡ 4 → {b c d : ℕ} → b ≡ getD s 1 0 → c ≡ getD s 2 0 → d ≡ getD s 3 0
-    → yearOf s ≡ cond (eqb b 0 && eqb c 0) (cardinalFew s) (cardinalFew (take 2 s) ++ cond (eqb c 0 && eqb d 0) (hundred ∷ []) (yearOf (c ∷ d ∷ [])))
+    → yearOf s ≡ cond (eqb b 0 && eqb c 0) (shortCardinal s) (shortCardinal (take 2 s) ++ cond (eqb c 0 && eqb d 0) (hundred ∷ []) (yearOf (c ∷ d ∷ [])))
 unfolding yearStep cardinalOf
 year-four [] h p q r = absurd (omega arith)
 year-four (a ∷ []) h p q r = absurd (omega arith)
@@ -115,7 +115,7 @@ year-four (a ∷ b ∷ []) h p q r = absurd (omega arith)
 year-four (a ∷ b ∷ c ∷ []) h p q r = absurd (omega arith)
 year-four (a ∷ b ∷ c ∷ d ∷ e ∷ s) h p q r = absurd (omega arith)
 year-four (a ∷ b ∷ c ∷ d ∷ []) h p q r =
-    rw (p, q, r) (year-eq (a ∷ b ∷ c ∷ d ∷ []) ∙ go (eqb b 0) (eqb c 0) (eqb d 0) (cardinalFew (a ∷ b ∷ c ∷ d ∷ [])) (cardinalFew (a ∷ b ∷ [])) (yearOf (c ∷ d ∷ [])))
+    rw (p, q, r) (year-eq (a ∷ b ∷ c ∷ d ∷ []) ∙ go (eqb b 0) (eqb c 0) (eqb d 0) (shortCardinal (a ∷ b ∷ c ∷ d ∷ [])) (shortCardinal (a ∷ b ∷ [])) (yearOf (c ∷ d ∷ [])))
   where
     go : (t u v : Bool) (ws fs ls : List Word)
         → cond (u && v) (cond t ws (fs ++ hundred ∷ [])) (cond (t && u) ws (fs ++ ls)) ≡ cond (t && u) ws
@@ -144,7 +144,7 @@ year-long (a ∷ b ∷ s) n e h =
     )
     (go (eqb (n % 2) 1))
   where
-    go : (t : Bool) → cond t (one a ∷ yearOf (b ∷ s)) (pair a b ++ yearOf s) ≡ leadWords t (a ∷ b ∷ s) ++ yearOf (drop (leadCount t) (a ∷ b ∷ s))
+    go : (t : Bool) → cond t (one a ∷ yearOf (b ∷ s)) (pairWords a b ++ yearOf s) ≡ leadWords t (a ∷ b ∷ s) ++ yearOf (drop (leadCount t) (a ∷ b ∷ s))
     go true = refl
     go false = refl
 
@@ -156,9 +156,9 @@ lead-count n = go (eqb (n % 2) 1) refl
     go false e = let k = eqb-false (n % 2) 1 e in omega arith
 
 -- "oh" in the lexicon
-pub oh : wordOf othersAt ≡ bytes "oh"
-unfolding lexicon
-oh = refl
+pub oh-word : wordOf othersAt ≡ bytes "oh"
+unfolding unfoldVocabulary
+oh-word = refl
 
 -- a list of two, and of three
 pub as-two : (s : List ℕ) → length s ≡ 2 → getD s 0 0 ∷ getD s 1 0 ∷ [] ≡ s
@@ -173,30 +173,30 @@ as-three (a ∷ s) h = ap (λ (t : List ℕ). a ∷ t) (as-two s (omega arith))
 
 -- a digit that is picked is below ten
 pub picked-small : (s : List ℕ) (a : Picked) → PickedFrom s a → a .value < 10
-picked-small s a p = digit-at (clean s) 0 (clean-digits s) (p .digit)
+picked-small s a p = digit-at (digitValues s) 0 (digitValues-below-ten s) (p .digit)
 
 -- one digit picked after another
 pub picked-two : (s : List ℕ) (a b : Picked) → PickedFrom s a → PickedFrom (drop (a .next) s) b
-    → (b .value ≡ getD (clean s) 1 0) × (clean (drop (a .next + b .next) s) ≡ drop 2 (clean s)) × (a .next + b .next ≤ length s)
+    → (b .value ≡ getD (digitValues s) 1 0) × (digitValues (drop (a .next + b .next) s) ≡ drop 2 (digitValues s)) × (a .next + b .next ≤ length s)
 picked-two s a b p q =
     (q .digit ∙ rw (p .others, getD-drop), rw (← drop-drop, q .others, p .others, drop-drop), omega (arith, p .within, q .within, length-drop (a .next) s))
 
 -- the loop counts the digits that are left from i on. A turn reads the next n bytes, which hold one digit or two
-module _ (s : List ℕ) (i n left : ℕ) (e : left ≡ length (clean (drop i s))) (d : clean (drop n (drop i s)) ≡ drop (leadCount (eqb (left % 2) 1)) (clean (drop i s))) where
-  after : clean (drop (i + n) s) ≡ drop (leadCount (eqb (left % 2) 1)) (clean (drop i s))
-  after = ap clean (sym (drop-drop n i s)) ∙ d
+module _ (s : List ℕ) (i n left : ℕ) (e : left ≡ length (digitValues (drop i s))) (d : digitValues (drop n (drop i s)) ≡ drop (leadCount (eqb (left % 2) 1)) (digitValues (drop i s))) where
+  after : digitValues (drop (i + n) s) ≡ drop (leadCount (eqb (left % 2) 1)) (digitValues (drop i s))
+  after = ap digitValues (sym (drop-drop n i s)) ∙ d
 
-  pub left-after : left - (2 - left % 2) ≡ length (clean (drop (i + n) s))
+  pub left-after : left - (2 - left % 2) ≡ length (digitValues (drop (i + n) s))
   left-after = rw after (simp length-drop (omega (arith, lead-count left)))
 
-  pub year-at : 4 < left → spelled (year (drop i s)) ≡ spelled (leadWords (eqb (left % 2) 1) (clean (drop i s))) ++ spelled (year (drop (i + n) s))
+  pub year-at : 4 < left → spelled (year (drop i s)) ≡ spelled (leadWords (eqb (left % 2) 1) (digitValues (drop i s))) ++ spelled (year (drop (i + n) s))
   unfolding year
-  year-at h = ap spelled (year-long (clean (drop i s)) left e h) ∙ rw (spelled-append, after)
+  year-at h = ap spelled (year-long (digitValues (drop i s)) left e h) ∙ rw (spelled-append, after)
 
 -- the last digits, at most four
-pub year-last : (s : List ℕ) (left : ℕ) → left ≡ length (clean s) → left ≤ 4 → (f : Few) → f ≡ fewOf s → {t : List ℕ} → t ≡ take (f .n) (f .d)
-    → (length t ≤ 4) × Digits t × (yearOf t ≡ year s)
+pub year-last : (s : List ℕ) (left : ℕ) → left ≡ length (digitValues s) → left ≤ 4 → (f : FirstDigits) → f ≡ firstDigits s → {t : List ℕ} → t ≡ take (f .n) (f .d)
+    → (length t ≤ 4) × BelowTen t × (yearOf t ≡ year s)
 unfolding year
 year-last s left e h f q u =
     let d = u ∙ few-digits s f q (omega arith) in
-    rw d (omega arith, clean-digits s, refl)
+    rw d (omega arith, digitValues-below-ten s, refl)

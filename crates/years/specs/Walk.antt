@@ -5,13 +5,13 @@ use mathlib.Core.List.{List, [], _∷_}
 use Prim.Native.Nat.{ℕ, _≤_}
 use lib.ListN.{length, drop, getD}
 use Rattle.numerals.specs.Words.{Word, one}
-use Rattle.numerals.specs.Cardinal.{clean, pair}
+use Rattle.numerals.specs.Cardinal.{digitValues, pairWords}
 use Rattle.years.specs.declared.Picked.{Picked}
 
 -- the first digit of a text, and the place from which the others follow
 pub record PickedFrom (s : List ℕ) (r : Picked) : Type 0 where
-  pub digit : r .value ≡ getD (clean s) 0 0
-  pub others : clean (drop (r .next) s) ≡ drop 1 (clean s)
+  pub digit : r .value ≡ getD (digitValues s) 0 0
+  pub others : digitValues (drop (r .next) s) ≡ drop 1 (digitValues s)
   pub within : r .next ≤ length s
 
 -- the digits that one turn reads, and their words
@@ -19,4 +19,4 @@ abbrev pub leadCount : Bool → ℕ
 leadCount lone = cond lone 1 2
 
 abbrev pub leadWords : Bool → List ℕ → List Word
-leadWords lone ds = cond lone (one (getD ds 0 0) ∷ []) (pair (getD ds 0 0) (getD ds 1 0))
+leadWords lone ds = cond lone (one (getD ds 0 0) ∷ []) (pairWords (getD ds 0 0) (getD ds 1 0))

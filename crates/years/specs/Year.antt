@@ -7,7 +7,7 @@ use lib.ListN.{length, take, drop, getD}
 use Rattle.lists.specs.Bytes.{bytes}
 use Rattle.lists.specs.Recur.{recur}
 use Rattle.numerals.specs.Words.{Word, one, hundred, other}
-use Rattle.numerals.specs.Cardinal.{clean, cardinalOf}
+use Rattle.numerals.specs.Cardinal.{digitValues, cardinalOf}
 
 -- digit i of the string is 0
 abbrev pub zeroAt : List ℕ → ℕ → Bool
@@ -29,4 +29,4 @@ unfoldable pub yearOf : List ℕ → List Word
 yearOf = recur [] yearStep
 
 unfoldable pub year : List ℕ → List Word
-year s = yearOf (clean s)
+year s = yearOf (digitValues s)

@@ -7,7 +7,7 @@ use lib.ListN.{length, take}
 use borrow.Author.Tests.{not-false}
 use Rattle.lists.specs.Bytes.{all}
 use Rattle.lists.specs.Classes.{ascii}
-use Rattle.admit.proofs.Utf8.{runs}
+use Rattle.admit.proofs.Utf8.{ascii-runs}
 use Rattle.admit.proofs.ascii_blocks.Statement.{statement}
 use Rattle.admit.proofs.ascii_blocks.Tie as tie
 
@@ -39,7 +39,7 @@ ascii-blocks-spec =
     let at-front = c .before .before in
     let at-loop = at-front .before .before .before in (
       omega arith,
-      runs (at-loop .before .before .args .s .now) (at-loop .loop .i) 32 (at-loop .loop .inv .1)
+      ascii-runs (at-loop .before .before .args .s .now) (at-loop .loop .i) 32 (at-loop .loop .inv .1)
           (rw (← at-front .before .tail .ensures, ← at-front .front .ensures, ← c .before .is-ascii .ensures) (not-false _ (c .if1 .left))),
     ))
     (λ c. (c .before .loop .inv .1, omega arith)))

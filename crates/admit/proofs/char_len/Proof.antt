@@ -19,4 +19,4 @@ char-len-spec =
       ← at-byte-at3 .byte-at3 .ensures,
       ← c .before .byte-at4 .ensures,
     )
-    (c .char-bytes .ensures)))
+    (c .sequence-len .ensures)))

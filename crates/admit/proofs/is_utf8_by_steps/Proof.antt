@@ -25,20 +25,20 @@ is-utf8-by-steps-spec =
     (λ c κs. search needs)
     (λ c κs. search needs)
     (λ c.
-    let at-step = c .before in
-    let at-loop = at-step .before .before .before in
+    let at-step-len = c .before in
+    let at-loop = at-step-len .before .before .before in
     sym
     (at-loop .loop .inv
-    ∙ (utf8-on (at-loop .before .before .args .s .now) (at-loop .loop .i) (at-step .step .result) (omega arith)
-    (rw (at-step .before .tail .ensures) at (at-step .step .ensures))
+    ∙ (utf8-on (at-loop .before .before .args .s .now) (at-loop .loop .i) (at-step-len .step-len .result) (omega arith)
+    (rw (at-step-len .before .tail .ensures) at (at-step-len .step-len .ensures))
     ∙ rw (eq-eqb _ _ (c .if1 .taken)))))
-    (λ c. omega (arith, c .before .step .ensures .few, simp length-drop at (rw (c .before .before .tail .ensures) at (c .before .step .ensures .few))))
+    (λ c. omega (arith, c .before .step-len .ensures .bounded, simp length-drop at (rw (c .before .before .tail .ensures) at (c .before .step-len .ensures .bounded))))
     (λ c. search needs)
     (λ c.
-    let at-step = c .before in
-    let at-loop = at-step .before .before .before in
+    let at-step-len = c .before in
+    let at-loop = at-step-len .before .before .before in
     at-loop .loop .inv
-    ∙ (utf8-on (at-loop .before .before .args .s .now) (at-loop .loop .i) (at-step .step .result) (omega arith)
-    (rw (at-step .before .tail .ensures) at (at-step .step .ensures))
+    ∙ (utf8-on (at-loop .before .before .args .s .now) (at-loop .loop .i) (at-step-len .step-len .result) (omega arith)
+    (rw (at-step-len .before .tail .ensures) at (at-step-len .step-len .ensures))
     ∙ rw (ne-eqb _ _ (c .if1 .left))))
     (λ c. sym (c .before .loop .inv ∙ utf8-end _ _ (c .loop-test .left))))

@@ -14,7 +14,7 @@ refusal-of-spec =
     (λ c.
     sym
     (text-accepted _ (c .before .before .before .before .args .s .now)
-    (record { short = omega arith; good = utf8-all _ (sym (c .before .all-of .ensures) ∙ c .if2 .taken) })))
+    (record { within-limit = omega arith; valid-utf8 = utf8-all _ (sym (c .before .all-of .ensures) ∙ c .if2 .taken) })))
     (λ c κs. search needs)
     (λ c. search needs)
     (λ c κs. search needs)

@@ -1,6 +1,6 @@
 use mathlib.Core.Path.{sym, ap, _∙_}
 use native.Mathlib.Omega.{arith}
-use Rattle.entries.specs.Find.{named}
+use Rattle.entries.specs.Find.{entryNamed}
 use Rattle.calls.specs.Walk.{refusedEntry}
 use Rattle.calls.proofs.Answers.{name-long, line-short, line-given}
 use borrow.Author.Needs.{needs}
@@ -16,7 +16,7 @@ call-name-spec =
     (λ c.
     let at-if1 = c .before .before in
     let start = at-if1 .before .before .before in
-    name-long (named (start .args .starts) (start .args .name .now)) (start .args .out .now) (at-if1 .if1 .taken)
+    name-long (entryNamed (start .args .starts) (start .args .name .now)) (start .args .out .now) (at-if1 .if1 .taken)
     (c .entry-refused .ensures ∙ ap refusedEntry (c .before .number .ensures)))
     (λ c κs. search needs)
     (λ c κs. search needs)
@@ -24,7 +24,7 @@ call-name-spec =
     (λ c.
     let at-if2 = c .before .before in
     let start = at-if2 .before .before .before .before .before in
-    line-short (named (start .args .starts) (start .args .name .now)) (start .args .out .now) (omega arith)
+    line-short (entryNamed (start .args .starts) (start .args .name .now)) (start .args .out .now) (omega arith)
     (sym (at-if2 .before .is-line-short .ensures) ∙ at-if2 .if2 .taken)
     (c .entry-refused2 .ensures ∙ ap refusedEntry (c .before .number2 .ensures)))
     (λ c. search needs)
@@ -36,6 +36,6 @@ call-name-spec =
     let at-if2 = at-say-line .before .before .before .before in
     let at-if1 = at-if2 .before .before in
     let start = at-if1 .before .before .before in
-    line-given (named (start .args .starts) (start .args .name .now)) (start .args .out .now) (let h = at-if1 .if1 .left in omega arith)
+    line-given (entryNamed (start .args .starts) (start .args .name .now)) (start .args .out .now) (let h = at-if1 .if1 .left in omega arith)
     (sym (at-if2 .before .is-line-short .ensures) ∙ at-if2 .if2 .left) (let g = start .good .1 .1 .0 .1 in omega arith) _ _
-    (at-say-line .before .spaced .ensures) (at-say-line .say-line .ensures .written) (at-say-line .say-line .ensures .row)))
+    (at-say-line .before .spaced .ensures) (at-say-line .say-line .ensures .said) (at-say-line .say-line .ensures .row)))

@@ -1,8 +1,8 @@
 use mathlib.Core.Path.{refl}
 use lib.ListN.{length}
-use Rattle.sheets.specs.Sheet.{entries}
+use Rattle.call_spec.specs.Sheet.{entries}
 use Rattle.calls.proofs.Lines.{wrote-lines, lines-words, measured-lines}
-use Rattle.calls.proofs.Room.{sheet-room, surely-fits}
+use Rattle.calls.proofs.Room.{sheet-room, room-suffices}
 use borrow.Author.Needs.{needs}
 use Rattle.calls.proofs.is_sheet_short.Statement.{statement}
 use Rattle.calls.proofs.is_sheet_short.Tie as tie
@@ -13,7 +13,7 @@ is-sheet-short-spec =
     (tie.spec
     (λ c.
     let start = c .before .before in
-    surely-fits _ (length (start .args .s .now)) _ (sheet-room (start .args .s .now)) (c .if1 .taken))
+    room-suffices _ (length (start .args .s .now)) _ (sheet-room (start .args .s .now)) (c .if1 .taken))
     (λ c. search needs)
     (λ c. search needs)
     (λ c κs. search needs)

@@ -1,4 +1,4 @@
-use Rattle.entries.specs.Find.{named}
+use Rattle.entries.specs.Find.{entryNamed}
 use Rattle.calls.proofs.Lines.{line-said}
 use borrow.Author.Needs.{needs}
 use Rattle.calls.proofs.say_line.Statement.{statement}
@@ -15,14 +15,14 @@ say-line-spec =
     (λ c. search needs)
     (λ c. search needs)
     (λ c.
-    let at-byte2 = c .before .before in
-    let after-words = at-byte2 .before .before .before .before in
+    let at-put-byte2 = c .before .before in
+    let after-words = at-put-byte2 .before .before .before .before in
     let at-read-name = after-words .before .before .before .before in
-    let at-byte = at-read-name .before .before .before .before .before in
-    let start = at-byte .before .before .before .before .before .before in
+    let at-put-byte = at-read-name .before .before .before .before .before in
+    let start = at-put-byte .before .before .before .before .before .before in
     record {
       row = at-read-name .read-name .ensures .row;
-      written =
-          line-said (named (start .args .starts) (start .args .name .now)) _ _ _ (at-byte .before .mark-of .ensures)
-          (at-byte .byte .ensures (start .args .table .now)) (at-read-name .read-name .ensures .said) (at-byte2 .byte2 .ensures _);
+      said =
+          line-said (entryNamed (start .args .starts) (start .args .name .now)) _ _ _ (at-put-byte .before .mark-of .ensures)
+          (at-put-byte .put-byte .ensures (start .args .table .now)) (at-read-name .read-name .ensures .said) (at-put-byte2 .put-byte2 .ensures _);
     }))

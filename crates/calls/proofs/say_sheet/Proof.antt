@@ -4,25 +4,25 @@ use Prim.Native.Nat.{_-_}
 use native.Mathlib.Omega.{arith}
 use lib.ListN.{length, drop}
 use borrow.Author.Needs.{needs}
-use Rattle.sink.specs.Sink.{sink}
-use Rattle.sink.specs.Words.{spacedPen}
-use Rattle.sink.specs.declared.Pen.{Pen}
+use Rattle.word_writer.specs.Writer.{writer}
+use Rattle.word_writer.specs.Words.{spacedCursor}
+use Rattle.word_writer.specs.declared.Cursor.{Cursor}
 use Rattle.tokens.specs.Tokens.{tokens}
 use Rattle.tokens.proofs.Walks.{Left, left-all, left-none, left-next, left-on, left-past}
-use Rattle.sheets.specs.Sheet.{SheetEntry, entries}
-use Rattle.entries.proofs.Turns.{entriesFrom, from-fresh, from-none, entry-next}
+use Rattle.call_spec.specs.Sheet.{SheetEntry, entries}
+use Rattle.entries.proofs.Loops.{entriesFrom, from-fresh, from-none, entry-next}
 use Rattle.calls.specs.Walk.{linesTo}
 use Rattle.calls.proofs.Lines.{lines-on, lines-done}
 use Rattle.calls.proofs.say_sheet.Statement.{statement}
 use Rattle.calls.proofs.say_sheet.Tie as tie
 
 abbrev Inv-loop : tie.InvT-loop
-Inv-loop s out₀ table₀ state₀ pen₀ n₀ at₀ out table state pen n at =
+Inv-loop s out₀ table₀ state₀ cursor₀ n₀ at₀ out table state cursor n at =
     Left s n at × (length out ≡ length out₀) × (length table ≡ length table₀)
-    × (linesTo (entriesFrom state (tokens (drop at s))) (sink out table pen) ≡ linesTo (entries s) (sink out₀ table₀ spacedPen))
+    × (linesTo (entriesFrom state (tokens (drop at s))) (writer out table cursor) ≡ linesTo (entries s) (writer out₀ table₀ spacedCursor))
 
 abbrev μ-loop : tie.MeasureT-loop
-μ-loop s out₀ table₀ state₀ pen₀ n₀ at₀ out table state pen n at = length s - at
+μ-loop s out₀ table₀ state₀ cursor₀ n₀ at₀ out table state cursor n at = length s - at
 
 pub say-sheet-spec : {M : Type 1} → statement M
 say-sheet-spec =
@@ -37,7 +37,7 @@ say-sheet-spec =
       left-all,
       refl,
       refl,
-      ap₂ (λ (es : List SheetEntry) (p : Pen). linesTo es (sink (start .args .out .now) (start .args .table .now) p))
+      ap₂ (λ (es : List SheetEntry) (p : Cursor). linesTo es (writer (start .args .out .now) (start .args .table .now) p))
           (from-fresh (start .args .s .now) (c .before .fresh .ensures)) (c .spaced .ensures),
     ))
     (λ c κs. search needs)
@@ -58,7 +58,7 @@ say-sheet-spec =
     let after-line = c .before .before .before .before .before .before in
     let after-name = after-line .before .before .before .before .before .before in
     let at-loop = after-name .before .before .before .before .before in
-    let f = at-loop .loop .inv .0 .few in
+    let f = at-loop .loop .inv .0 .bounded in
     let g = at-loop .before .before .before .before .before .before .good .0 .1 in
     omega arith)
     (λ c.
@@ -83,7 +83,7 @@ say-sheet-spec =
       left-on (at-loop .loop .inv .0) next,
       at-say-line .say-line .kept .1 .1 .0 ∙ at-loop .loop .inv .1,
       at-say-line .say-line .kept .1 .1 .1 .0 ∙ at-loop .loop .inv .2,
-      lines-on (sink (at-loop .loop .out) (at-loop .loop .table) (at-loop .loop .pen)) entry (at-say-line .say-line .ensures .written) (at-loop .loop .inv .3),
+      lines-on (writer (at-loop .loop .out) (at-loop .loop .table) (at-loop .loop .cursor)) entry (at-say-line .say-line .ensures .said) (at-loop .loop .inv .3),
     ))
     (λ c. search needs)
     (λ c. search needs)

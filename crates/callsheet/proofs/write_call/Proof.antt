@@ -1,4 +1,4 @@
-use Rattle.calls.proofs.Room.{broken-alone}
+use Rattle.calls.proofs.Room.{only-not-utf8}
 use borrow.Author.Needs.{needs}
 use Rattle.callsheet.proofs.write_call.Statement.{statement}
 use Rattle.callsheet.proofs.write_call.Tie as tie
@@ -11,7 +11,7 @@ write-call-spec =
     (λ c κs.
     let at-call-sheet = c .before .before .before .before in
     let start = at-call-sheet .before .before .before .before in
-    broken-alone (start .args .sheet .now) (start .args .out .now) _ (at-call-sheet .call-sheet .ensures) (start .pre .0) (start .pre .1) (c .if1 .taken))
+    only-not-utf8 (start .args .sheet .now) (start .args .out .now) _ (at-call-sheet .call-sheet .ensures) (start .pre .0) (start .pre .1) (c .if1 .taken))
     (λ c. search needs)
     (λ c. search needs)
     (λ c κs. search needs)

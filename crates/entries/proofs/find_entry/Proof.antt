@@ -5,9 +5,9 @@ use lib.ListN.{length, drop, getD}
 use borrow.Author.Needs.{needs}
 use Rattle.tokens.specs.Tokens.{tokens}
 use Rattle.tokens.proofs.Walks.{Left, left-all, left-none, left-next, left-on, left-past}
-use Rattle.sheets.specs.Sheet.{noEntry}
-use Rattle.sheets.specs.Calls.{entryAt}
-use Rattle.entries.proofs.Turns.{entriesFrom, entry-from, entry-next, entry-later, found-here, found-none}
+use Rattle.call_spec.specs.Sheet.{noEntry}
+use Rattle.call_spec.specs.Calls.{entryAt}
+use Rattle.entries.proofs.Loops.{entriesFrom, entry-from, entry-next, entry-later, found-here, found-none}
 use Rattle.entries.proofs.find_entry.Statement.{statement}
 use Rattle.entries.proofs.find_entry.Tie as tie
 
@@ -34,7 +34,7 @@ find-entry-spec =
     (λ c.
     let at-none-left = c .before .before in
     let at-loop = at-none-left .before .before .before in
-    found-none _ (c .nowhere .ensures) (at-loop .loop .inv .1)
+    found-none _ (c .not-found .ensures) (at-loop .loop .inv .1)
     (left-none (at-loop .loop .inv .0) (at-none-left .before .token-at .ensures) (at-none-left .none-left .ensures) (c .before .if1 .taken) .all))
     (λ c κs. search needs)
     (λ c κs. search needs)
@@ -69,4 +69,4 @@ find-entry-spec =
     (λ c κs. search needs)
     (λ c.
     let at-loop = c .before .before in
-    found-none _ (c .nowhere2 .ensures) (at-loop .loop .inv .1) (left-past (at-loop .loop .inv .0) (omega arith) .all)))
+    found-none _ (c .not-found2 .ensures) (at-loop .loop .inv .1) (left-past (at-loop .loop .inv .0) (omega arith) .all)))

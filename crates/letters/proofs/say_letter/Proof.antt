@@ -12,9 +12,9 @@ say-letter-spec =
     (λ c. search needs)
     (λ c. search needs)
     (λ c.
-    let at-word = c .before .before .before .before in
-    let at-if1 = at-word .before .before .before in
-    rw (letter-whole (at-if1 .before .before .before .before .args .c .now) (at-if1 .if1 .taken)) (at-word .word .ensures))
+    let at-put-word = c .before .before .before .before in
+    let at-if1 = at-put-word .before .before .before in
+    rw (letter-whole (at-if1 .before .before .before .before .args .c .now) (at-if1 .if1 .taken)) (at-put-word .put-word .ensures))
     (λ c κs. search needs)
     (λ c κs. search needs)
     (λ c. search needs)
@@ -22,18 +22,18 @@ say-letter-spec =
     (λ c. search needs)
     (λ c. search needs)
     (λ c.
-    let at-word2 = c .before .before .before .before in
-    let at-if2 = at-word2 .before .before .before .before in
+    let at-put-word2 = c .before .before .before .before in
+    let at-if2 = at-put-word2 .before .before .before .before in
     let lowered = at-if2 .before .before .before in
     let s = lowered .before .before .before .before .args .c .now in
-    rw (letter-a s (omega arith) (cc) (at-if2 .if2 .taken)) (at-word2 .word2 .ensures))
+    rw (letter-a s (omega arith) (cc) (at-if2 .if2 .taken)) (at-put-word2 .put-word2 .ensures))
     (λ c. search needs)
     (λ c κs. search needs)
     (λ c. search needs)
     (λ c. search needs)
     (λ c.
-    let at-word3 = c .before .before .before .before in
-    let at-if2 = at-word3 .before .before .before .before in
+    let at-put-word3 = c .before .before .before .before in
+    let at-if2 = at-put-word3 .before .before .before .before in
     let lowered = at-if2 .before .before .before in
     let s = lowered .before .before .before .before .args .c .now in
-    rw (letter-other s (omega arith) (cc) (at-if2 .if2 .left)) (at-word3 .word3 .ensures)))
+    rw (letter-other s (omega arith) (cc) (at-if2 .if2 .left)) (at-put-word3 .put-word3 .ensures)))

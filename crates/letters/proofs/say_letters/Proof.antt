@@ -2,8 +2,8 @@ use mathlib.Core.List.{[], _∷_}
 use Prim.Native.Nat.{_-_, _<_}
 use native.Mathlib.Omega.{arith}
 use lib.ListN.{length}
-use Rattle.sink.specs.Sink.{sink, emitAll}
-use Rattle.sink.proofs.Walks.{Walk, walk-start, walk-on, walk-end}
+use Rattle.word_writer.specs.Writer.{writer, emitAll}
+use Rattle.word_writer.proofs.Walks.{Walk, walk-start, walk-on, walk-end}
 use Rattle.numerals.specs.Words.{spelled}
 use Rattle.letters.specs.Letters.{letters, letterWord}
 use Rattle.letters.proofs.LetterLaws.{char-more, letters-at, letters-none}
@@ -13,7 +13,7 @@ use Rattle.letters.proofs.say_letters.Tie as tie
 
 abbrev Inv-loop : tie.InvT-loop
 Inv-loop s store₀ table₀ p₀ i₀ store table p i =
-    Walk (λ t. spelled (letters t)) s (sink store₀ table₀ p₀) (sink store table p) i
+    Walk (λ t. spelled (letters t)) s (writer store₀ table₀ p₀) (writer store table p) i
 
 abbrev μ-loop : tie.MeasureT-loop
 μ-loop s store₀ table₀ p₀ i₀ store table p i = length s - i

@@ -2,7 +2,7 @@ use borrow.Author.Needs.{needs}
 use mathlib.Core.Path.{ap}
 use mathlib.Core.Bool.{false, not}
 use lib.ListN.{List·getD-eq-default}
-use Rattle.lists.specs.Classes.{classes, whites}
+use Rattle.lists.specs.Classes.{classes, whitespaceBytes}
 use Rattle.lists.proofs.Table.{none-of}
 use Rattle.lists.proofs.Scan.{from-left}
 use Rattle.lists.proofs.in_class.Statement.{statement}
@@ -25,10 +25,10 @@ in-class-spec =
     (λ c. rw (c .match .keys9))
     (λ c. rw (c .match .keys10))
     (λ c. rw (c .match .keys11))
-    (λ c. rw (c .match .keys12) (from-left whites (c .before .args .b)))
-    (λ c. rw (c .match .keys13) (ap not (from-left whites (c .before .args .b))))
-    (λ c. rw (c .before .match .keys14, c .is-leading-mark .ensures))
-    (λ c. rw (c .before .match .keys15, c .is-trailing-mark .ensures))
+    (λ c. rw (c .match .keys12) (from-left whitespaceBytes (c .before .args .b)))
+    (λ c. rw (c .match .keys13) (ap not (from-left whitespaceBytes (c .before .args .b))))
+    (λ c. rw (c .before .match .keys14, c .is-prepunctuation-mark .ensures))
+    (λ c. rw (c .before .match .keys15, c .is-postpunctuation-mark .ensures))
     (λ c. rw (c .match .keys16))
     (λ c.
     let start = c .before in

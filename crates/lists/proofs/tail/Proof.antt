@@ -1,4 +1,4 @@
-use Rattle.lists.proofs.Scan.{rest}
+use Rattle.lists.proofs.Scan.{take-rest}
 use lib.ListN.{drop-of-length-le}
 use native.Mathlib.Omega.{arith}
 use mathlib.Core.Path.{sym}
@@ -15,7 +15,7 @@ tail-spec =
     (λ c. search needs)
     (λ c.
     let start = c .before .before in
-    rest (start .args .s .now) (start .args .k))
+    take-rest (start .args .s .now) (start .args .k))
     (λ c. search needs)
     (λ c.
     let start = c .before .before in

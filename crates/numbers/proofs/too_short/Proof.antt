@@ -1,9 +1,9 @@
 use mathlib.Core.Path.{sym, _∙_}
 use mathlib.Core.List.{[]}
-use Rattle.sink.proofs.Finish.{measured}
+use Rattle.word_writer.proofs.Finish.{measured}
 use Rattle.numerals.specs.Words.{spelled}
-use Rattle.numbers.specs.Calls.{wordsBy}
-use Rattle.numbers.proofs.Bounds.{roomy-fits}
+use Rattle.numbers.specs.Calls.{wordsAs}
+use Rattle.numbers.proofs.Bounds.{ample-room-fits}
 use borrow.Author.Needs.{needs}
 use Rattle.numbers.proofs.too_short.Statement.{statement}
 use Rattle.numbers.proofs.too_short.Tie as tie
@@ -15,17 +15,17 @@ too-short-spec =
     (λ c κs. search needs)
     (λ c.
     let start = c .before .before .before in
-    sym (roomy-fits (start .args .reader) (start .args .s .now) (start .args .store) (start .args .table) (sym (c .before .roomy .ensures) ∙ c .if1 .taken)))
+    sym (ample-room-fits (start .args .style) (start .args .s .now) (start .args .store) (start .args .table) (sym (c .before .has-ample-room .ensures) ∙ c .if1 .taken)))
     (λ c. search needs)
     (λ c. search needs)
     (λ c κs. search needs)
     (λ c κs. search needs)
     (λ c κs. search needs)
     (λ c.
-    let at-say-by = c .before .before .before in
-    let before-say-by = at-say-by .before .before .before .before in
-    let start = before-say-by .before .before .before in
-    let m = at-say-by .say-by in
-    c .short .ensures
-    ∙ measured (spelled (wordsBy (start .args .reader) (start .args .s .now))) (start .args .store) (start .args .table) (start .pre .0)
-    (start .pre .1) (m .last .1 .1 .0) (m .last .1 .1 .1 .0) [] [] (at-say-by .before .start .ensures) (m .ensures)))
+    let at-say-as = c .before .before .before in
+    let before-say-as = at-say-as .before .before .before .before in
+    let start = before-say-as .before .before .before in
+    let m = at-say-as .say-as in
+    c .exceeds .ensures
+    ∙ measured (spelled (wordsAs (start .args .style) (start .args .s .now))) (start .args .store) (start .args .table) (start .pre .0)
+    (start .pre .1) (m .last .1 .1 .0) (m .last .1 .1 .1 .0) [] [] (at-say-as .before .start .ensures) (m .ensures)))

@@ -15,4 +15,4 @@ split-time-meridiem-spec =
     (λ c.
     let due = rw (c .before .if1 .left) at (c .before .before .refusal-of .ensures) in
     let split = c .split-time-meridiem .ensures in
-    (call-accepted _ _ _ _ due (split .named), call-accepted _ _ _ _ due (split .offsets))))
+    (call-accepted _ _ _ _ due (split .parts-named), call-accepted _ _ _ _ due (split .offsets))))

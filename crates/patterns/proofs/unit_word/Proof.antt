@@ -1,8 +1,8 @@
 use mathlib.Core.Path.{_∙_}
 use Prim.Native.Nat.{_<_}
-use Rattle.lexicon.proofs.Laws as lexicon
+use Rattle.vocabulary.proofs.Laws as lexicon
 use Rattle.units.specs.Units.{unitIndex}
-use Rattle.units.proofs.Laws.{word-row}
+use Rattle.units.proofs.Laws.{unit-word-number}
 use Rattle.patterns.proofs.Laws.{word-refused, word-found, word-none}
 use borrow.Author.Needs.{needs}
 use Rattle.patterns.proofs.unit_word.Statement.{statement}
@@ -31,18 +31,18 @@ unit-word-spec =
     (λ c. search needs)
     (λ c.
     let at-store-word = c .before .before in
-    let at-row = at-store-word .before .before .before .before in
-    let at-if2 = at-row .before .before in
+    let at-packed = at-store-word .before .before .before .before in
+    let at-if2 = at-packed .before .before in
     let at-if1 = at-if2 .before .before in
     let start = at-if1 .before .before .before .before in
     let u = start .args .unit .now in
     let h : unitIndex u < 22 = rw (at-if2 .before .unit-index .ensures) at (at-if2 .if2 .left) in
     rw (
       at-store-word .before .before .unpacked .ensures,
-      at-row .row .ensures,
+      at-packed .packed .ensures,
       lexicon.word-row,
-      at-row .before .word-number .ensures,
+      at-packed .before .word-number .ensures,
       at-if2 .before .unit-index .ensures,
-      word-row (unitIndex u) h,
+      unit-word-number (unitIndex u) h,
     ) at (at-store-word .store-word .ensures)
     ∙ word-found u (start .args .store .now) _ (at-if1 .before .refusal-of .ensures) (at-if1 .if1 .left) h))

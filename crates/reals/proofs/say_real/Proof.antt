@@ -1,8 +1,8 @@
 use Prim.Native.Nat.{_-_}
 use native.Mathlib.Omega.{arith}
 use lib.ListN.{length}
-use Rattle.sink.specs.Sink.{sink}
-use Rattle.sink.proofs.Walks.{Walk, walk-start, walk-on, walk-end}
+use Rattle.word_writer.specs.Writer.{writer}
+use Rattle.word_writer.proofs.Walks.{Walk, walk-start, walk-on, walk-end}
 use Rattle.numerals.specs.Words.{spelled}
 use Rattle.reals.specs.Real.{real}
 use Rattle.reals.proofs.RealLaws.{part-more, real-at, real-end}
@@ -12,7 +12,7 @@ use Rattle.reals.proofs.say_real.Tie as tie
 
 abbrev Inv-loop : tie.InvT-loop
 Inv-loop s store₀ table₀ p₀ i₀ store table p i =
-    Walk (λ t. spelled (real t)) s (sink store₀ table₀ p₀) (sink store table p) i
+    Walk (λ t. spelled (real t)) s (writer store₀ table₀ p₀) (writer store table p) i
 
 abbrev μ-loop : tie.MeasureT-loop
 μ-loop s store₀ table₀ p₀ i₀ store table p i = length s - i

@@ -2,7 +2,7 @@ use lib.ListN.{length}
 use borrow.Author.Needs.{needs}
 use borrow.Author.Tests.{lt-ltb, le-ltb}
 use Prim.Native.Char.{code}
-use Rattle.lists.specs.Bytes.{count}
+use Rattle.lists.specs.Bytes.{countb}
 use Rattle.lists.specs.Classes.{only}
 use Rattle.sentences.specs.Sentences.{breakAfter}
 use Rattle.sentences.proofs.is_sentence_break.Statement.{statement}
@@ -10,7 +10,7 @@ use Rattle.sentences.proofs.is_sentence_break.Tie as tie
 
 returns : tie.Need-returns
 unfolding breakAfter
-returns c = rw (lt-ltb 1 (count (only (code "\n")) (c .before .before .before .before .args .whitespace .now)) (rw (c .before .count-of .ensures) at (c .if1 .taken)))
+returns c = rw (lt-ltb 1 (countb (only (code "\n")) (c .before .before .before .before .args .whitespace .now)) (rw (c .before .count-of .ensures) at (c .if1 .taken)))
 
 returns-2 : tie.Need-returns-2
 unfolding breakAfter
@@ -18,12 +18,12 @@ returns-2 c =
     let at-is-set = c .before .before in
     let at-if1 = at-is-set .before .before .before in
     rw (
-      le-ltb 1 (count (only (code "\n")) (at-if1 .before .before .before .before .args .whitespace .now))
+      le-ltb 1 (countb (only (code "\n")) (at-if1 .before .before .before .before .args .whitespace .now))
           (rw (at-if1 .before .count-of .ensures) at (at-if1 .if1 .left)),
       rw (
         at-is-set .before .is-yahoo .ensures,
         at-is-set .is-set .ensures,
-        c .before .is-small .ensures,
+        c .before .is-lowercase .ensures,
         at-is-set .before .before .byte-at .ensures,
       ) at (c .if2 .taken),
     )
@@ -36,12 +36,12 @@ returns-3 c =
     let at-is-set = at-if2 .before .before in
     let at-if1 = at-is-set .before .before .before in
     rw (
-      le-ltb 1 (count (only (code "\n")) (at-if1 .before .before .before .before .args .whitespace .now))
+      le-ltb 1 (countb (only (code "\n")) (at-if1 .before .before .before .before .args .whitespace .now))
           (rw (at-if1 .before .count-of .ensures) at (at-if1 .if1 .left)),
       rw (
         at-is-set .before .is-yahoo .ensures,
         at-is-set .is-set .ensures,
-        at-if2 .before .is-small .ensures,
+        at-if2 .before .is-lowercase .ensures,
         at-is-set .before .before .byte-at .ensures,
       ) at (at-if2 .if2 .left),
       rw (at-is-set3 .before .is-set2 .ensures, at-is-set3 .is-set3 .ensures, c .before .is-set4 .ensures) at (c .if3 .taken),
@@ -56,12 +56,12 @@ returns-4 c =
     let at-is-set = at-if2 .before .before in
     let at-if1 = at-is-set .before .before .before in
     rw (
-      le-ltb 1 (count (only (code "\n")) (at-if1 .before .before .before .before .args .whitespace .now))
+      le-ltb 1 (countb (only (code "\n")) (at-if1 .before .before .before .before .args .whitespace .now))
           (rw (at-if1 .before .count-of .ensures) at (at-if1 .if1 .left)),
       rw (
         at-is-set .before .is-yahoo .ensures,
         at-is-set .is-set .ensures,
-        at-if2 .before .is-small .ensures,
+        at-if2 .before .is-lowercase .ensures,
         at-is-set .before .before .byte-at .ensures,
       ) at (at-if2 .if2 .left),
       rw (at-is-set3 .before .is-set2 .ensures, at-is-set3 .is-set3 .ensures, at-if3 .before .is-set4 .ensures) at (at-if3 .if3 .left),
@@ -79,17 +79,17 @@ returns-5 c =
     let at-byte-at = at-is-set .before .before in
     let at-if1 = at-byte-at .before in
     rw (
-      le-ltb 1 (count (only (code "\n")) (at-if1 .before .before .before .before .args .whitespace .now))
+      le-ltb 1 (countb (only (code "\n")) (at-if1 .before .before .before .before .args .whitespace .now))
           (rw (at-if1 .before .count-of .ensures) at (at-if1 .if1 .left)),
       rw (
         at-is-set .before .is-yahoo .ensures,
         at-is-set .is-set .ensures,
-        at-if2 .before .is-small .ensures,
+        at-if2 .before .is-lowercase .ensures,
         at-byte-at .byte-at .ensures,
       ) at (at-if2 .if2 .left),
       rw (at-is-set3 .before .is-set2 .ensures, at-is-set3 .is-set3 .ensures, at-if3 .before .is-set4 .ensures) at (at-if3 .if3 .left),
       rw (at-if4 .before .is-set5 .ensures) at (at-if4 .if4 .left),
-      rw (c .before .is-capital .ensures, at-byte-at .byte-at .ensures) at (c .if5 .taken),
+      rw (c .before .is-uppercase .ensures, at-byte-at .byte-at .ensures) at (c .if5 .taken),
     )
 
 returns-6 : tie.Need-returns-6
@@ -104,16 +104,16 @@ returns-6 c =
     let at-if1 = at-byte-at .before in
     let start = at-if1 .before .before .before .before in
     rw (
-      le-ltb 1 (count (only (code "\n")) (start .args .whitespace .now)) (rw (at-if1 .before .count-of .ensures) at (at-if1 .if1 .left)),
+      le-ltb 1 (countb (only (code "\n")) (start .args .whitespace .now)) (rw (at-if1 .before .count-of .ensures) at (at-if1 .if1 .left)),
       rw (
         at-is-set .before .is-yahoo .ensures,
         at-is-set .is-set .ensures,
-        at-if2 .before .is-small .ensures,
+        at-if2 .before .is-lowercase .ensures,
         at-byte-at .byte-at .ensures,
       ) at (at-if2 .if2 .left),
       rw (at-is-set3 .before .is-set2 .ensures, at-is-set3 .is-set3 .ensures, at-if3 .before .is-set4 .ensures) at (at-if3 .if3 .left),
       rw (at-if4 .before .is-set5 .ensures) at (at-if4 .if4 .left),
-      rw (c .before .before .is-capital .ensures, at-byte-at .byte-at .ensures) at (c .before .if5 .left),
+      rw (c .before .before .is-uppercase .ensures, at-byte-at .byte-at .ensures) at (c .before .if5 .left),
       lt-ltb 1 (length (start .args .whitespace .now)) (c .if6 .taken),
     )
 
@@ -130,18 +130,18 @@ returns-7 c =
     let at-if1 = at-byte-at .before in
     let start = at-if1 .before .before .before .before in
     rw (
-      le-ltb 1 (count (only (code "\n")) (start .args .whitespace .now)) (rw (at-if1 .before .count-of .ensures) at (at-if1 .if1 .left)),
+      le-ltb 1 (countb (only (code "\n")) (start .args .whitespace .now)) (rw (at-if1 .before .count-of .ensures) at (at-if1 .if1 .left)),
       rw (
         at-is-set .before .is-yahoo .ensures,
         at-is-set .is-set .ensures,
-        at-if2 .before .is-small .ensures,
+        at-if2 .before .is-lowercase .ensures,
         at-byte-at .byte-at .ensures,
       ) at (at-if2 .if2 .left),
       rw (at-is-set3 .before .is-set2 .ensures, at-is-set3 .is-set3 .ensures, at-if3 .before .is-set4 .ensures) at (at-if3 .if3 .left),
       rw (at-if4 .before .is-set5 .ensures) at (at-if4 .if4 .left),
-      rw (at-if5 .before .is-capital .ensures, at-byte-at .byte-at .ensures) at (at-if5 .if5 .left),
+      rw (at-if5 .before .is-uppercase .ensures, at-byte-at .byte-at .ensures) at (at-if5 .if5 .left),
       le-ltb 1 (length (start .args .whitespace .now)) (c .before .if6 .left),
-      c .is-abbreviation .ensures,
+      c .looks-like-abbreviation .ensures,
     )
 
 pub is-sentence-break-spec : {M : Type 1} → statement M

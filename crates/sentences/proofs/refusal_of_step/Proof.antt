@@ -1,6 +1,6 @@
 use mathlib.Core.Path.{_∙_}
 use borrow.Author.Needs.{needs}
-use Rattle.sentences.proofs.Due.{three-due}
+use Rattle.sentences.proofs.EarlierRefusal.{three-texts-refusal}
 use Rattle.sentences.proofs.refusal_of_step.Statement.{statement}
 use Rattle.sentences.proofs.refusal_of_step.Tie as tie
 
@@ -14,14 +14,14 @@ refusal-of-step-spec =
     (λ c κs. search needs)
     (λ c κs. search needs)
     (λ c.
-    let at-smaller-due = c .before .before in
-    let at-refusal-of = at-smaller-due .before .before in
+    let at-earlier-refusal = c .before .before in
+    let at-refusal-of = at-earlier-refusal .before .before in
     let start = at-refusal-of .before .before .before .before in
-    c .smaller-due2 .ensures
+    c .earlier-refusal2 .ensures
     ∙ rw (
-      at-smaller-due .smaller-due .ensures,
+      at-earlier-refusal .earlier-refusal .ensures,
       at-refusal-of .refusal-of .ensures,
-      at-smaller-due .before .refusal-of2 .ensures,
+      at-earlier-refusal .before .refusal-of2 .ensures,
       c .before .refusal-of3 .ensures,
     )
-    (three-due (start .args .whitespace .now) (start .args .name .now) (start .args .punctuation .now))))
+    (three-texts-refusal (start .args .whitespace .now) (start .args .name .now) (start .args .punctuation .now))))

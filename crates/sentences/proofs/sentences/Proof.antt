@@ -25,9 +25,9 @@ sentences-spec =
     rw (c .number .ensures)
     (fill-short (start .args .s .now) (startBytes (start .args .s .now)) (start .args .starts .now) _ (at-if1 .before .refusal-of .ensures)
     (at-if1 .if1 .left)
-    (ap (ltb (length (start .args .starts .now))) (starts-length (start .args .s .now)) ∙ sym (c .before .before .exceeds .ensures)
+    (ap (ltb (length (start .args .starts .now))) (starts-length (start .args .s .now)) ∙ sym (c .before .before .has-more-tokens .ensures)
     ∙ c .before .if2 .taken)))
-    (λ c κs. ltb-false _ _ (sym (c .before .before .exceeds .ensures) ∙ c .before .if2 .left))
+    (λ c κs. ltb-false _ _ (sym (c .before .before .has-more-tokens .ensures) ∙ c .before .if2 .left))
     (λ c. search needs)
     (λ c.
     let at-write-starts = c .before .before in
@@ -36,6 +36,6 @@ sentences-spec =
     let start = at-if1 .before .before .before .before in
     fill-done (start .args .s .now) (startBytes (start .args .s .now)) (start .args .starts .now) _ (at-if1 .before .refusal-of .ensures)
     (at-if1 .if1 .left)
-    (ap (ltb (length (start .args .starts .now))) (starts-length (start .args .s .now)) ∙ sym (at-if2 .before .exceeds .ensures)
+    (ap (ltb (length (start .args .starts .now))) (starts-length (start .args .s .now)) ∙ sym (at-if2 .before .has-more-tokens .ensures)
     ∙ at-if2 .if2 .left)
     (at-write-starts .write-starts .ensures .0) (at-write-starts .write-starts .ensures .1)))

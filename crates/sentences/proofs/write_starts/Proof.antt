@@ -7,15 +7,15 @@ use borrow.Author.Needs.{needs}
 use Rattle.tokens.specs.Tokens.{tokens}
 use Rattle.tokens.proofs.Walks.{Left, left-all, left-none, left-next, left-on, left-past}
 use Rattle.sentences.specs.Calls.{flags, startBytes}
-use Rattle.sentences.proofs.Kept.{marksFrom}
-use Rattle.sentences.proofs.Marking.{marks-next, starts-turn, starts-end, starts-whole}
+use Rattle.sentences.proofs.Kept.{sentenceStartsFrom}
+use Rattle.sentences.proofs.Marking.{startsFrom-next, starts-step, starts-end, starts-whole}
 use Rattle.sentences.proofs.write_starts.Statement.{statement}
 use Rattle.sentences.proofs.write_starts.Tie as tie
 
 abbrev Inv-loop : tie.InvT-loop
 Inv-loop s starts₀ state₀ n₀ at₀ starts state n at =
     Left s n at × (length starts ≡ length starts₀)
-    × (sets starts n (flags (marksFrom state (tokens (drop at s)))) ≡ sets starts₀ 0 (startBytes s))
+    × (sets starts n (flags (sentenceStartsFrom state (tokens (drop at s)))) ≡ sets starts₀ 0 (startBytes s))
 
 abbrev μ-loop : tie.MeasureT-loop
 μ-loop s starts₀ state₀ n₀ at₀ starts state n at = length s - at
@@ -67,11 +67,11 @@ write-starts-spec =
     let at-loop = at-if1 .before .before .before .before in
     let next = left-next (at-loop .loop .inv .0) (at-if1 .before .before .token-at .ensures) (at-if1 .before .none-left .ensures) (at-if1 .if1 .left) in
     let marks =
-    marks-next next (at-loop .loop .state) (at-start-flag .before .part2 .ensures) (at-start-flag .before .before .part .ensures)
+    startsFrom-next next (at-loop .loop .state) (at-start-flag .before .part2 .ensures) (at-start-flag .before .before .part .ensures)
     (c .before .part3 .ensures) (c .kept .ensures) in (
       left-on (at-loop .loop .inv .0) next,
       search needs,
-      starts-turn (at-loop .loop .starts) (at-loop .loop .n) marks (at-start-flag .start-flag .ensures) (at-loop .loop .inv .2),
+      starts-step (at-loop .loop .starts) (at-loop .loop .n) marks (at-start-flag .start-flag .ensures) (at-loop .loop .inv .2),
     ))
     (λ c. search needs)
     (λ c.

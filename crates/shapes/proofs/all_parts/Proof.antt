@@ -5,14 +5,14 @@ use Prim.Native.Nat.{_-_}
 use lib.ListN.{length, drop, length-drop}
 use lib.Seq.{drop-drop}
 use borrow.Author.Tests.{not-true, not-false}
-use Rattle.shapes.specs.Tests.{passes}
+use Rattle.shapes.specs.Tests.{partPasses}
 use Rattle.lists.specs.Bytes.{split, all}
 use Rattle.lists.proofs.Parts.{parts-fail, parts-end, parts-more}
 use Rattle.shapes.proofs.all_parts.Statement.{statement}
 use Rattle.shapes.proofs.all_parts.Tie as tie
 
 abbrev Inv-loop : tie.InvT-loop
-Inv-loop test c s i₀ i = all (passes test) (split c s) ≡ all (passes test) (split c (drop i s))
+Inv-loop test c s i₀ i = all (partPasses test) (split c s) ≡ all (partPasses test) (split c (drop i s))
 
 abbrev μ-loop : tie.MeasureT-loop
 μ-loop test c s i₀ i = length s - i

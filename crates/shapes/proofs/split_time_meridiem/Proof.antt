@@ -4,20 +4,20 @@ use Prim.Native.Nat.{_-_, min}
 use lib.ListN.{length, length-take}
 use borrow.Author.Tests.{lt-ltb, le-ltb, not-true, not-false}
 use Rattle.shapes.specs.Times.{timeSplit}
-use Rattle.shapes.proofs.Times.{splits}
+use Rattle.shapes.proofs.Times.{splits-time}
 use borrow.Author.Needs.{needs}
 use Rattle.shapes.proofs.split_time_meridiem.Statement.{statement}
 use Rattle.shapes.proofs.split_time_meridiem.Tie as tie
 
 returns : tie.Need-returns
 unfolding timeSplit
-returns c = splits _ _ (rw (← c .before .ends-in-meridiem .ensures, not-true (c .before .ends-in-meridiem .result) (c .if1 .taken)))
+returns c = splits-time _ _ (rw (← c .before .ends-in-meridiem .ensures, not-true (c .before .ends-in-meridiem .result) (c .if1 .taken)))
 
 returns-2 : tie.Need-returns-2
 unfolding timeSplit
 returns-2 c =
     let at-if1 = c .before .before .before in
-    splits _ _
+    splits-time _ _
     (rw (
       ← at-if1 .before .ends-in-meridiem .ensures,
       not-false (at-if1 .before .ends-in-meridiem .result) (at-if1 .if1 .left),
@@ -35,7 +35,7 @@ returns-3 c =
     let at-ends-in-meridiem = at-without-back .before .before in
     let start = at-ends-in-meridiem .before .before in
     let m : min (length (start .args .s .now) - 2) (length (start .args .s .now)) ≡ length (start .args .s .now) - 2 = omega arith in
-    splits _ _
+    splits-time _ _
     (rw (
       ← at-ends-in-meridiem .ends-in-meridiem .ensures,
       not-false (at-ends-in-meridiem .ends-in-meridiem .result) (at-without-back .before .if1 .left),
@@ -57,7 +57,7 @@ returns-4 c =
     let at-tail = c .before .before in
     let at-if2 = at-tail .before .before in
     let at-if1 = at-if2 .before .before .before in
-    splits _ _
+    splits-time _ _
     (rw (
       ← at-if1 .before .ends-in-meridiem .ensures,
       not-false (at-if1 .before .ends-in-meridiem .result) (at-if1 .if1 .left),

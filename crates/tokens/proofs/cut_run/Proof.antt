@@ -2,7 +2,7 @@ use mathlib.Core.Path.{_≡_}
 use native.Mathlib.Omega.{arith}
 use borrow.Author.Needs.{needs}
 use Rattle.lists.specs.Bytes.{span}
-use Rattle.lists.specs.Classes.{leadingMark}
+use Rattle.lists.specs.Classes.{prepunctuationMark}
 use Rattle.lists.proofs.Scan.{span-le}
 use Rattle.tokens.proofs.Cutting.{cut-marks, cut-named}
 use Rattle.tokens.proofs.cut_run.Statement.{statement}
@@ -20,8 +20,8 @@ cut-run-spec =
     rw (c .if2 .left) (cut-marks (start .args .run .now) (start .args .marks) (start .pre) (c .before .if1 .taken) .1))
     (λ c.
     let start = c .before .before in
-    let l = span-le leadingMark (start .args .run .now) in
-    let e : start .args .marks ≡ span leadingMark (start .args .run .now) = start .pre in
+    let l = span-le prepunctuationMark (start .args .run .now) in
+    let e : start .args .marks ≡ span prepunctuationMark (start .args .run .now) = start .pre in
     omega arith)
     (λ c κs. search needs)
     (λ c κs. search needs)

@@ -32,9 +32,9 @@ put-record-spec =
       at-put-pair-at3 .put-pair-at3 .ensures,
       at-put-pair-at2 .put-pair-at2 .ensures,
       at-put-pair-at .put-pair-at .ensures,
-      at-put-pair-at .before .minus .ensures,
-      at-put-pair-at2 .before .minus2 .ensures,
-      at-put-pair-at3 .before .minus3 .ensures,
-      at-put-pair-at4 .before .minus4 .ensures,
+      at-put-pair-at .before .saturating-sub .ensures,
+      at-put-pair-at2 .before .saturating-sub2 .ensures,
+      at-put-pair-at3 .before .saturating-sub3 .ensures,
+      at-put-pair-at4 .before .saturating-sub4 .ensures,
     )
     (four-pairs _ _ _ _ _ _ _ _ _ _)))

@@ -26,13 +26,13 @@ tokenize-spec =
     rw (c .number .ensures)
     (fill-short (start .args .s .now) (records 0 (tokens (start .args .s .now))) (start .args .table .now) _
     (at-if1 .before .refusal-of .ensures) (at-if1 .if1 .left)
-    (records-short (start .args .s .now) (start .args .table .now) ∙ sym (c .before .before .exceeds .ensures) ∙ c .before .if2 .taken)))
+    (records-short (start .args .s .now) (start .args .table .now) ∙ sym (c .before .before .has-more-tokens .ensures) ∙ c .before .if2 .taken)))
     (λ c κs.
-    let at-exceeds = c .before .before in
-    let start = at-exceeds .before .before .before .before .before in
+    let at-has-more-tokens = c .before .before in
+    let start = at-has-more-tokens .before .before .before .before .before in
     let h : length (records 0 (tokens (start .args .s .now))) ≤ length (start .args .table .now) =
     ltb-false _ _
-    (records-short (start .args .s .now) (start .args .table .now) ∙ sym (at-exceeds .exceeds .ensures) ∙ c .before .if2 .left) in
+    (records-short (start .args .s .now) (start .args .table .now) ∙ sym (at-has-more-tokens .has-more-tokens .ensures) ∙ c .before .if2 .left) in
     rw (records-length 0 (tokens (start .args .s .now))) at h)
     (λ c. search needs)
     (λ c.
@@ -42,5 +42,5 @@ tokenize-spec =
     let start = at-if1 .before .before .before .before in
     fill-done (start .args .s .now) (records 0 (tokens (start .args .s .now))) (start .args .table .now) _
     (at-if1 .before .refusal-of .ensures) (at-if1 .if1 .left)
-    (records-short (start .args .s .now) (start .args .table .now) ∙ sym (at-if2 .before .exceeds .ensures) ∙ at-if2 .if2 .left)
+    (records-short (start .args .s .now) (start .args .table .now) ∙ sym (at-if2 .before .has-more-tokens .ensures) ∙ at-if2 .if2 .left)
     (at-write-records .write-records .ensures .0) (at-write-records .write-records .ensures .1)))

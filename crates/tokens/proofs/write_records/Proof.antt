@@ -6,7 +6,7 @@ use lib.Seq.{sets}
 use borrow.Author.Needs.{needs}
 use Rattle.tokens.specs.Tokens.{tokens}
 use Rattle.tokens.specs.Table.{records, recordBytes}
-use Rattle.tokens.proofs.Records.{records-turn, records-end}
+use Rattle.tokens.proofs.Records.{records-step, records-end}
 use Rattle.tokens.proofs.Walks.{Left, left-all, left-none, left-next, left-on, left-past}
 use Rattle.tokens.proofs.write_records.Statement.{statement}
 use Rattle.tokens.proofs.write_records.Tie as tie
@@ -64,7 +64,7 @@ write-records-spec =
       left-on (at-loop .loop .inv .0) next,
       search needs,
       rw (c .before .before .put-record .ensures)
-          (records-turn _ _ _ _ _ _ _ (next .places) (next .token) (at-loop .loop .inv .2)),
+          (records-step _ _ _ _ _ _ _ (next .places) (next .token) (at-loop .loop .inv .2)),
     ))
     (λ c. search needs)
     (λ c.

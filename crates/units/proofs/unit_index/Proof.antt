@@ -4,13 +4,13 @@ use mathlib.Core.Path.{_≡_, sym, _∙_}
 use Prim.Native.Nat.{_-_, _+_, _≤_}
 use lib.ListN.{drop}
 use borrow.Author.Tests.{eq-eqb, ne-eqb}
-use Rattle.units.specs.Units.{unitIndex, abbreviations, before}
+use Rattle.units.specs.Units.{unitIndex, abbreviations, indexOf}
 use Rattle.units.proofs.Laws.{index-more, index-end}
 use Rattle.units.proofs.unit_index.Statement.{statement}
 use Rattle.units.proofs.unit_index.Tie as tie
 
 abbrev Inv-loop : tie.InvT-loop
-Inv-loop u keys key k₀ k = (k ≤ 22) × (unitIndex u ≡ k + before u (drop k abbreviations))
+Inv-loop u keys key k₀ k = (k ≤ 22) × (unitIndex u ≡ k + indexOf u (drop k abbreviations))
 
 abbrev μ-loop : tie.MeasureT-loop
 μ-loop u keys key k₀ k = 22 - k

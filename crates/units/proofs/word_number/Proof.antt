@@ -1,11 +1,11 @@
-use Rattle.units.specs.Units.{unitAbbreviations, unitWords, before, wordNumbers}
-use Rattle.lexicon.proofs.Laws.{lexicon}
+use Rattle.units.specs.Units.{unitAbbreviations, unitWords, indexOf, wordNumbers}
+use Rattle.vocabulary.proofs.Laws.{unfoldVocabulary}
 use borrow.Author.Needs.{needs}
 use Rattle.units.proofs.word_number.Statement.{statement}
 use Rattle.units.proofs.word_number.Tie as tie
 
 returns : tie.Need-returns
-unfolding wordNumbers before lexicon unitWords unitAbbreviations
+unfolding wordNumbers indexOf unfoldVocabulary unitWords unitAbbreviations
 returns c = c .byte-at .ensures
 
 pub word-number-spec : {M : Type 1} → statement M

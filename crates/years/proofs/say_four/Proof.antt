@@ -5,9 +5,9 @@ use Prim.Native.Nat.{_<_}
 use lib.ListN.{take}
 use Rattle.lists.proofs.Every.{every-take}
 use Rattle.numerals.specs.Words.{hundred}
-use Rattle.numerals.specs.Cardinal.{cardinalFew}
+use Rattle.numerals.specs.Cardinal.{shortCardinal}
 use Rattle.years.specs.Year.{yearOf}
-use Rattle.numerals.proofs.Vocabulary.{digit-at}
+use Rattle.numerals.proofs.NumberWords.{digit-at}
 use Rattle.numerals.proofs.Said.{said-hundred, says-more}
 use Rattle.years.proofs.YearLaws.{year-four}
 use lib.Seq.{length-take-le}
@@ -19,15 +19,15 @@ returns-2 : tie.Need-returns-2
 returns-2 c =
     let at-say = c .before .before .before .before in
     let at-if2 = at-say .before .before .before in
-    let at-say-few2 = at-if2 .before .before .before .before .before in
-    let at-front = at-say-few2 .before .before .before in
+    let at-say-short-cardinal2 = at-if2 .before .before .before .before .before in
+    let at-front = at-say-short-cardinal2 .before .before .before in
     let at-byte-at3 = at-front .before .before in
     let at-byte-at = at-byte-at3 .before .before in
     let start = at-byte-at .before .before .before .before in
     let s = start .args .ds .now in
     let y = year-four s (start .pre .0) (at-byte-at .byte-at .ensures) (at-byte-at3 .before .byte-at2 .ensures) (at-byte-at3 .byte-at3 .ensures) in
-    says-more (cardinalFew (take 2 s)) (hundred ∷ []) (y ∙ rw (at-front .before .if1 .left, at-if2 .if2 .taken)) _
-    (rw (at-front .front .ensures) at (at-say-few2 .say-few2 .ensures)) (said-hundred _ (at-say .say .ensures))
+    says-more (shortCardinal (take 2 s)) (hundred ∷ []) (y ∙ rw (at-front .before .if1 .left, at-if2 .if2 .taken)) _
+    (rw (at-front .front .ensures) at (at-say-short-cardinal2 .say-short-cardinal2 .ensures)) (said-hundred _ (at-say .say .ensures))
 
 pub say-four-spec : {M : Type 1} → statement M
 say-four-spec =
@@ -40,8 +40,8 @@ say-four-spec =
     (λ c. search needs)
     (λ c. search needs)
     (λ c.
-    let at-say-few = c .before .before .before .before in
-    let at-if1 = at-say-few .before .before .before in
+    let at-say-short-cardinal = c .before .before .before .before in
+    let at-if1 = at-say-short-cardinal .before .before .before in
     let at-byte-at2 = at-if1 .before .before in
     let start = at-byte-at2 .before .before .before .before .before in
     rw (
@@ -49,7 +49,7 @@ say-four-spec =
           (at-if1 .before .byte-at3 .ensures),
       at-if1 .if1 .taken,
     )
-    (at-say-few .say-few .ensures))
+    (at-say-short-cardinal .say-short-cardinal .ensures))
     (λ c κs. search needs)
     (λ c κs.
     let at-front = c .before .before in
@@ -63,8 +63,8 @@ say-four-spec =
     returns-2
     (λ c κs.
     let at-if2 = c .before .before in
-    let at-say-few2 = at-if2 .before .before .before .before .before in
-    let at-byte-at3 = at-say-few2 .before .before .before .before .before in
+    let at-say-short-cardinal2 = at-if2 .before .before .before .before .before in
+    let at-byte-at3 = at-say-short-cardinal2 .before .before .before .before .before in
     let at-byte-at2 = at-byte-at3 .before in
     let start = at-byte-at2 .before .before .before .before .before in
     let s = start .args .ds .now in
@@ -74,13 +74,13 @@ say-four-spec =
     (λ c.
     let at-say-two = c .before .before .before .before in
     let at-if2 = at-say-two .before .before .before in
-    let at-say-few2 = at-if2 .before .before .before .before .before in
-    let at-front = at-say-few2 .before .before .before in
+    let at-say-short-cardinal2 = at-if2 .before .before .before .before .before in
+    let at-front = at-say-short-cardinal2 .before .before .before in
     let at-byte-at3 = at-front .before .before in
     let at-byte-at2 = at-byte-at3 .before in
     let start = at-byte-at2 .before .before .before .before .before in
     let s = start .args .ds .now in
     let y = year-four s (start .pre .0) (at-byte-at2 .before .byte-at .ensures) (at-byte-at2 .byte-at2 .ensures) (at-byte-at3 .byte-at3 .ensures) in
-    says-more (cardinalFew (take 2 s)) (yearOf (at-byte-at2 .byte-at2 .result ∷ at-byte-at3 .byte-at3 .result ∷ []))
-    (y ∙ rw (at-front .before .if1 .left, at-if2 .if2 .left)) _ (rw (at-front .front .ensures) at (at-say-few2 .say-few2 .ensures))
+    says-more (shortCardinal (take 2 s)) (yearOf (at-byte-at2 .byte-at2 .result ∷ at-byte-at3 .byte-at3 .result ∷ []))
+    (y ∙ rw (at-front .before .if1 .left, at-if2 .if2 .left)) _ (rw (at-front .front .ensures) at (at-say-short-cardinal2 .say-short-cardinal2 .ensures))
     (at-say-two .say-two .ensures)))

@@ -1,5 +1,5 @@
-use Rattle.years.proofs.YearLaws.{year-few, as-two, as-three}
-use Rattle.numerals.proofs.Vocabulary.{digit-at}
+use Rattle.years.proofs.YearLaws.{year-short, as-two, as-three}
+use Rattle.numerals.proofs.NumberWords.{digit-at}
 use borrow.Author.Needs.{needs}
 use Rattle.years.proofs.say_last.Statement.{statement}
 use Rattle.years.proofs.say_last.Tie as tie
@@ -12,9 +12,9 @@ say-last-spec =
     (λ c. search needs)
     (λ c. search needs)
     (λ c.
-    let at-say-few = c .before .before .before .before in
-    let at-if1 = at-say-few .before .before .before in
-    rw (year-few (at-if1 .before .before .before .before .args .ds .now) (at-if1 .if1 .taken)) (at-say-few .say-few .ensures))
+    let at-say-short-cardinal = c .before .before .before .before in
+    let at-if1 = at-say-short-cardinal .before .before .before in
+    rw (year-short (at-if1 .before .before .before .before .args .ds .now) (at-if1 .if1 .taken)) (at-say-short-cardinal .say-short-cardinal .ensures))
     (λ c κs. search needs)
     (λ c κs. search needs)
     (λ c κs.

@@ -13,6 +13,6 @@ say-pair-spec =
     (λ c. search needs)
     (λ c. search needs)
     (λ c.
-    let at-say-few = c .before .before .before .before in
-    let start = at-say-few .before .before .before .before .before .before in
-    rw (cardinal-2 (start .args .a ∷ start .args .b ∷ []) refl) at (at-say-few .say-few .ensures)))
+    let at-say-short-cardinal = c .before .before .before .before in
+    let start = at-say-short-cardinal .before .before .before .before .before .before in
+    rw (cardinal-2 (start .args .a ∷ start .args .b ∷ []) refl) at (at-say-short-cardinal .say-short-cardinal .ensures)))

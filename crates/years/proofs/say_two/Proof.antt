@@ -5,7 +5,7 @@ use native.Mathlib.Omega.{arith}
 use Rattle.numerals.specs.Words.{one, other, spell}
 use Rattle.lists.specs.Bytes.{bytes}
 use Rattle.numerals.proofs.Said.{said-word, said-digit, says-more}
-use Rattle.years.proofs.YearLaws.{year-two, oh}
+use Rattle.years.proofs.YearLaws.{year-two, oh-word}
 use borrow.Author.Needs.{needs}
 use Rattle.years.proofs.say_two.Statement.{statement}
 use Rattle.years.proofs.say_two.Tie as tie
@@ -30,7 +30,7 @@ returns-3 c =
     let start = at-if2 .before .before .before .before in
     says-more (other (bytes "oh") ∷ []) (one (start .args .b) ∷ [])
     (year-two (start .args .a) (start .args .b) ∙ rw (eq-eqb _ _ (at-if2 .before .if1 .left), ne-eqb _ _ (at-if2 .if2 .left)))
-    _ (said-word (other (bytes "oh")) _ (rw oh at (at-say3 .say3 .ensures))) (said-digit (start .args .b) (start .pre .1 .0) _ (at-say4 .say4 .ensures))
+    _ (said-word (other (bytes "oh")) _ (rw oh-word at (at-say3 .say3 .ensures))) (said-digit (start .args .b) (start .pre .1 .0) _ (at-say4 .say4 .ensures))
 
 pub say-two-spec : {M : Type 1} → statement M
 say-two-spec =

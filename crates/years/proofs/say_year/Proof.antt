@@ -1,19 +1,19 @@
 use mathlib.Core.Path.{_≡_, sym, ap, _∙_}
 use native.Mathlib.Omega.{arith}
 use lib.ListN.{length, drop, length-drop}
-use Rattle.sink.specs.Sink.{sink}
-use Rattle.sink.proofs.Walks.{Walk, walk-start, walk-on}
+use Rattle.word_writer.specs.Writer.{writer}
+use Rattle.word_writer.proofs.Walks.{Walk, walk-start, walk-on}
 use Rattle.numerals.specs.Words.{spelled}
-use Rattle.numerals.specs.Cardinal.{clean}
+use Rattle.numerals.specs.Cardinal.{digitValues}
 use Rattle.years.specs.Year.{year}
-use Rattle.years.proofs.YearLaws.{clean-length, left-after, year-at, year-last}
+use Rattle.years.proofs.YearLaws.{digitValues-count, left-after, year-at, year-last}
 use borrow.Author.Needs.{needs}
 use Rattle.years.proofs.say_year.Statement.{statement}
 use Rattle.years.proofs.say_year.Tie as tie
 
 abbrev Inv-loop : tie.InvT-loop
 Inv-loop s store₀ table₀ p₀ i₀ left₀ store table p i left =
-    (left ≡ length (clean (drop i s))) × Walk (λ t. spelled (year t)) s (sink store₀ table₀ p₀) (sink store table p) i
+    (left ≡ length (digitValues (drop i s))) × Walk (λ t. spelled (year t)) s (writer store₀ table₀ p₀) (writer store table p) i
 
 abbrev μ-loop : tie.MeasureT-loop
 μ-loop s store₀ table₀ p₀ i₀ left₀ store table p i left = left
@@ -25,7 +25,7 @@ say-year-spec =
     Inv-loop
     μ-loop
     (λ c κs. search needs)
-    (λ c. (c .count-of .ensures ∙ sym (clean-length (c .before .before .before .before .args .s .now)), walk-start))
+    (λ c. (c .count-of .ensures ∙ sym (digitValues-count (c .before .before .before .before .args .s .now)), walk-start))
     (λ c κs. search needs)
     (λ c κs. search needs)
     (λ c.
@@ -58,10 +58,10 @@ say-year-spec =
     (λ c κs. search needs)
     (λ c κs.
     let at-front = c .before .before in
-    let at-find-few = at-front .before .before .before in
-    let l = at-find-few .before .before .before .loop in
+    let at-first-digits = at-front .before .before .before in
+    let l = at-first-digits .before .before .before .loop in
     let q =
-    year-last _ (l .left) (l .inv .0) (omega arith) _ (rw (at-find-few .before .tail2 .ensures) at (at-find-few .find-few .ensures))
+    year-last _ (l .left) (l .inv .0) (omega arith) _ (rw (at-first-digits .before .tail2 .ensures) at (at-first-digits .first-digits .ensures))
     (at-front .front .ensures) in
     (q .0, q .1))
     (λ c. search needs)
@@ -69,9 +69,9 @@ say-year-spec =
     (λ c.
     let at-say-last = c .before .before .before .before in
     let at-front = at-say-last .before .before .before in
-    let at-find-few = at-front .before .before .before in
-    let l = at-find-few .before .before .before .loop in
+    let at-first-digits = at-front .before .before .before in
+    let l = at-first-digits .before .before .before .loop in
     let q =
-    year-last _ (l .left) (l .inv .0) (omega arith) _ (rw (at-find-few .before .tail2 .ensures) at (at-find-few .find-few .ensures))
+    year-last _ (l .left) (l .inv .0) (omega arith) _ (rw (at-first-digits .before .tail2 .ensures) at (at-first-digits .first-digits .ensures))
     (at-front .front .ensures) in
     (rw (q .2) at (at-say-last .say-last .ensures)) ∙ l .inv .1 .left))

@@ -7,17 +7,17 @@ returns : tie.Need-returns
 unfolding suffix
 returns c =
     let at-if1 = c .before .before in
-    rw (← at-if1 .before .before .minus .ensures, ← at-if1 .before .byte-at .ensures, at-if1 .if1 .taken) (c .same .ensures)
+    rw (← at-if1 .before .before .saturating-sub .ensures, ← at-if1 .before .byte-at .ensures, at-if1 .if1 .taken) (c .same .ensures)
 
 returns-2 : tie.Need-returns-2
 unfolding suffix
 returns-2 c =
     let at-if1 = c .before .before .before in
     rw (
-      ← at-if1 .before .before .minus .ensures,
+      ← at-if1 .before .before .saturating-sub .ensures,
       ← at-if1 .before .byte-at .ensures,
       at-if1 .if1 .left,
-      ← c .before .before .minus2 .ensures,
+      ← c .before .before .saturating-sub2 .ensures,
       ← c .before .byte-at2 .ensures,
     )
     (c .is-suffix-for .ensures)

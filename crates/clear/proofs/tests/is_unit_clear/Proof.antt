@@ -1,6 +1,6 @@
 use lib.ListN.{drop}
 use Rattle.units.specs.Units.{abbreviations}
-use Rattle.units.proofs.Laws.{listed-before}
+use Rattle.units.proofs.Laws.{listed-indexOf}
 use Rattle.shapes.specs.Shapes.{unitAt}
 use borrow.Author.Needs.{needs}
 use Rattle.clear.proofs.tests.is_unit_clear.Statement.{statement}
@@ -20,9 +20,9 @@ is-unit-clear-spec =
     let at-tail = c .before .before in
     let s = at-tail .before .before .before .before .before .args .s .now in
     rw (
-      listed-before (drop (unitAt s) s) abbreviations,
+      listed-indexOf (drop (unitAt s) s) abbreviations,
       at-tail .before .is-plain .ensures,
-      c .is-first-row .ensures,
+      c .is-first-abbreviation .ensures,
       c .before .unit-index .ensures,
       at-tail .before .before .front .ensures,
       at-tail .tail .ensures,

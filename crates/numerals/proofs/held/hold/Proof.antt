@@ -1,10 +1,10 @@
-use Rattle.numerals.specs.Walk.{holds}
+use Rattle.numerals.specs.Walk.{holdWord}
 use borrow.Author.Needs.{needs}
 use Rattle.numerals.proofs.held.hold.Statement.{statement}
 use Rattle.numerals.proofs.held.hold.Tie as tie
 
 returns : tie.Need-returns
-unfolding holds
+unfolding holdWord
 returns c = rw (c .before .before .before .before .flush .ensures)
 
 pub hold-spec : {M : Type 1} → statement M

@@ -1,15 +1,15 @@
 use borrow.Author.Tests.{eq-eqb, ne-eqb}
-use Rattle.numerals.specs.Walk.{numberOf, holdAll}
+use Rattle.numerals.specs.Walk.{numberOf, holdWords}
 use borrow.Author.Needs.{needs}
 use Rattle.numerals.proofs.held.hold_hundreds.Statement.{statement}
 use Rattle.numerals.proofs.held.hold_hundreds.Tie as tie
 
 returns : tie.Need-returns
-unfolding holdAll
+unfolding holdWords
 returns c = rw (eq-eqb _ _ (c .if1 .taken))
 
 returns-2 : tie.Need-returns-2
-unfolding holdAll numberOf
+unfolding holdWords numberOf
 returns-2 c =
     let at-hold2 = c .before .before .before .before in
     let after-hold = at-hold2 .before .before .before .before in

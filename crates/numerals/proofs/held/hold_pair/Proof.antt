@@ -1,18 +1,18 @@
 use borrow.Author.Tests.{eq-eqb, ne-eqb}
-use Rattle.numerals.specs.Walk.{numberOf, holdAll}
+use Rattle.numerals.specs.Walk.{numberOf, holdWords}
 use Rattle.numerals.proofs.Holding.{pair-tests}
 use borrow.Author.Needs.{needs}
 use Rattle.numerals.proofs.held.hold_pair.Statement.{statement}
 use Rattle.numerals.proofs.held.hold_pair.Tie as tie
 
 returns : tie.Need-returns
-unfolding holdAll
+unfolding holdWords
 returns c =
     let start = c .before .before .before .before in
     rw (pair-tests (start .args .t) (start .args .n), eq-eqb _ _ (c .before .if1 .taken), eq-eqb _ _ (c .if2 .taken))
 
 returns-2 : tie.Need-returns-2
-unfolding holdAll numberOf
+unfolding holdWords numberOf
 returns-2 c =
     let at-hold = c .before .before .before .before in
     let at-if2 = at-hold .before .before .before in
@@ -20,7 +20,7 @@ returns-2 c =
     rw (pair-tests (start .args .t) (start .args .n), eq-eqb _ _ (at-if2 .before .if1 .taken), ne-eqb _ _ (at-if2 .if2 .left)) (at-hold .hold .ensures)
 
 returns-3 : tie.Need-returns-3
-unfolding holdAll numberOf
+unfolding holdWords numberOf
 returns-3 c =
     let at-hold2 = c .before .before .before .before in
     let at-if3 = at-hold2 .before .before .before in
@@ -28,7 +28,7 @@ returns-3 c =
     rw (pair-tests (start .args .t) (start .args .n), ne-eqb _ _ (at-if3 .before .if1 .left), eq-eqb _ _ (at-if3 .if3 .taken)) (at-hold2 .hold2 .ensures)
 
 returns-4 : tie.Need-returns-4
-unfolding holdAll numberOf
+unfolding holdWords numberOf
 returns-4 c =
     let at-hold3 = c .before .before .before .before in
     let at-if4 = at-hold3 .before .before .before in
@@ -43,7 +43,7 @@ returns-4 c =
     (at-hold3 .hold3 .ensures)
 
 returns-5 : tie.Need-returns-5
-unfolding holdAll numberOf
+unfolding holdWords numberOf
 returns-5 c =
     let at-hold5 = c .before .before .before .before in
     let after-hold4 = at-hold5 .before .before .before .before in

@@ -1,14 +1,14 @@
-use Rattle.numerals.specs.Walk.{numberOf, holdAll}
+use Rattle.numerals.specs.Walk.{numberOf, holdWords}
 use borrow.Author.Needs.{needs}
 use Rattle.numerals.proofs.held.hold_scale.Statement.{statement}
 use Rattle.numerals.proofs.held.hold_scale.Tie as tie
 
 returns : tie.Need-returns
-unfolding holdAll
+unfolding holdWords
 returns c = rw (c .if1 .taken)
 
 returns-2 : tie.Need-returns-2
-unfolding holdAll numberOf
+unfolding holdWords numberOf
 returns-2 c =
     let at-hold = c .before .before .before .before in
     rw (at-hold .before .before .before .if1 .left) (at-hold .hold .ensures)

@@ -17,8 +17,8 @@ use Rattle.numerals.proofs.held.hold.Reads as hold-reads
 use Rattle.numerals.proofs.held.hold_hundreds.Reads as hold-hundreds-reads
 use Rattle.numerals.proofs.held.hold_pair.Reads as hold-pair-reads
 use Rattle.numerals.proofs.held.hold_scale.Reads as hold-scale-reads
-use Rattle.numerals.proofs.number.scale.Reads as scale-reads
-use Rattle.numerals.proofs.number.silent.Reads as silent-reads
+use Rattle.numerals.proofs.number.scale_for.Reads as scale-for-reads
+use Rattle.numerals.proofs.number.has_no_words.Reads as has-no-words-reads
 
 abbrev μ-hold-cardinal : Measures 3 hold-cardinal-kinds.ps ℕ
 μ-hold-cardinal κs a = length (a .0 .now)
@@ -49,12 +49,12 @@ pub +hold-cardinal-spec : {M : Type 1} → statement M
   tail-reads.Learnt,
   hold-cardinal-below t,
   hold-cardinal.Post,
-  scale-reads.Asked,
-  scale-reads.Learnt,
+  scale-for-reads.Asked,
+  scale-for-reads.Learnt,
   front-reads.Asked,
   front-reads.Learnt,
-  silent-reads.Asked,
-  silent-reads.Learnt,
+  has-no-words-reads.Asked,
+  has-no-words-reads.Learnt,
   hold-scale-reads.Asked,
   hold-scale-reads.Learnt,
 )
@@ -111,19 +111,19 @@ pub +hold-cardinal-spec : {M : Type 1} → statement M
     let at-if3 = c .before .before in
     let at-if1 = at-if3 .before .before in
     let p =
-    parts-shorter (at-if1 .before .before .before .before .args .ds .now) (c .scale .result)
-    (over-3 _ (at-if1 .if1 .left) (at-if3 .before .if2 .left) (at-if3 .if3 .left) (c .before .if4 .left)) (c .scale .ensures .0) in
+    parts-shorter (at-if1 .before .before .before .before .args .ds .now) (c .scale-for .result)
+    (over-3 _ (at-if1 .if1 .left) (at-if3 .before .if2 .left) (at-if3 .if3 .left) (c .before .if4 .left)) (c .scale-for .ensures .0) in
     omega (arith, p .0))
     (λ c κs. search needs)
     (λ c κs.
-    let at-scale = c .before .before .before in
-    let at-if3 = at-scale .before .before in
+    let at-scale-for = c .before .before .before in
+    let at-if3 = at-scale-for .before .before in
     let at-if1 = at-if3 .before .before in
     let start = at-if1 .before .before .before .before in
     let p =
-    parts-shorter (start .args .ds .now) (at-scale .scale .result)
-    (over-3 _ (at-if1 .if1 .left) (at-if3 .before .if2 .left) (at-if3 .if3 .left) (at-scale .before .if4 .left))
-    (at-scale .scale .ensures .0) in
+    parts-shorter (start .args .ds .now) (at-scale-for .scale-for .result)
+    (over-3 _ (at-if1 .if1 .left) (at-if3 .before .if2 .left) (at-if3 .if3 .left) (at-scale-for .before .if4 .left))
+    (at-scale-for .scale-for .ensures .0) in
     rw (c .before .before .front .ensures) (omega (arith, p .1, start .pre .0), omega (arith, p .1, start .pre .1)))
     (λ c κs. search needs)
     (λ c κs. search needs)
@@ -131,15 +131,15 @@ pub +hold-cardinal-spec : {M : Type 1} → statement M
     (λ c κs.
     let at-tail2 = c .before .before in
     let past-scale = at-tail2 .before .before .before .before .before .before in
-    let after-scale = past-scale .before .before .before .before .before .before in
-    let at-scale = after-scale .before .before .before .before .before in
-    let at-if3 = at-scale .before .before in
+    let after-scale-for = past-scale .before .before .before .before .before .before in
+    let at-scale-for = after-scale-for .before .before .before .before .before in
+    let at-if3 = at-scale-for .before .before in
     let at-if1 = at-if3 .before .before in
     let start = at-if1 .before .before .before .before in
     let p =
-    parts-shorter (start .args .ds .now) (at-scale .scale .result)
-    (over-3 _ (at-if1 .if1 .left) (at-if3 .before .if2 .left) (at-if3 .if3 .left) (at-scale .before .if4 .left))
-    (at-scale .scale .ensures .0) in
+    parts-shorter (start .args .ds .now) (at-scale-for .scale-for .result)
+    (over-3 _ (at-if1 .if1 .left) (at-if3 .before .if2 .left) (at-if3 .if3 .left) (at-scale-for .before .if4 .left))
+    (at-scale-for .scale-for .ensures .0) in
     rw (at-tail2 .tail2 .ensures) (omega (arith, p .2, start .pre .0), omega (arith, p .2, start .pre .1)))
     (λ c. search needs)
     (λ c. search needs)
@@ -147,15 +147,15 @@ pub +hold-cardinal-spec : {M : Type 1} → statement M
     let at-hold-cardinal3 = c .before .before .before .before in
     let at-tail2 = at-hold-cardinal3 .before .before .before in
     let at-hold-scale = at-tail2 .before .before .before .before .before in
-    let at-silent = at-hold-scale .before .before .before in
-    let at-hold-cardinal2 = at-silent .before .before .before .before .before in
+    let at-has-no-words = at-hold-scale .before .before .before in
+    let at-hold-cardinal2 = at-has-no-words .before .before .before .before .before in
     let at-front = at-hold-cardinal2 .before .before .before in
-    let at-scale = at-front .before in
-    let at-if3 = at-scale .before .before in
+    let at-scale-for = at-front .before in
+    let at-if3 = at-scale-for .before .before in
     let at-if1 = at-if3 .before .before in
     let start = at-if1 .before .before .before .before in
     hold-more (start .args .ds .now) _
-    (over-3 _ (at-if1 .if1 .left) (at-if3 .before .if2 .left) (at-if3 .if3 .left) (at-scale .before .if4 .left)) (start .pre .1)
-    (at-scale .scale .result) (at-scale .scale .ensures .0) (rw (at-front .front .ensures) at (at-hold-cardinal2 .hold-cardinal2 .ensures))
-    (rw (at-silent .silent .ensures, at-front .front .ensures) at (at-hold-scale .hold-scale .ensures))
+    (over-3 _ (at-if1 .if1 .left) (at-if3 .before .if2 .left) (at-if3 .if3 .left) (at-scale-for .before .if4 .left)) (start .pre .1)
+    (at-scale-for .scale-for .result) (at-scale-for .scale-for .ensures .0) (rw (at-front .front .ensures) at (at-hold-cardinal2 .hold-cardinal2 .ensures))
+    (rw (at-has-no-words .has-no-words .ensures, at-front .front .ensures) at (at-hold-scale .hold-scale .ensures))
     (rw (at-tail2 .tail2 .ensures) at (at-hold-cardinal3 .hold-cardinal3 .ensures)))

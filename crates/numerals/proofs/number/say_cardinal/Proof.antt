@@ -1,7 +1,7 @@
 use borrow.Author.Tests.{le-leb, lt-leb}
 use lib.ListN.{length}
-use Rattle.numerals.specs.Cardinal.{clean, cardinal, cardinalOf, digits}
-use Rattle.numerals.proofs.Vocabulary.{clean-digits}
+use Rattle.numerals.specs.Cardinal.{digitValues, cardinal, cardinalOf, digits}
+use Rattle.numerals.proofs.NumberWords.{digitValues-below-ten}
 use Rattle.numerals.proofs.Picking.{few-digits, few-more, few-all}
 use borrow.Author.Needs.{needs}
 use Rattle.numerals.proofs.number.say_cardinal.Statement.{statement}
@@ -12,21 +12,21 @@ unfolding cardinal cardinalOf digits
 returns c =
     let at-say-digits = c .before .before .before .before in
     let at-if1 = at-say-digits .before .before .before in
-    let at-find-few = at-if1 .before .before in
-    let s = at-find-few .before .before .before .before .args .s .now in
-    rw (lt-leb (length (clean s)) 12 (few-more s _ (at-find-few .find-few .ensures) (at-if1 .if1 .taken))) (at-say-digits .say-digits .ensures)
+    let at-first-digits = at-if1 .before .before in
+    let s = at-first-digits .before .before .before .before .args .s .now in
+    rw (lt-leb (length (digitValues s)) 12 (few-more s _ (at-first-digits .first-digits .ensures) (at-if1 .if1 .taken))) (at-say-digits .say-digits .ensures)
 
 returns-2 : tie.Need-returns-2
 unfolding cardinal cardinalOf
 returns-2 c =
-    let at-say-few = c .before .before .before .before in
-    let at-front = at-say-few .before .before .before in
+    let at-say-short-cardinal = c .before .before .before .before in
+    let at-front = at-say-short-cardinal .before .before .before in
     let at-if1 = at-front .before .before .before in
-    let at-find-few = at-if1 .before .before in
-    let s = at-find-few .before .before .before .before .args .s .now in
-    let e = at-find-few .find-few .ensures in
+    let at-first-digits = at-if1 .before .before in
+    let s = at-first-digits .before .before .before .before .args .s .now in
+    let e = at-first-digits .first-digits .ensures in
     let n = few-all s _ e (at-if1 .if1 .left) in
-    rw (le-leb (length (clean s)) 12 n, ← few-digits s _ e n, ← at-front .front .ensures) (at-say-few .say-few .ensures)
+    rw (le-leb (length (digitValues s)) 12 n, ← few-digits s _ e n, ← at-front .front .ensures) (at-say-short-cardinal .say-short-cardinal .ensures)
 
 pub say-cardinal-spec : {M : Type 1} → statement M
 say-cardinal-spec =
@@ -42,11 +42,11 @@ say-cardinal-spec =
     (λ c κs.
     let at-front = c .before .before in
     let at-if1 = at-front .before .before .before in
-    let at-find-few = at-if1 .before .before in
-    let s = at-find-few .before .before .before .before .args .s .now in
-    let e = at-find-few .find-few .ensures in
+    let at-first-digits = at-if1 .before .before in
+    let s = at-first-digits .before .before .before .before .args .s .now in
+    let e = at-first-digits .first-digits .ensures in
     let n = few-all s _ e (at-if1 .if1 .left) in
-    rw (at-front .front .ensures, few-digits s _ e n) (n, clean-digits s))
+    rw (at-front .front .ensures, few-digits s _ e n) (n, digitValues-below-ten s))
     (λ c. search needs)
     (λ c. search needs)
     returns-2)

@@ -2,7 +2,7 @@ use mathlib.Core.Path.{_≡_}
 use Prim.Native.Nat.{_-_}
 use native.Mathlib.Omega.{arith}
 use lib.ListN.{take}
-use Rattle.numerals.proofs.Digits.{clean-last, last-some}
+use Rattle.numerals.proofs.Digits.{digitValues-last, last-some}
 use Rattle.numerals.proofs.Flushing.{long-said}
 use borrow.Author.Needs.{needs}
 use Rattle.numerals.proofs.number.say_long_ordinal.Statement.{statement}
@@ -35,5 +35,5 @@ say-long-ordinal-spec =
     long-said (start .args .s .now) (take (at-after-last .after-last .result - 1) (start .args .s .now))
     (at-digit-value .digit-value .result) _ (start .pre)
     (rw (at-digit-value .digit-value .ensures, at-digit-value .before .byte-at .ensures, at-after-last .after-last .ensures)
-    (clean-last (start .args .s .now) (last-some (start .args .s .now) (omega (arith, start .pre)))))
+    (digitValues-last (start .args .s .now) (last-some (start .args .s .now) (omega (arith, start .pre)))))
     (rw (at-front .front .ensures) at (at-say-digits .say-digits .ensures)) (at-say .say .ensures)))

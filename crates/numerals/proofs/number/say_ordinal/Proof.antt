@@ -1,5 +1,5 @@
 use lib.ListN.{take}
-use Rattle.sink.specs.Sink.{sink}
+use Rattle.word_writer.specs.Writer.{writer}
 use Rattle.numerals.proofs.Picking.{few-digits, few-more, few-all}
 use Rattle.numerals.proofs.Flushing.{ordinal-said}
 use borrow.Author.Needs.{needs}
@@ -12,8 +12,8 @@ say-ordinal-spec =
     (tie.spec
     (λ c κs. search needs)
     (λ c κs.
-    let at-find-few = c .before .before .before .before in
-    few-more (at-find-few .before .before .before .before .args .s .now) _ (at-find-few .find-few .ensures) (c .before .before .if1 .taken))
+    let at-first-digits = c .before .before .before .before in
+    few-more (at-first-digits .before .before .before .before .args .s .now) _ (at-first-digits .first-digits .ensures) (c .before .before .if1 .taken))
     (λ c. search needs)
     (λ c. search needs)
     (λ c. search needs)
@@ -22,9 +22,9 @@ say-ordinal-spec =
     (λ c κs.
     let at-front = c .before .before in
     let at-if1 = at-front .before .before .before in
-    let at-find-few = at-if1 .before .before in
-    let s = at-find-few .before .before .before .before .args .s .now in
-    let e = at-find-few .find-few .ensures in
+    let at-first-digits = at-if1 .before .before in
+    let s = at-first-digits .before .before .before .before .args .s .now in
+    let e = at-first-digits .first-digits .ensures in
     let n = few-all s _ e (at-if1 .if1 .left) in
     rw (at-front .front .ensures, few-digits s _ e n) n)
     (λ c κs. search needs)
@@ -37,12 +37,12 @@ say-ordinal-spec =
     let at-hold-cardinal = at-ordinal-number .before .before .before .before .before in
     let at-front = at-hold-cardinal .before .before .before in
     let at-if1 = at-front .before .before .before in
-    let at-find-few = at-if1 .before .before in
-    let start = at-find-few .before .before .before .before in
+    let at-first-digits = at-if1 .before .before in
+    let start = at-first-digits .before .before .before .before in
     let s = start .args .s .now in
-    let f = at-find-few .find-few in
+    let f = at-first-digits .first-digits in
     let n = few-all s (f .result) (f .ensures) (at-if1 .if1 .left) in
-    let σ = sink (start .args .store .now) (start .args .table .now) (start .args .pen) in
+    let σ = writer (start .args .store .now) (start .args .table .now) (start .args .cursor) in
     ordinal-said s (take (f .result .n) (f .result .d)) σ (few-digits s (f .result) (f .ensures) n) n
     (rw (at-front .front .ensures) at (at-hold-cardinal .hold-cardinal .ensures)) _ (at-ordinal-number .ordinal-number .ensures)
     (at-say .say .ensures)))

@@ -7,10 +7,10 @@ use Rattle.replay_calls.proofs.answers.compare_call.Statement.{statemen
 use Rattle.replay_calls.proofs.answers.compare_call.Tie as tie
 
 abbrev Inv-loop : tie.InvT-loop
-Inv-loop what k told s result out₀ now₀ case₀ out now case = length out ≡ length out₀
+Inv-loop what k expected s result out₀ now₀ case₀ out now case = length out ≡ length out₀
 
 abbrev μ-loop : tie.MeasureT-loop
-μ-loop what k told s result out₀ now₀ case₀ out now case = 3 - case
+μ-loop what k expected s result out₀ now₀ case₀ out now case = 3 - case
 
 pub compare-call-spec : {M : Type 1} → statement M
 compare-call-spec =

@@ -8,10 +8,10 @@ use Rattle.replay_calls.proofs.lines.put_lines.Statement.{statement}
 use Rattle.replay_calls.proofs.lines.put_lines.Tie as tie
 
 abbrev Inv-loop : tie.InvT-loop
-Inv-loop told lines₀ pieces end₀ at₀ lines end at = length lines ≡ length lines₀
+Inv-loop expected lines₀ pieces end₀ at₀ lines end at = length lines ≡ length lines₀
 
 abbrev μ-loop : tie.MeasureT-loop
-μ-loop told lines₀ pieces end₀ at₀ lines end at = length pieces - at
+μ-loop expected lines₀ pieces end₀ at₀ lines end at = length pieces - at
 
 pub put-lines-spec : {M : Type 1} → statement M
 put-lines-spec =

@@ -14,14 +14,14 @@ kept-spec =
     (λ c κs. search needs)
     (λ c κs. search needs)
     (λ c.
-    let at-has2 = c .before .before in
-    let at-byte-at = at-has2 .before .before in
+    let at-contains-flag2 = c .before .before in
+    let at-byte-at = at-contains-flag2 .before .before in
     rw (
       at-byte-at .before .before .head-of .ensures,
       at-byte-at .byte-at .ensures,
-      at-byte-at .before .minus .ensures,
-      at-has2 .before .has .ensures,
-      at-has2 .has2 .ensures,
-      c .before .has3 .ensures,
-      c .has4 .ensures,
+      at-byte-at .before .saturating-sub .ensures,
+      at-contains-flag2 .before .contains-flag .ensures,
+      at-contains-flag2 .contains-flag2 .ensures,
+      c .before .contains-flag3 .ensures,
+      c .contains-flag4 .ensures,
     )))

@@ -1,0 +1,18 @@
+use mathlib.Core.Path.{sym}
+use Rattle.lists.proofs.Scan.{same-long}
+use Rattle.vocabulary.proofs.Laws.{word-packed}
+use borrow.Author.Needs.{needs}
+use Rattle.clear.proofs.tests.is_vocabulary_word.Statement.{statement}
+use Rattle.clear.proofs.tests.is_vocabulary_word.Tie as tie
+
+pub is-vocabulary-word-spec : {M : Type 1} → statement M
+is-vocabulary-word-spec =
+    tie.close
+    (tie.spec
+    (λ c κs. search needs)
+    (λ c. sym (same-long _ _ _ (rw (c .before .word-len .ensures) at (c .if1 .taken))))
+    (λ c κs. search needs)
+    (λ c. search needs)
+    (λ c κs. search needs)
+    (λ c κs. search needs)
+    (λ c. rw (c .same .ensures, c .before .unpacked .ensures, c .before .before .before .packed .ensures, word-packed)))

@@ -1,0 +1,22 @@
+-- Every clear name is heeded, kind by kind. Assumes nothing.
+use mathlib.Core.List.{List}
+use Prim.Native.Nat.{ℕ}
+use Rattle.clear.specs.Clear.{Clear, is-number, is-percent, is-time, is-meridiem, is-ordinal, is-unit, is-initials, is-word}
+use Rattle.decoder.proofs.Decoded.{Decoded}
+use Rattle.decoder.proofs.Numbers.{number-decoded, percent-decoded}
+use Rattle.decoder.proofs.TimeRows.{time-decoded, meridiem-decoded}
+use Rattle.decoder.proofs.Ordinals.{ordinal-decoded}
+use Rattle.decoder.proofs.Units.{unit-decoded}
+use Rattle.decoder.proofs.Initials.{initials-decoded}
+use Rattle.decoder.proofs.OneWord.{lowercase-lowered, word-decoded}
+
+-- a word outside the tables is heard as itself, whether or not it is an answer of `cardinal` or `ordinal`
+pub clear-decoded : (n : List ℕ) → Clear n → Decoded n
+clear-decoded n (is-number s a) = number-decoded s a
+clear-decoded n (is-percent s a) = percent-decoded s a
+clear-decoded n (is-time h m a b c) = time-decoded h m a b c
+clear-decoded n (is-meridiem h m x a b c) = meridiem-decoded h m x a b c
+clear-decoded n (is-ordinal s a) = ordinal-decoded s a
+clear-decoded n (is-unit s k a b c) = unit-decoded s k a b c
+clear-decoded n (is-initials c d cs a) = initials-decoded c d cs a
+clear-decoded n (is-word s a b c d e) = word-decoded s (lowercase-lowered s b) a b c

@@ -1,0 +1,125 @@
+-- Capitals with single dots between: row 2 takes them, and they are heard from their letters. Assumes nothing.
+use mathlib.Core.Path.{_≡_, refl, ap, ap₂, _∙_}
+use mathlib.Core.Bool.{Bool, true, _&&_, and-eq-true-iff, not}
+use mathlib.Core.List.{List, [], _∷_, map}
+use Prim.Native.Nat.{ℕ, _+_, _-_, _≤_}
+use Prim.Native.Char.{code}
+use native.Mathlib.Omega.{arith}
+use lib.Dec.{eqb, leb}
+use lib.ListN.{length}
+use borrow.Author.Tests.{leb-true, eqb-true, ne-eqb}
+use Rattle.lists.specs.Bytes.{all, filterb, sameBy, uppercase, endsWith}
+use Rattle.lists.specs.Classes.{letter, except}
+use Rattle.lists.proofs.Scan.{all-within, class-apart}
+use Rattle.lists.proofs.Table.{below}
+use Rattle.shapes.specs.Shapes.{isDottedAbbrev}
+use Rattle.numerals.specs.Words.{other, spell, spelled}
+use Rattle.letters.specs.Letters.{letterWord}
+use Rattle.rows.specs.Rows.{by, readStep, readWith}
+use Rattle.rows.specs.declared.Row.the-variants.{Dotted}
+use Rattle.rows.proofs.Laws.{step-eq}
+use Rattle.rows.proofs.Dotted.{letter-chars}
+use Rattle.clear.specs.Test.{uppercaseOrPoint}
+use Rattle.clear.proofs.Initials.{initials-test}
+use Rattle.clear.specs.Clear.{dottedInitials}
+use Rattle.decoder.specs.Decode.{isLetterWord, uppercaseOf, decodeInitials, decode}
+use Rattle.decoder.proofs.Decoded.{DecodedWith}
+use Rattle.decoder.proofs.Dispatch.{not-single, decoded}
+
+-- ---- capitals
+
+-- the word of a letter
+abbrev initial : ℕ → List ℕ
+initial b = letterWord (b ∷ [])
+
+isReadBack : ℕ → Bool
+isReadBack b = isLetterWord (initial b) && eqb (uppercaseOf (initial b)) b
+
+uppercase-range : (b : ℕ) → uppercase b ≡ true → (65 ≤ b) × (b ≤ 90)
+uppercase-range b h = (leb-true 65 b (and-eq-true-iff (leb 65 b) (leb b 90) .0 h .0), leb-true b 90 (and-eq-true-iff (leb 65 b) (leb b 90) .0 h .1))
+
+uppercase-letter : (b : ℕ) → uppercase b ≡ true → letter b ≡ true
+uppercase-letter b h = rw h
+
+-- a capital's letter is a letter's word, and the capital is heard from it
+uppercase-read-back : (b : ℕ) → uppercase b ≡ true → isReadBack b ≡ true
+unfolding isReadBack letterWord sameBy all
+uppercase-read-back b h =
+    let r = uppercase-range b h in
+    let e : b - 65 + 65 ≡ b = omega arith in
+    rw e at (below (λ k. isReadBack (k + 65)) 26 refl (b - 65) (omega arith))
+
+module _ (b : ℕ) (h : uppercase b ≡ true) where
+  is-letter : isLetterWord (initial b) ≡ true
+  unfolding isReadBack
+  is-letter = and-eq-true-iff (isLetterWord (initial b)) _ .0 (uppercase-read-back b h) .0
+
+  same-capital : uppercaseOf (initial b) ≡ b
+  unfolding isReadBack
+  same-capital = eqb-true _ b (and-eq-true-iff (isLetterWord (initial b)) _ .0 (uppercase-read-back b h) .1)
+
+-- ---- the name
+
+dottedInitials-some : (c : ℕ) (cs : List ℕ) → 1 ≤ length (dottedInitials c cs)
+unfolding dottedInitials
+dottedInitials-some c [] = omega arith
+dottedInitials-some c (d ∷ cs) = omega arith
+
+dottedInitials-filterb : (c : ℕ) (cs : List ℕ) → all uppercase (c ∷ cs) ≡ true → filterb (except (code ".")) (dottedInitials c cs) ≡ c ∷ cs
+unfolding dottedInitials filterb all
+dottedInitials-filterb c [] h = rw (class-apart uppercase (code ".") c refl (and-eq-true-iff (uppercase c) true .0 h .0))
+dottedInitials-filterb c (d ∷ cs) h =
+    rw (class-apart uppercase (code ".") c refl (and-eq-true-iff (uppercase c) (all uppercase (d ∷ cs)) .0 h .0))
+    (ap (λ (s : List ℕ). c ∷ s) (dottedInitials-filterb d cs (and-eq-true-iff (uppercase c) (all uppercase (d ∷ cs)) .0 h .1)))
+
+-- ---- its letters
+
+spelled-initials : (s : List ℕ) → spelled (map (λ b. other (initial b)) s) ≡ map initial s
+unfolding spelled spell
+spelled-initials [] = refl
+spelled-initials (b ∷ s) = ap (λ (ws : List (List ℕ)). initial b ∷ ws) (spelled-initials s)
+
+initials-read-back : (s : List ℕ) → all uppercase s ≡ true → map uppercaseOf (map initial s) ≡ s
+unfolding all
+initials-read-back [] h = refl
+initials-read-back (b ∷ s) h =
+    ap₂ (λ (x : ℕ) (t : List ℕ). x ∷ t) (same-capital b (and-eq-true-iff (uppercase b) (all uppercase s) .0 h .0))
+    (initials-read-back s (and-eq-true-iff (uppercase b) (all uppercase s) .0 h .1))
+
+module _ (c d : ℕ) (cs : List ℕ) (h : all uppercase (c ∷ d ∷ cs) ≡ true) where
+  abbrev name : List ℕ
+  name = dottedInitials c (d ∷ cs)
+
+  capitals-letters : all letter (c ∷ d ∷ cs) ≡ true
+  capitals-letters = all-within uppercase letter uppercase-letter (c ∷ d ∷ cs) h
+
+  is-dotted : isDottedAbbrev name ≡ true
+  is-dotted =
+      let name-dotted = isDottedAbbrev name && not (endsWith (code ".") name) in
+      and-eq-true-iff (isDottedAbbrev name) (not (endsWith (code ".") name)) .0
+      (and-eq-true-iff name-dotted (all uppercaseOrPoint name) .0 (initials-test c d cs h) .0) .0
+
+  row : (word : List ℕ → List ℕ) → readWith word name ≡ by Dotted (map (λ b. other (initial b)) (c ∷ d ∷ cs))
+  unfolding readStep
+  row word =
+      step-eq word name
+      ∙ rw (
+        ne-eqb (length name) 0 (λ z. omega (arith, dottedInitials-some c (d ∷ cs))),
+        is-dotted,
+        dottedInitials-filterb c (d ∷ cs) h,
+        letter-chars (c ∷ d ∷ cs) capitals-letters,
+      )
+
+  letters-heard : decode (map initial (c ∷ d ∷ cs)) ≡ name
+  unfolding decode decodeInitials all
+  letters-heard =
+      let p = and-eq-true-iff (uppercase c) (all uppercase (d ∷ cs)) .0 h .0 in
+      rw (not-single (map initial (c ∷ d ∷ cs)) (omega arith), is-letter c p)
+      (ap₂ dottedInitials (same-capital c p) (initials-read-back (d ∷ cs) (and-eq-true-iff (uppercase c) (all uppercase (d ∷ cs)) .0 h .1)))
+
+-- capitals with dots between are heeded
+pub initials-decoded : {word : List ℕ → List ℕ} (c d : ℕ) (cs : List ℕ) → all uppercase (c ∷ d ∷ cs) ≡ true → DecodedWith word (dottedInitials c (d ∷ cs))
+initials-decoded {word} c d cs h =
+    let e = spelled-initials (c ∷ d ∷ cs) in
+    decoded (dottedInitials c (d ∷ cs)) (map (λ b. other (initial b)) (c ∷ d ∷ cs)) (ap (λ r. r .words) (row c d cs h word))
+    (rw e (letters-heard c d cs h))

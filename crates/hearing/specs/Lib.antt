@@ -1,2 +1,0 @@
-pub mod Hear
-pub mod Sheets

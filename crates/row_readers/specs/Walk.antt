@@ -1,0 +1,26 @@
+-- What the readers of rows pass on to each other. Definitions only; no public promise is made of them.
+use mathlib.Core.Path.{_≡_}
+use mathlib.Core.List.{List, [], _∷_, map}
+use Prim.Native.Nat.{ℕ}
+use Prim.Native.Char.{code}
+use lib.ListN.{drop}
+use Rattle.lists.specs.Bytes.{filterb, toLower}
+use Rattle.lists.specs.Classes.{except}
+use Rattle.word_writer.specs.Writer.{Writer, emitAll}
+use Rattle.numerals.specs.Words.{Word, other, spelled}
+use Rattle.letters.specs.Letters.{letterWord}
+use Rattle.rows.specs.Rows.{Reading, firstTaking, rows, read}
+use Rattle.rows.specs.declared.Row.{Row}
+
+-- a reading is said from σ to τ, and its row answered
+pub record Says (g : Reading) (σ τ : Writer) (r : Row) : Type 0 where
+  pub row : r ≡ g .row
+  pub said : τ ≡ emitAll (spelled (g .words)) σ
+
+-- one word for each byte that is no point
+unfoldable pub initials : List ℕ → List Word
+initials s = map (λ b. other (letterWord (b ∷ []))) (filterb (except (code ".")) s)
+
+-- the rows after the n-th, of a name that none before took
+unfoldable pub rowsAfter : ℕ → List ℕ → Reading
+rowsAfter n s = firstTaking (drop n (rows (map toLower) read s))
