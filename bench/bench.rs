@@ -9,6 +9,9 @@
 #[path = "../tests/answers.rs"]
 mod answers;
 mod call_rows;
+#[allow(dead_code)]
+#[path = "../tests/howhakiru.rs"]
+mod howhakiru;
 mod inputs;
 #[allow(dead_code)]
 #[path = "../tests/linear.rs"]
@@ -26,9 +29,6 @@ mod token_rows;
 #[allow(dead_code)]
 #[path = "../tests/tokens.rs"]
 mod tokens;
-#[allow(dead_code)]
-#[path = "../tests/voice.rs"]
-mod voice;
 
 /// One row of a table, in nanoseconds a call.
 pub struct Row {

@@ -6,10 +6,10 @@ use std::str::from_utf8;
 
 use reference::text;
 
+use crate::howhakiru;
 use crate::inputs::{repeated, KIB};
 use crate::rows;
 use crate::timing::{compared, in_turn};
-use crate::voice;
 use crate::Row;
 
 /// A kind of sheet, and what it repeats.
@@ -42,7 +42,7 @@ const AMPLE: usize = 11 * LONGEST + 11;
 /// The bytes of the call sheet.
 fn ours(out: &mut [u8], text: &[u8]) -> usize {
     let out = black_box(out);
-    unsafe { voice::hwk_call_sheet(text.as_ptr(), text.len(), out.as_mut_ptr(), out.len()) }.bytes
+    unsafe { howhakiru::hwk_call_sheet(text.as_ptr(), text.len(), out.as_mut_ptr(), out.len()) }.bytes
 }
 
 fn rust(text: &[u8]) -> usize {
@@ -86,8 +86,8 @@ pub fn doubling() {
     for (sheet, piece) in sheets() {
         let mut out = vec![0; AMPLE];
         let times = in_turn(SIZES.map(|size| repeated(&piece, size)), |text| ours(&mut out, text));
-        let told = times.map(|time| format!("{time:.0}")).join(" | ");
-        println!("| call_sheet | {sheet} | {told} | {:.1} |", times[2] / times[0]);
+        let columns = times.map(|time| format!("{time:.0}")).join(" | ");
+        println!("| call_sheet | {sheet} | {columns} | {:.1} |", times[2] / times[0]);
     }
 }
 
@@ -99,7 +99,7 @@ pub fn entry_rows() -> Vec<Row> {
     for name in names {
         let call = |text: &[u8]| {
             let out = black_box(&mut out[..512]);
-            unsafe { voice::hwk_call_entry(text.as_ptr(), text.len(), 0, out.as_mut_ptr(), out.len()) }.bytes
+            unsafe { howhakiru::hwk_call_entry(text.as_ptr(), text.len(), 0, out.as_mut_ptr(), out.len()) }.bytes
         };
         let (ours, rust) = compared(name, name.as_bytes(), call, rust);
         rows.push(Row { call: "call_entry", input: format!("sheet of one entry, {name}"), ours, rust });

@@ -3,10 +3,10 @@
 use std::hint::black_box;
 use std::str::from_utf8;
 
+use crate::howhakiru;
 use crate::inputs::{repeated, KIB};
-use crate::readings::READERS;
+use crate::readings::READINGS;
 use crate::timing::{compared, in_turn};
-use crate::voice;
 use crate::Row;
 
 const ROMAN_VALUE: &str = "roman_value";
@@ -15,7 +15,7 @@ const ROMAN_VALUE: &str = "roman_value";
 const STORE: usize = 11 * 64 * KIB + 11;
 const TABLE: usize = 16 * 64 * KIB + 16;
 
-/// A reader and a text for it.
+/// A reading and a text for it.
 #[rustfmt::skip]
 const SHORT: &[(&str, &str)] = &[
     ("cardinal", "7"), ("cardinal", "123456"), ("cardinal", "777777777777"), ("ordinal", "21"), ("ordinal", "123456"), ("year", "1984"),
@@ -28,7 +28,7 @@ const LONG: &[(&str, &str)] = &[("digits", "7"), ("cardinal", "7"), ("letters", 
 /// Read in buffers of the exact size too, so that ours measures before it writes.
 const EXACT: &[(&str, &str, usize)] = &[("cardinal", "123456", 6), ("cardinal", "777777777777", 12), ("digits", "7", 64 * KIB)];
 
-/// A reader, and what its text repeats. The Rust's year, real and roman_value are quadratic, so all are timed at 8 KiB alone.
+/// A reading, and what its text repeats. The Rust's year, real and roman_value are quadratic, so all are timed at 8 KiB alone.
 #[rustfmt::skip]
 const DOUBLED: &[(&str, &str)] = &[
     ("digits", "7"), ("cardinal", "7"), ("letters", "Zurich "), ("year", "77"), ("real", "-1.5e"), ("real", "-"), (ROMAN_VALUE, "MDCLXVI"),
@@ -58,8 +58,8 @@ pub fn doubling() {
         let times = in_turn(SIZES.map(|size| repeated(piece, size)), |text| ours.ours(text));
         let smallest = repeated(piece, SIZES[0]);
         let (_, rust) = compared(call, &smallest, |text| ours.ours(text), |text| rust.rust(text));
-        let told = times.map(|time| format!("{time:.0}")).join(" | ");
-        println!("| {call} | `{piece}` | {told} | {:.1} | {rust:.0} |", times[3] / times[0]);
+        let columns = times.map(|time| format!("{time:.0}")).join(" | ");
+        println!("| {call} | `{piece}` | {columns} | {:.1} | {rust:.0} |", times[3] / times[0]);
     }
 }
 
@@ -78,31 +78,31 @@ fn exact_row(call: &'static str, input: String, text: &[u8]) -> Row {
 
 /// Both sides of one call, and the buffers of ours. Each side answers a number that must be the same.
 struct Sides {
-    reader: Option<usize>,
+    reading: Option<usize>,
     store: Vec<u8>,
     table: Vec<u8>,
 }
 
 impl Sides {
     fn new(call: &str) -> Self {
-        let reader = READERS.iter().position(|(name, _)| *name == call);
-        assert!(reader.is_some() || call == ROMAN_VALUE, "no call {call}");
-        Sides { reader, store: vec![0; STORE], table: vec![0; TABLE] }
+        let reading = READINGS.iter().position(|(name, _)| *name == call);
+        assert!(reading.is_some() || call == ROMAN_VALUE, "no call {call}");
+        Sides { reading, store: vec![0; STORE], table: vec![0; TABLE] }
     }
 
     /// Leaves the buffers just the room for the reading of `text`.
     fn cut_to(&mut self, text: &[u8]) {
-        let words = READERS[self.reader.expect("a reader")].1(from_utf8(text).expect("UTF-8"));
+        let words = READINGS[self.reading.expect("a reading")].1(from_utf8(text).expect("UTF-8"));
         self.store.truncate(words.iter().map(String::len).sum());
         self.table.truncate(8 * words.len());
     }
 
     fn ours(&mut self, text: &[u8]) -> usize {
-        let Some(reader) = self.reader else {
-            return unsafe { voice::hwk_roman_value(text.as_ptr(), text.len()) }.value as usize;
+        let Some(reading) = self.reading else {
+            return unsafe { howhakiru::hwk_roman_value(text.as_ptr(), text.len()) }.value as usize;
         };
         let (store, table) = (black_box(&mut self.store), black_box(&mut self.table));
-        let read = voice::READERS[reader];
+        let read = howhakiru::READINGS[reading];
         let words = unsafe {
             read(text.as_ptr(), text.len(), store.as_mut_ptr(), store.len(), table.as_mut_ptr(), table.len())
         };
@@ -111,9 +111,9 @@ impl Sides {
 
     fn rust(&self, text: &[u8]) -> usize {
         let Ok(text) = from_utf8(text) else { return 0 };
-        match self.reader {
+        match self.reading {
             None => reference::numbers::roman_value(text) as usize,
-            Some(reader) => black_box(READERS[reader].1(text)).len(),
+            Some(reading) => black_box(READINGS[reading].1(text)).len(),
         }
     }
 }

@@ -8,5 +8,5 @@ tests/library.sh
 mkdir -p target/bench
 rustc --edition 2021 -C opt-level=3 -o target/bench/bench bench/bench.rs \
     -L target/reference --extern reference=target/reference/libreference.rlib \
-    -L target/staticlib -l static=voice
+    -L target/staticlib -l static=howhakiru
 target/bench/bench "$@"

@@ -5,9 +5,9 @@ use std::str::from_utf8;
 
 use reference::patterns;
 
+use crate::howhakiru;
 use crate::inputs::{self, Input};
 use crate::timing::compared;
-use crate::voice;
 use crate::Row;
 
 pub fn rows() -> Vec<Row> {
@@ -27,7 +27,7 @@ macro_rules! verdict {
         compared(
             $input.name,
             &$input.text,
-            |text| unsafe { voice::$ours(text.as_ptr(), text.len()) }.yes as usize,
+            |text| unsafe { howhakiru::$ours(text.as_ptr(), text.len()) }.yes as usize,
             |text| from_utf8(text).is_ok_and($rust) as usize,
         )
     };
@@ -65,7 +65,7 @@ fn n_digits(input: &Input) -> (f64, f64) {
     compared(
         input.name,
         &input.text,
-        |text| unsafe { voice::hwk_is_n_digits(text.as_ptr(), text.len(), black_box(n)) }.yes as usize,
+        |text| unsafe { howhakiru::hwk_is_n_digits(text.as_ptr(), text.len(), black_box(n)) }.yes as usize,
         |text| from_utf8(text).is_ok_and(|text| patterns::is_n_digits(text, black_box(n))) as usize,
     )
 }
@@ -76,7 +76,7 @@ fn split_time_meridiem(input: &Input) -> (f64, f64) {
         input.name,
         &input.text,
         |text| {
-            let time = unsafe { voice::hwk_split_time_meridiem(text.as_ptr(), text.len()) };
+            let time = unsafe { howhakiru::hwk_split_time_meridiem(text.as_ptr(), text.len()) };
             time.meridiem_at + time.yes as usize
         },
         |text| {
@@ -91,7 +91,7 @@ fn split_unit(input: &Input) -> (f64, f64) {
     compared(
         input.name,
         &input.text,
-        |text| unsafe { voice::hwk_split_unit(text.as_ptr(), text.len()) }.offset,
+        |text| unsafe { howhakiru::hwk_split_unit(text.as_ptr(), text.len()) }.offset,
         |text| from_utf8(text).ok().and_then(patterns::split_unit).map_or(0, |(number, _)| number.len()),
     )
 }
@@ -104,7 +104,7 @@ fn unit_word(input: &Input) -> (f64, f64) {
         &input.text,
         |text| {
             let store = black_box(&mut ours);
-            unsafe { voice::hwk_unit_word(text.as_ptr(), text.len(), store.as_mut_ptr(), store.len()) }.len
+            unsafe { howhakiru::hwk_unit_word(text.as_ptr(), text.len(), store.as_mut_ptr(), store.len()) }.len
         },
         |text| {
             let word = from_utf8(text).ok().and_then(patterns::unit_word).unwrap_or("");

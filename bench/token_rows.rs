@@ -7,10 +7,10 @@ use std::str::from_utf8;
 
 use reference::text::{self, SentenceBuilder, Token};
 
+use crate::howhakiru;
 use crate::inputs::{repeated, KIB};
 use crate::timing::{compared, in_turn};
 use crate::tokens::TOKEN_BYTES;
-use crate::voice;
 use crate::Row;
 
 /// A kind of sheet, and what it repeats.
@@ -60,12 +60,12 @@ impl Buffers {
 
     fn tokenize(&mut self, text: &[u8]) -> usize {
         let table = black_box(&mut self.table);
-        unsafe { voice::hwk_tokenize(text.as_ptr(), text.len(), table.as_mut_ptr(), table.len()) }.tokens
+        unsafe { howhakiru::hwk_tokenize(text.as_ptr(), text.len(), table.as_mut_ptr(), table.len()) }.tokens
     }
 
     fn sentences(&mut self, text: &[u8]) -> usize {
         let starts = black_box(&mut self.starts);
-        unsafe { voice::hwk_sentences(text.as_ptr(), text.len(), starts.as_mut_ptr(), starts.len()) }.tokens
+        unsafe { howhakiru::hwk_sentences(text.as_ptr(), text.len(), starts.as_mut_ptr(), starts.len()) }.tokens
     }
 
     fn both(&mut self, text: &[u8]) -> usize {
@@ -113,8 +113,8 @@ pub fn doubling() {
         for &(sheet, piece) in SHEETS {
             let mut buffers = Buffers::ample();
             let times = in_turn(SIZES.map(|size| repeated(piece, size)), |text| call(&mut buffers, text));
-            let told = times.map(|time| format!("{time:.0}")).join(" | ");
-            println!("| {name} | {sheet} | {told} | {:.1} |", times[2] / times[0]);
+            let columns = times.map(|time| format!("{time:.0}")).join(" | ");
+            println!("| {name} | {sheet} | {columns} | {:.1} |", times[2] / times[0]);
         }
     }
 }
@@ -146,11 +146,11 @@ fn tokens_and_parts(text: &[u8]) -> (VecDeque<Token>, Vec<Parts>) {
 }
 
 fn ours_in_steps(tokens: &[Parts]) -> usize {
-    let mut state = unsafe { voice::hwk_fresh() };
+    let mut state = unsafe { howhakiru::hwk_fresh() };
     let mut breaks = 0;
     for [whitespace, name, punctuation] in tokens {
         let step = unsafe {
-            voice::hwk_push(
+            howhakiru::hwk_push(
                 state,
                 whitespace.as_ptr(),
                 whitespace.len(),

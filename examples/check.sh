@@ -45,5 +45,5 @@ says '^   2 - five millimeters$' "$voice_unit" "$sheet"
 
 # The quick start of README.md works as it stands there.
 sed -n "/cat >quick.c/,/^    END/p" README.md | sed '1d;$d;s/^    //' >target/examples/quick.c
-gcc -Iinclude target/examples/quick.c target/staticlib/libvoice.a -o target/examples/quick
+gcc -Iinclude target/examples/quick.c target/staticlib/libhowhakiru.a -o target/examples/quick
 target/examples/quick | diff crates/callsheet/stdout -

@@ -9,7 +9,7 @@ shift
 tests/library.sh
 mkdir -p target/examples
 gcc -std=c99 -pedantic -Wall -Wextra -Werror -g -fsanitize=address,undefined -fno-sanitize-recover=all \
-    -Iinclude -o "target/examples/$example" "examples/$example.c" target/staticlib/libvoice.a
+    -Iinclude -o "target/examples/$example" "examples/$example.c" target/staticlib/libhowhakiru.a
 
 program=$PWD/target/examples/$example
 cd "$from"

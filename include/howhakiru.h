@@ -1,6 +1,6 @@
 /* howhakiru: the reader of the voice unit, for C.
  *
- * Link target/staticlib/libvoice.a, which `rt staticlib voice` writes for x86-64 Linux. Of the C library it needs memcpy alone.
+ * Link target/staticlib/libhowhakiru.a, which `rt staticlib howhakiru` writes for x86-64 Linux. Of the C library it needs memcpy alone.
  *
  *     const char *sheet = "Bar 12 at 9:30. Rack 5mm (21st)\n"; // seven entries
  *     uint8_t line[HWK_CALL_MOST(32)];

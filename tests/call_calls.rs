@@ -5,8 +5,8 @@ use std::ptr::null_mut;
 use crate::answers;
 use crate::clear;
 use crate::comparison::{shown, Comparison, Lent};
+use crate::howhakiru;
 use crate::rows::{call_most, Called};
-use crate::voice;
 
 /// How many there are: the whole sheet, one entry, the verdict.
 pub const CALL_CALLS: usize = 3;
@@ -65,7 +65,7 @@ impl Comparison {
         let called = Called::of(lent.admitted);
         self.whole_null(lent, &called, &called.sheet());
         // SAFETY: the text is lent for the call, and the buffer has no bytes.
-        let ours = unsafe { voice::hwk_call_entry(lent.start, lent.text.len(), 0, null_mut(), 0) };
+        let ours = unsafe { howhakiru::hwk_call_entry(lent.start, lent.text.len(), 0, null_mut(), 0) };
         self.settle(lent, format_args!("hwk_call_entry (null buffer)"), ours, called.entry(0, 0).0);
     }
 
@@ -84,7 +84,7 @@ impl Comparison {
     fn whole(&mut self, lent: Lent, called: &Called, sheet: &[u8], len: usize) {
         let buffer = self.store.lend(len, lent.gap);
         // SAFETY: the text and the buffer are lent for the call, and stand apart.
-        let ours = unsafe { voice::hwk_call_sheet(lent.start, lent.text.len(), buffer, len) };
+        let ours = unsafe { howhakiru::hwk_call_sheet(lent.start, lent.text.len(), buffer, len) };
         let rust = called.whole(sheet.len(), len);
         let name = format_args!("hwk_call_sheet (buffer of {len})");
         self.settle(lent, name, ours, rust);
@@ -93,7 +93,7 @@ impl Comparison {
 
     fn whole_null(&mut self, lent: Lent, called: &Called, sheet: &[u8]) {
         // SAFETY: the text is lent for the call, and the buffer has no bytes.
-        let ours = unsafe { voice::hwk_call_sheet(lent.start, lent.text.len(), null_mut(), 0) };
+        let ours = unsafe { howhakiru::hwk_call_sheet(lent.start, lent.text.len(), null_mut(), 0) };
         self.settle(lent, format_args!("hwk_call_sheet (null buffer)"), ours, called.whole(sheet.len(), 0));
     }
 
@@ -121,7 +121,7 @@ impl Comparison {
     fn entry(&mut self, lent: Lent, called: &Called, number: usize, len: usize) {
         let buffer = self.store.lend(len, lent.gap);
         // SAFETY: the text and the buffer are lent for the call, and stand apart.
-        let ours = unsafe { voice::hwk_call_entry(lent.start, lent.text.len(), number, buffer, len) };
+        let ours = unsafe { howhakiru::hwk_call_entry(lent.start, lent.text.len(), number, buffer, len) };
         let (rust, line) = called.entry(number, len);
         let name = format_args!("hwk_call_entry (entry {number}, buffer of {len})");
         self.settle(lent, name, ours, rust);
@@ -137,7 +137,7 @@ impl Comparison {
     /// The verdict on a name, against document 01's list read by itself.
     pub fn clear(&mut self, lent: Lent) {
         // SAFETY: the text is lent for the call.
-        let ours = unsafe { voice::hwk_is_clear(lent.start, lent.text.len()) };
+        let ours = unsafe { howhakiru::hwk_is_clear(lent.start, lent.text.len()) };
         self.settle(lent, format_args!("hwk_is_clear"), ours, answers::verdict(lent.admitted, clear::is_clear));
     }
 

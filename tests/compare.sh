@@ -27,7 +27,7 @@ tests/library.sh
 mkdir -p target/compare
 rustc --edition 2021 -C opt-level=3 -o target/compare/harness tests/harness.rs \
     -L target/reference --extern reference=target/reference/libreference.rlib \
-    -L target/staticlib -l static=voice
+    -L target/staticlib -l static=howhakiru
 
 target/compare/harness "$seconds" "$seed" || status=$?
 if [ "$status" -gt 128 ]; then

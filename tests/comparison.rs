@@ -8,7 +8,7 @@ use std::process;
 use crate::answers::{self, Admitted};
 use crate::call_calls::CALL_CALLS;
 use crate::lent::{Buffer, Fenced};
-use crate::reading_calls::READINGS;
+use crate::reading_calls::READING_CALLS;
 use crate::shape_calls::SHAPES;
 use crate::token_calls::TOKEN_CALLS;
 
@@ -16,7 +16,7 @@ use crate::token_calls::TOKEN_CALLS;
 /// call sheet.
 pub const CALLS: usize = TOKENS_END + CALL_CALLS;
 
-const READINGS_END: usize = SHAPES + READINGS;
+const READINGS_END: usize = SHAPES + READING_CALLS;
 const TOKENS_END: usize = READINGS_END + TOKEN_CALLS;
 
 const DIFFERENCES_SHOWN: usize = 20;

@@ -8,14 +8,15 @@ use std::thread;
 use std::time::{Duration, Instant};
 
 mod answers;
-mod apart;
 mod call_calls;
 mod call_corners;
 mod call_texts;
 mod clear;
 mod comparison;
 mod corners;
+mod distinguish;
 mod exhaustive;
+mod howhakiru;
 mod lent;
 mod linear;
 mod linear_forms;
@@ -40,7 +41,6 @@ mod token_long;
 mod token_texts;
 mod tokens;
 mod utf8;
-mod voice;
 
 use comparison::{Comparison, Counts};
 use random::Random;
@@ -148,7 +148,7 @@ fn calls(comparison: &mut Comparison, long: bool) {
     call_texts::exhaustive(comparison, long);
     call_texts::long_names(comparison);
     call_texts::long_sheets(comparison);
-    apart::names(comparison);
+    distinguish::names(comparison);
 }
 
 /// Each random group for some tenths of a second.
@@ -176,5 +176,5 @@ fn tokens_round(comparison: &mut Comparison, random: &mut Random) {
 fn calls_round(comparison: &mut Comparison, random: &mut Random) {
     call_texts::random(comparison, random, 5_000);
     call_texts::random_pieces(comparison, random, 10_000);
-    apart::sheets(comparison, random, 10_000);
+    distinguish::sheets(comparison, random, 10_000);
 }

@@ -3,10 +3,10 @@
 set -euo pipefail
 cd "$(dirname "$0")/.."
 
-library=target/staticlib/libvoice.a
+library=target/staticlib/libhowhakiru.a
 if [ ! -e "$library" ] || [ -n "$(find crates.txt crates -newer "$library" -type f | head -n 1)" ]; then
     mkdir -p target
-    rt staticlib voice >target/library.log 2>&1 || {
+    rt staticlib howhakiru >target/library.log 2>&1 || {
         tail -n 40 target/library.log
         exit 1
     }

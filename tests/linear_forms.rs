@@ -7,7 +7,7 @@ use crate::linear;
 use crate::random::Random;
 
 const PIECES: &[&str] = &["0", "7", "19", "00", "-", "+", "e", "E", ".", ",", "I", "V", "x", "M", "d", "é"];
-const FEW: usize = 3;
+const PIECES_IN_TEXT: usize = 3;
 const TEXTS: usize = 2_000;
 
 /// Repeated to some lengths. At the limit each takes the Rust a second, so there only the first two are, unless there is time.
@@ -18,7 +18,7 @@ const LENGTHS: &[usize] = &[400, 16_384];
 pub fn check(long: bool) {
     let mut random = Random::new(1);
     for number in 0..TEXTS {
-        let pieces: Vec<&str> = (0..FEW).map(|_| *random.one_of(PIECES)).collect();
+        let pieces: Vec<&str> = (0..PIECES_IN_TEXT).map(|_| *random.one_of(PIECES)).collect();
         alike(&(0..number % 300).map(|_| *random.one_of(&pieces)).collect::<String>());
     }
     for length in LENGTHS {

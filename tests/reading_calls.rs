@@ -3,12 +3,12 @@
 use std::ptr::null_mut;
 
 use crate::comparison::{shown, Comparison, Lent};
+use crate::howhakiru;
 use crate::readings::{self, Reading};
 use crate::shape_calls::SHAPES;
-use crate::voice;
 
 /// How many there are: the readers with words, which come first, and roman_value.
-pub const READINGS: usize = voice::READERS.len() + 1;
+pub const READING_CALLS: usize = howhakiru::READINGS.len() + 1;
 
 /// Three of them, as `one_call` numbers the calls.
 pub const REAL: usize = SHAPES + 4;
@@ -28,7 +28,7 @@ const ROOMS: &[(isize, isize)] = &[
 impl Comparison {
     /// One call, in buffers of the exact size and in those whose turn it is.
     pub fn reading(&mut self, call: usize, lent: Lent) {
-        if call == voice::READERS.len() {
+        if call == howhakiru::READINGS.len() {
             return self.roman_value(lent);
         }
         let reading = self.rust_reading(call, lent);
@@ -40,7 +40,7 @@ impl Comparison {
     /// Compares every reading in buffers of every size.
     pub fn every_room(&mut self, text: &[u8], gap: usize) {
         self.with(text, gap, |comparison, lent| {
-            for call in 0..voice::READERS.len() {
+            for call in 0..howhakiru::READINGS.len() {
                 let reading = comparison.rust_reading(call, lent);
                 comparison.reading_in(call, lent, &reading, (0, 0));
                 ROOMS.iter().for_each(|&room| comparison.reading_in(call, lent, &reading, room));
@@ -51,10 +51,10 @@ impl Comparison {
 
     /// The pointers for empty buffers may be null.
     pub fn readings_without_buffers(&mut self, lent: Lent) {
-        for (call, read) in voice::READERS.iter().enumerate() {
+        for (call, read) in howhakiru::READINGS.iter().enumerate() {
             // SAFETY: all three lengths are 0, so nothing is read or written.
             let ours = unsafe { read(lent.start, 0, null_mut(), 0, null_mut(), 0) };
-            let name = readings::READERS[call].0;
+            let name = readings::READINGS[call].0;
             let rust = self.rust_reading(call, lent).answer(0, 0);
             self.settle(lent, format_args!("hwk_{name} (null buffers)"), ours, rust);
         }
@@ -63,7 +63,7 @@ impl Comparison {
     fn rust_reading(&mut self, call: usize, lent: Lent) -> Reading {
         let reading = Reading::of(lent.admitted, call);
         if !reading.fits_most(lent.text.len()) {
-            let name = readings::READERS[call].0;
+            let name = readings::READINGS[call].0;
             let needed = (reading.store.len(), reading.table.len());
             self.differ(lent, format_args!("the room that suffices for hwk_{name}"), &"the header's", &needed);
         }
@@ -77,8 +77,8 @@ impl Comparison {
         let table = self.table.lend(table_len, lent.gap);
         let rust = reading.answer(store_len, table_len);
         // SAFETY: the text and both buffers are lent for the call, and stand apart.
-        let ours = unsafe { voice::READERS[call](lent.start, lent.text.len(), store, store_len, table, table_len) };
-        let name = readings::READERS[call].0;
+        let ours = unsafe { howhakiru::READINGS[call](lent.start, lent.text.len(), store, store_len, table, table_len) };
+        let name = readings::READINGS[call].0;
         let name = format_args!("hwk_{name} (store of {store_len}, table of {table_len})");
         self.settle(lent, name, ours, rust);
         let (words, pairs) =
@@ -93,7 +93,7 @@ impl Comparison {
 
     fn roman_value(&mut self, lent: Lent) {
         // SAFETY: the text is lent for the call.
-        let ours = unsafe { voice::hwk_roman_value(lent.start, lent.text.len()) };
+        let ours = unsafe { howhakiru::hwk_roman_value(lent.start, lent.text.len()) };
         self.settle(lent, format_args!("hwk_roman_value"), ours, readings::roman_value(lent.admitted));
     }
 }

@@ -23,7 +23,7 @@ pub struct Number {
 pub type Read = fn(&str) -> Vec<String>;
 
 /// The readers, in the order of the header.
-pub const READERS: [(&str, Read); 6] = [
+pub const READINGS: [(&str, Read); 6] = [
     ("cardinal", numbers::cardinal),
     ("ordinal", numbers::ordinal),
     ("year", numbers::year),
@@ -36,7 +36,7 @@ pub const READERS: [(&str, Read); 6] = [
 const LONG: usize = 1_024;
 
 fn words(call: usize, text: &str) -> Vec<String> {
-    match READERS[call] {
+    match READINGS[call] {
         ("year", _) if text.len() >= LONG => linear::year(text),
         ("real", _) if text.len() >= LONG => linear::real(text),
         (_, read) => read(text),

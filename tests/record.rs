@@ -23,6 +23,7 @@ mod readings;
 mod recorded_calls;
 mod recorded_numbers;
 mod recorded_shapes;
+mod recorded_text;
 mod recorded_tokens;
 #[allow(dead_code)] // the harness compares answers
 mod rows;
@@ -30,7 +31,6 @@ mod rows;
 mod token_corners;
 #[allow(dead_code)] // the harness asks for answers in every buffer
 mod tokens;
-mod told;
 
 fn main() {
     let Some(folder) = std::env::args().nth(1) else {

@@ -3,7 +3,7 @@
 //! A line has three fields and one for each entry, with a tab between: HEAD CLEAR SHEET ENTRY...
 //! HEAD is REPEAT BYTE TAIL REFUSAL. CLEAR is 1 where the text, as a name, is clear, else 0. SHEET is the whole sheet's call:
 //! REFUSAL TOKENS WORDS LINES. LINES are the lines of all entries, end to end; a refused entry has none. Where the sheet is
-//! not refused they are the call sheet. They are told in pieces COUNTxHEX, bytes that stand so many times, with a comma
+//! not refused they are the call sheet. They are written in pieces COUNTxHEX, bytes that stand so many times, with a comma
 //! between, and - stands for none. An ENTRY is one entry's call: REFUSAL ROW SIGN WORDS BYTES, its line being as many bytes of
 //! LINES, after those of the entries before it.
 
@@ -13,9 +13,9 @@ use crate::clear::{self, BARRED};
 use crate::corners::DAMAGED;
 use crate::pieces;
 use crate::random::Random;
+use crate::recorded_text::{each_once, hex, RecordedText};
 use crate::rows::Called;
 use crate::token_corners;
-use crate::told::{each_once, hex, Told};
 
 const SEED: u64 = 2112;
 
@@ -54,16 +54,16 @@ pub fn lines() -> Vec<String> {
     each_once(texts()).iter().map(line).collect()
 }
 
-fn texts() -> Vec<Told> {
-    let mut texts = vec![Told::plain(b""), Told::plain(SHEET.as_bytes())];
-    texts.extend(NAMES.iter().chain(BARRED).map(|name| Told::plain(name.as_bytes())));
-    texts.extend(NAMES.iter().step_by(2).map(|name| Told::plain(format!("({name}). \"{name}!\n").as_bytes())));
+fn texts() -> Vec<RecordedText> {
+    let mut texts = vec![RecordedText::plain(b""), RecordedText::plain(SHEET.as_bytes())];
+    texts.extend(NAMES.iter().chain(BARRED).map(|name| RecordedText::plain(name.as_bytes())));
+    texts.extend(NAMES.iter().step_by(2).map(|name| RecordedText::plain(format!("({name}). \"{name}!\n").as_bytes())));
     let corners = token_corners::LISTS.iter().flat_map(|list| list.iter().step_by(SOME));
-    texts.extend(corners.map(|text| Told::plain(text.as_bytes())));
-    texts.extend(DAMAGED.iter().step_by(2).map(|text| Told::plain(text)));
-    texts.extend(DAMAGED.iter().step_by(4).map(|text| Told::plain(&[&b"Bar 12 "[..], text, b" 5mm"].concat())));
-    texts.extend(AT_THE_LIMIT.iter().map(Told::of_length));
-    texts.extend(random_texts().iter().map(|text| Told::plain(text.as_bytes())));
+    texts.extend(corners.map(|text| RecordedText::plain(text.as_bytes())));
+    texts.extend(DAMAGED.iter().step_by(2).map(|text| RecordedText::plain(text)));
+    texts.extend(DAMAGED.iter().step_by(4).map(|text| RecordedText::plain(&[&b"Bar 12 "[..], text, b" 5mm"].concat())));
+    texts.extend(AT_THE_LIMIT.iter().map(RecordedText::of_length));
+    texts.extend(random_texts().iter().map(|text| RecordedText::plain(text.as_bytes())));
     texts
 }
 
@@ -81,15 +81,15 @@ fn random_texts() -> Vec<String> {
     texts
 }
 
-fn line(told: &Told) -> String {
-    let text = told.text();
+fn line(recorded: &RecordedText) -> String {
+    let text = recorded.text();
     let admitted = answers::admit(&text);
     let clear = answers::verdict(admitted, clear::is_clear).yes;
     let called = Called::of(admitted);
     let lines = called.sheet();
     let whole = called.whole(lines.len(), lines.len());
     let counts = format!("{} {} {}", whole.refusal, whole.tokens, whole.words);
-    let mut line = format!("{}\t{clear}\t{counts} {}", told.head(), told_lines(&lines));
+    let mut line = format!("{}\t{clear}\t{counts} {}", recorded.head(), pieces_of(&lines));
     for number in 0..called.lines.len() {
         let (entry, _) = called.entry(number, lines.len());
         line += &format!("\t{} {} {} {} {}", entry.refusal, entry.row, entry.sign, entry.words, entry.bytes);
@@ -102,12 +102,12 @@ const UNIT_MOST: usize = 12;
 const RUN_LEAST: usize = 64;
 
 /// Pieces COUNTxHEX with a comma between.
-fn told_lines(lines: &[u8]) -> String {
+fn pieces_of(lines: &[u8]) -> String {
     if lines.is_empty() {
         return "-".to_string();
     }
-    let told: Vec<String> = runs(lines).iter().map(|(unit, count)| format!("{count}x{}", hex(unit))).collect();
-    told.join(",")
+    let pieces: Vec<String> = runs(lines).iter().map(|(unit, count)| format!("{count}x{}", hex(unit))).collect();
+    pieces.join(",")
 }
 
 /// Bytes, and how many times they stand there, one after another.
@@ -129,7 +129,7 @@ fn runs(bytes: &[u8]) -> Vec<(&[u8], usize)> {
     runs
 }
 
-/// What the bytes start with again and again, if that is long enough to be told as such.
+/// What the bytes start with again and again, if that is long enough to be written as such.
 fn run(bytes: &[u8]) -> Option<(&[u8], usize)> {
     let units = (1..=UNIT_MOST.min(bytes.len())).map(|len| &bytes[..len]);
     let mut runs = units.map(|unit| (unit, bytes.chunks(unit.len()).take_while(|&chunk| chunk == unit).count()));

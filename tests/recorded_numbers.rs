@@ -13,8 +13,8 @@ use crate::corners;
 use crate::number_corners;
 use crate::pieces;
 use crate::random::Random;
-use crate::readings::{Read, READERS};
-use crate::told::{each_once, Told};
+use crate::readings::{Read, READINGS};
+use crate::recorded_text::{each_once, RecordedText};
 
 const SEED: u64 = 1905;
 
@@ -40,14 +40,14 @@ const AT_THE_LIMIT: &[(u8, &[u8], usize)] = &[
 ];
 
 pub fn lines() -> Vec<String> {
-    let mut texts: Vec<Told> = Vec::new();
+    let mut texts: Vec<RecordedText> = Vec::new();
     let corners = number_corners::LISTS.iter().flat_map(|list| list.iter());
-    texts.extend(corners.map(|text| Told::plain(text.as_bytes())));
+    texts.extend(corners.map(|text| RecordedText::plain(text.as_bytes())));
     let shapes = corners::LISTS.iter().flat_map(|list| list.iter().step_by(SOME));
-    texts.extend(shapes.map(|text| Told::plain(text.as_bytes())));
-    texts.extend(corners::DAMAGED.iter().map(|text| Told::plain(text)));
-    texts.extend(AT_THE_LIMIT.iter().map(Told::of_length));
-    texts.extend(random_texts().iter().map(|text| Told::plain(text.as_bytes())));
+    texts.extend(shapes.map(|text| RecordedText::plain(text.as_bytes())));
+    texts.extend(corners::DAMAGED.iter().map(|text| RecordedText::plain(text)));
+    texts.extend(AT_THE_LIMIT.iter().map(RecordedText::of_length));
+    texts.extend(random_texts().iter().map(|text| RecordedText::plain(text.as_bytes())));
     each_once(texts).iter().map(line).collect()
 }
 
@@ -67,13 +67,13 @@ fn random_texts() -> Vec<String> {
     texts
 }
 
-fn line(told: &Told) -> String {
-    let text = told.text();
+fn line(recorded: &RecordedText) -> String {
+    let text = recorded.text();
     let admitted = answers::admit(&text);
     let fields: Vec<String> =
-        READERS.iter().map(|(_, read)| admitted.map_or(String::new(), |text| field(text, *read))).collect();
+        READINGS.iter().map(|(_, read)| admitted.map_or(String::new(), |text| field(text, *read))).collect();
     let roman = admitted.map_or(0, roman_value);
-    format!("{}\t{}\t{roman}\n", told.head(), fields.join("\t"))
+    format!("{}\t{}\t{roman}\n", recorded.head(), fields.join("\t"))
 }
 
 fn field(text: &str, read: Read) -> String {

@@ -9,7 +9,7 @@ use crate::answers::{self, Admitted};
 use crate::corners;
 use crate::pieces;
 use crate::random::Random;
-use crate::told::{each_once, hex, Told};
+use crate::recorded_text::{each_once, hex, RecordedText};
 
 const SEED: u64 = 1984;
 
@@ -40,12 +40,12 @@ const AT_THE_LIMIT: &[(u8, &[u8], usize)] = &[
 ];
 
 pub fn lines() -> Vec<String> {
-    let mut texts: Vec<Told> = Vec::new();
+    let mut texts: Vec<RecordedText> = Vec::new();
     let corners = corners::LISTS.iter().flat_map(|list| list.iter());
-    texts.extend(corners.map(|text| Told::plain(text.as_bytes())));
-    texts.extend(corners::DAMAGED.iter().map(|text| Told::plain(text)));
-    texts.extend(AT_THE_LIMIT.iter().map(Told::of_length));
-    texts.extend(random_texts().iter().map(|text| Told::plain(text)));
+    texts.extend(corners.map(|text| RecordedText::plain(text.as_bytes())));
+    texts.extend(corners::DAMAGED.iter().map(|text| RecordedText::plain(text)));
+    texts.extend(AT_THE_LIMIT.iter().map(RecordedText::of_length));
+    texts.extend(random_texts().iter().map(|text| RecordedText::plain(text)));
     each_once(texts).iter().map(line).collect()
 }
 
@@ -65,15 +65,15 @@ fn random_texts() -> Vec<Vec<u8>> {
     texts
 }
 
-fn line(told: &Told) -> String {
-    let text = told.text();
+fn line(recorded: &RecordedText) -> String {
+    let text = recorded.text();
     let admitted = answers::admit(&text);
     let time = answers::split_time_meridiem(admitted);
     let unit = answers::split_unit(admitted);
     let (word, written) = answers::unit_word(admitted, usize::MAX);
     format!(
         "{} {} {} {} {} {} {} {} {} {} {} {}\n",
-        told.head(),
+        recorded.head(),
         bits(admitted, text.len()),
         time.yes,
         time.hour_len,

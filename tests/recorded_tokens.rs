@@ -8,9 +8,9 @@ use crate::answers;
 use crate::corners;
 use crate::pieces;
 use crate::random::Random;
+use crate::recorded_text::{each_once, RecordedText};
 use crate::token_corners;
 use crate::tokens::Tokenized;
-use crate::told::{each_once, Told};
 
 const SEED: u64 = 1801;
 
@@ -32,15 +32,15 @@ const AT_THE_LIMIT: &[(u8, &[u8], usize)] = &[
 ];
 
 pub fn lines() -> Vec<String> {
-    let mut texts: Vec<Told> = Vec::new();
+    let mut texts: Vec<RecordedText> = Vec::new();
     let corners = token_corners::LISTS.iter().flat_map(|list| list.iter());
-    texts.extend(corners.map(|text| Told::plain(text.as_bytes())));
+    texts.extend(corners.map(|text| RecordedText::plain(text.as_bytes())));
     let yahoos = token_corners::yahoos();
-    texts.extend(yahoos.iter().flat_map(|name| beside_yahoo(name)).map(|text| Told::plain(text.as_bytes())));
-    texts.extend(corners::DAMAGED.iter().map(|text| Told::plain(text)));
-    texts.extend(corners::DAMAGED.iter().step_by(4).map(|text| Told::plain(&[&b"Dr. ("[..], text, b") A"].concat())));
-    texts.extend(AT_THE_LIMIT.iter().map(Told::of_length));
-    texts.extend(random_texts().iter().map(|text| Told::plain(text.as_bytes())));
+    texts.extend(yahoos.iter().flat_map(|name| beside_yahoo(name)).map(|text| RecordedText::plain(text.as_bytes())));
+    texts.extend(corners::DAMAGED.iter().map(|text| RecordedText::plain(text)));
+    texts.extend(corners::DAMAGED.iter().step_by(4).map(|text| RecordedText::plain(&[&b"Dr. ("[..], text, b") A"].concat())));
+    texts.extend(AT_THE_LIMIT.iter().map(RecordedText::of_length));
+    texts.extend(random_texts().iter().map(|text| RecordedText::plain(text.as_bytes())));
     each_once(texts).iter().map(line).collect()
 }
 
@@ -76,9 +76,9 @@ fn some_tokens(random: &mut Random) -> String {
     (0..tokens * PARTS.len()).map(|number| *random.one_of(PARTS[number % PARTS.len()])).collect()
 }
 
-fn line(told: &Told) -> String {
-    let tokenized = Tokenized::of(answers::admit(&told.text()));
-    let mut line = told.head();
+fn line(recorded: &RecordedText) -> String {
+    let tokenized = Tokenized::of(answers::admit(&recorded.text()));
+    let mut line = recorded.head();
     for (parts, start) in tokenized.places().zip(&tokenized.starts) {
         let numbers: Vec<String> = parts.iter().map(|(offset, len)| format!("{offset} {len}")).collect();
         line += &format!("\t{} {start}", numbers.join(" "));

@@ -2,10 +2,10 @@
 
 use crate::answers;
 use crate::comparison::{Comparison, Lent};
-use crate::voice;
+use crate::howhakiru;
 
 /// How many there are: the verdicts, which come first, and four more.
-pub const SHAPES: usize = voice::VERDICTS.len() + 4;
+pub const SHAPES: usize = howhakiru::VERDICTS.len() + 4;
 
 /// Stores for a text that has no word: none, too short for any word, exact for the longest, and longer.
 const STORES_WITHOUT_WORD: [usize; 4] = [0, 1, 11, 16];
@@ -14,7 +14,7 @@ const STORE_MOST: usize = 64;
 
 impl Comparison {
     pub fn shape(&mut self, call: usize, lent: Lent) {
-        match call.checked_sub(voice::VERDICTS.len()) {
+        match call.checked_sub(howhakiru::VERDICTS.len()) {
             None => self.verdict(call, lent),
             Some(0) => self.n_digits(lent),
             Some(1) => self.time(lent),
@@ -26,14 +26,14 @@ impl Comparison {
     /// The pointer for an empty store may be null.
     pub fn word_without_store(&mut self, lent: Lent) {
         // SAFETY: both lengths are 0, so nothing is read or written.
-        let ours = unsafe { voice::hwk_unit_word(std::ptr::null(), 0, std::ptr::null_mut(), 0) };
+        let ours = unsafe { howhakiru::hwk_unit_word(std::ptr::null(), 0, std::ptr::null_mut(), 0) };
         self.settle(lent, format_args!("hwk_unit_word (null store)"), ours, answers::Word::default());
     }
 
     fn verdict(&mut self, call: usize, lent: Lent) {
         let (name, shape) = answers::SHAPES[call];
         // SAFETY: the text is lent for the call.
-        let ours = unsafe { voice::VERDICTS[call](lent.start, lent.text.len()) };
+        let ours = unsafe { howhakiru::VERDICTS[call](lent.start, lent.text.len()) };
         self.settle(lent, format_args!("hwk_{name}"), ours, answers::verdict(lent.admitted, shape));
     }
 
@@ -42,7 +42,7 @@ impl Comparison {
         // The last but one is the length again, where a count is cut to fewer bits.
         for n in (0..=9).chain([len, len + 1, len + (1 << 32), usize::MAX]) {
             // SAFETY: the text is lent for the call.
-            let ours = unsafe { voice::hwk_is_n_digits(lent.start, len, n) };
+            let ours = unsafe { howhakiru::hwk_is_n_digits(lent.start, len, n) };
             let rust = answers::is_n_digits(lent.admitted, n);
             self.settle(lent, format_args!("hwk_is_n_digits (n = {n})"), ours, rust);
         }
@@ -50,14 +50,14 @@ impl Comparison {
 
     fn time(&mut self, lent: Lent) {
         // SAFETY: the text is lent for the call.
-        let ours = unsafe { voice::hwk_split_time_meridiem(lent.start, lent.text.len()) };
+        let ours = unsafe { howhakiru::hwk_split_time_meridiem(lent.start, lent.text.len()) };
         let rust = answers::split_time_meridiem(lent.admitted);
         self.settle(lent, format_args!("hwk_split_time_meridiem"), ours, rust);
     }
 
     fn unit(&mut self, lent: Lent) {
         // SAFETY: the text is lent for the call.
-        let ours = unsafe { voice::hwk_split_unit(lent.start, lent.text.len()) };
+        let ours = unsafe { howhakiru::hwk_split_unit(lent.start, lent.text.len()) };
         self.settle(lent, format_args!("hwk_split_unit"), ours, answers::split_unit(lent.admitted));
     }
 
@@ -73,7 +73,7 @@ impl Comparison {
     fn word_in(&mut self, lent: Lent, store_len: usize) {
         let store = self.store.lend(store_len, lent.gap);
         // SAFETY: the text and the store are lent for the call, and stand apart.
-        let ours = unsafe { voice::hwk_unit_word(lent.start, lent.text.len(), store, store_len) };
+        let ours = unsafe { howhakiru::hwk_unit_word(lent.start, lent.text.len(), store, store_len) };
         let (rust, written) = answers::unit_word(lent.admitted, store_len);
         let name = format_args!("hwk_unit_word (store of {store_len})");
         self.settle(lent, name, ours, rust);

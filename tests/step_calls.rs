@@ -1,9 +1,9 @@
 //! The step form, on both sides, its three texts lent apart.
 
 use crate::comparison::{Comparison, Lent};
+use crate::howhakiru;
 use crate::steps::{Fed, Steps};
 use crate::tokens::{State, Step};
-use crate::voice;
 
 impl Comparison {
     /// The next of several steps, against the Rust's push.
@@ -37,7 +37,7 @@ impl Comparison {
         // SAFETY: the three texts are lent for the call.
         let ours = unsafe {
             let (name, name_len) = (lent.start, lent.text.len());
-            voice::hwk_push(state, whitespace, fed.whitespace.len(), name, name_len, punctuation, fed.punctuation.len())
+            howhakiru::hwk_push(state, whitespace, fed.whitespace.len(), name, name_len, punctuation, fed.punctuation.len())
         };
         self.settle(lent, format_args!("hwk_push ({fed}; {state:?})"), ours, wanted);
         for (place, text) in [fed.whitespace, fed.punctuation].into_iter().enumerate() {

@@ -4,9 +4,9 @@ use std::ptr::null_mut;
 
 use crate::answers::TEXT_LIMIT;
 use crate::comparison::{shown, Comparison, Lent};
+use crate::howhakiru;
 use crate::steps::Fed;
 use crate::tokens::{State, Step, Tokenized, Tokens, TOKEN_BYTES};
-use crate::voice;
 
 /// How many there are: the table, the sentence starts, and a step.
 pub const TOKEN_CALLS: usize = 3;
@@ -22,7 +22,7 @@ const ROOMS: usize = NEAR + 6;
 #[derive(Clone, Copy)]
 struct Filling<'a> {
     name: &'a str,
-    call: voice::TokenCall,
+    call: howhakiru::TokenCall,
     result: &'a [u8],
     /// Bytes a token.
     record: usize,
@@ -47,8 +47,8 @@ impl Filling<'_> {
 impl Tokenized {
     fn fillings(&self) -> [Filling<'_>; 2] {
         [
-            Filling { name: "hwk_tokenize", call: voice::hwk_tokenize, result: &self.table, record: TOKEN_BYTES },
-            Filling { name: "hwk_sentences", call: voice::hwk_sentences, result: &self.starts, record: 1 },
+            Filling { name: "hwk_tokenize", call: howhakiru::hwk_tokenize, result: &self.table, record: TOKEN_BYTES },
+            Filling { name: "hwk_sentences", call: howhakiru::hwk_sentences, result: &self.starts, record: 1 },
         ]
     }
 }
@@ -93,12 +93,12 @@ impl Comparison {
         for state in [State::FRESH, State::default(), State::after(b"end", b".")] {
             let (none, len) = (std::ptr::null(), 0);
             // SAFETY: all three lengths are 0, so nothing is read.
-            let ours = unsafe { voice::hwk_push(state, none, len, none, len, none, len) };
+            let ours = unsafe { howhakiru::hwk_push(state, none, len, none, len, none, len) };
             let fed = Fed { whitespace: b"", name: b"", punctuation: b"" };
             self.settle(lent, format_args!("hwk_push (null texts)"), ours, state.step(fed));
         }
         // SAFETY: it takes nothing.
-        let ours = unsafe { voice::hwk_fresh() };
+        let ours = unsafe { howhakiru::hwk_fresh() };
         self.settle(lent, format_args!("hwk_fresh"), ours, State::FRESH);
     }
 
@@ -133,7 +133,7 @@ impl Comparison {
     /// Steps from a fresh state, fed the tokens of the text where they stand in it: a break before each start but the first.
     fn steps_over(&mut self, lent: Lent, tokenized: &Tokenized) {
         // SAFETY: it takes nothing.
-        let mut state = unsafe { voice::hwk_fresh() };
+        let mut state = unsafe { howhakiru::hwk_fresh() };
         for (number, [whitespace, _, name, punctuation]) in tokenized.places().enumerate() {
             let part = |(offset, len): (usize, usize)| &lent.text[offset..offset + len];
             let wanted = Step {
@@ -144,7 +144,7 @@ impl Comparison {
             // SAFETY: the three parts are inside of the lent text.
             let ours = unsafe {
                 let at = |(offset, _): (usize, usize)| lent.start.add(offset);
-                voice::hwk_push(state, at(whitespace), whitespace.1, at(name), name.1, at(punctuation), punctuation.1)
+                howhakiru::hwk_push(state, at(whitespace), whitespace.1, at(name), name.1, at(punctuation), punctuation.1)
             };
             self.settle(lent, format_args!("hwk_push over the text's token {number}, after {state:?}"), ours, wanted);
             state = ours.state;

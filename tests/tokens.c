@@ -26,7 +26,7 @@ static const struct {
 /* A text, and for each token whether it starts a sentence, in the order of the header's lines. */
 static const struct {
     const char *text, *starts;
-} told[] = {
+} sentence_starts[] = {
     {"a\n\nb", "11"}, {"a\n \nb", "11"}, {"a\nb", "10"}, {"Yahoo!\n\nb", "11"},
     {"yAHOO! b", "10"}, {"yahoo?! b", "10"}, {"yahoo! B", "11"}, {"yahoo! \xc3\xa9", "11"}, {"yahoo? b", "11"},
     {"yahoos! b", "11"},
@@ -122,15 +122,15 @@ static hwk_step push_token(hwk_state state, const uint8_t *text, const uint8_t *
 static void check_sentences(void)
 {
     uint8_t table[HWK_TOKENS_TABLE_MOST(20)], starts[HWK_TOKENS_STARTS_MOST(20)];
-    for (size_t i = 0; i < sizeof told / sizeof told[0]; i++) {
-        const uint8_t *text = bytes(told[i].text);
-        size_t len = strlen(told[i].text), count = strlen(told[i].starts);
+    for (size_t i = 0; i < sizeof sentence_starts / sizeof sentence_starts[0]; i++) {
+        const uint8_t *text = bytes(sentence_starts[i].text);
+        size_t len = strlen(sentence_starts[i].text), count = strlen(sentence_starts[i].starts);
         hwk_state state = hwk_fresh();
         assert(answers(hwk_tokenize(text, len, table, sizeof table), HWK_ACCEPTED, count));
         assert(answers(hwk_sentences(text, len, starts, sizeof starts), HWK_ACCEPTED, count));
         for (size_t k = 0; k < count; k++) {
             hwk_step step = push_token(state, text, table, k);
-            assert(starts[k] == told[i].starts[k] - '0');
+            assert(starts[k] == sentence_starts[i].starts[k] - '0');
             assert(step.refusal == HWK_ACCEPTED && step.breaks == (k > 0 && starts[k]));
             state = step.state;
         }

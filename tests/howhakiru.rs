@@ -53,8 +53,8 @@ extern "C" {
     pub fn hwk_is_clear(s: *const u8, s_len: usize) -> Verdict;
 }
 
-/// The readers have one signature.
-macro_rules! readers {
+/// The readings have one signature.
+macro_rules! readings {
     ($($name:ident)*) => {
         extern "C" {
             $(pub fn $name(
@@ -62,12 +62,12 @@ macro_rules! readers {
             ) -> Words;)*
         }
 
-        /// The same order as `readings::READERS`.
-        pub const READERS: [ReadCall; 6] = [$($name),*];
+        /// The same order as `readings::READINGS`.
+        pub const READINGS: [ReadCall; 6] = [$($name),*];
     };
 }
 
-readers! { hwk_cardinal hwk_ordinal hwk_year hwk_digits hwk_real hwk_letters }
+readings! { hwk_cardinal hwk_ordinal hwk_year hwk_digits hwk_real hwk_letters }
 
 /// The same order as `answers::SHAPES`.
 pub const VERDICTS: [VerdictCall; 16] = [

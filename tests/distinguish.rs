@@ -6,10 +6,10 @@ use std::collections::HashMap;
 use crate::clear::{self, UNITS};
 use crate::comparison::{Comparison, Lent};
 use crate::exhaustive::each_text;
+use crate::howhakiru;
 use crate::random::Random;
 use crate::rows::call_most;
 use crate::tokens::Tokenized;
-use crate::voice;
 
 #[rustfmt::skip]
 const ALPHABETS: &[(usize, &[&str])] = &[
@@ -71,7 +71,7 @@ pub fn sheets(comparison: &mut Comparison, random: &mut Random, pairs: usize) {
             }
         }
         let (first, second) = (sheet_of(random, &names), sheet_of(random, &others));
-        comparison.told_apart(first.as_bytes(), second.as_bytes());
+        comparison.distinguished(first.as_bytes(), second.as_bytes());
     }
 }
 
@@ -127,13 +127,13 @@ impl Comparison {
     fn sheet_of(&mut self, lent: Lent) -> Vec<u8> {
         let mut out = vec![0; call_most(lent.text.len())];
         // SAFETY: the text and the buffer live through the call, and stand apart.
-        let called = unsafe { voice::hwk_call_sheet(lent.start, lent.text.len(), out.as_mut_ptr(), out.len()) };
+        let called = unsafe { howhakiru::hwk_call_sheet(lent.start, lent.text.len(), out.as_mut_ptr(), out.len()) };
         assert_eq!(called.refusal, 0, "a sheet of clear entries with room");
         out.truncate(called.bytes);
         out
     }
 
-    fn told_apart(&mut self, first: &[u8], second: &[u8]) {
+    fn distinguished(&mut self, first: &[u8], second: &[u8]) {
         let mut sheet = Vec::new();
         self.with(first, 0, |comparison, lent| sheet = comparison.sheet_of(lent));
         self.with(second, 0, |comparison, lent| {

@@ -1,24 +1,24 @@
-//! A text as a recorded line tells it: a repeated byte, and what follows.
+//! A text as a recorded line holds it: a repeated byte, and what follows.
 
 use std::collections::HashSet;
 
 use crate::answers;
 
 #[derive(Clone, PartialEq, Eq, Hash)]
-pub struct Told {
+pub struct RecordedText {
     repeat: usize,
     byte: u8,
     tail: Vec<u8>,
 }
 
-impl Told {
+impl RecordedText {
     pub fn plain(text: &[u8]) -> Self {
-        Told { repeat: 0, byte: 0, tail: text.to_vec() }
+        RecordedText { repeat: 0, byte: 0, tail: text.to_vec() }
     }
 
     /// A byte repeated, and the tail, of `len` bytes together.
     pub fn of_length(&(byte, tail, len): &(u8, &[u8], usize)) -> Self {
-        Told { repeat: len - tail.len(), byte, tail: tail.to_vec() }
+        RecordedText { repeat: len - tail.len(), byte, tail: tail.to_vec() }
     }
 
     pub fn text(&self) -> Vec<u8> {
@@ -35,7 +35,7 @@ impl Told {
 }
 
 /// Each text once, in the order of their first places.
-pub fn each_once(texts: Vec<Told>) -> Vec<Told> {
+pub fn each_once(texts: Vec<RecordedText>) -> Vec<RecordedText> {
     let mut seen = HashSet::new();
     texts.into_iter().filter(|text| seen.insert(text.clone())).collect()
 }
