@@ -49,16 +49,16 @@ firstRefusal-append (r when true ∷ a) b = numbered r (firstRefusal b)
 firstRefusal-append (r when false ∷ a) b = firstRefusal-append a b
 
 -- n is the number that the code has for the tests a, and b follow
-module _ (a b : List Test) {n : ℕ} (due : n ≡ firstRefusal a) where
-  pub held : {A : Type 0} (nothing given : A) → (n ≡ 0 → ⊥) → record { refusal = n; value = nothing } ≡ call nothing (firstRefusal (a ++ b)) given
-  held nothing given z = rw (firstRefusal-append a b, ← due) (go n z)
+module _ (a b : List Test) {n : ℕ} (refusal-eq : n ≡ firstRefusal a) where
+  pub refused-first : {A : Type 0} (nothing given : A) → (n ≡ 0 → ⊥) → record { refusal = n; value = nothing } ≡ call nothing (firstRefusal (a ++ b)) given
+  refused-first nothing given z = rw (firstRefusal-append a b, ← refusal-eq) (go n z)
     where
       go : (n : ℕ) → (n ≡ 0 → ⊥) → record { refusal = n; value = nothing } ≡ call nothing (orElse n (firstRefusal b)) given
       go zero z = absurd (z refl)
       go (suc n) z = refl
 
-  pub passed : n ≡ 0 → firstRefusal (a ++ b) ≡ firstRefusal b
-  passed z = firstRefusal-append a b ∙ ap (λ (k : ℕ). orElse k (firstRefusal b)) (sym due ∙ z)
+  pub passed-first : n ≡ 0 → firstRefusal (a ++ b) ≡ firstRefusal b
+  passed-first z = firstRefusal-append a b ∙ ap (λ (k : ℕ). orElse k (firstRefusal b)) (sym refusal-eq ∙ z)
 
 -- where none of them all holds, neither does any of a nor any of b
 pub both-passed : (a b : List Test) → firstRefusal (a ++ b) ≡ 0 → (firstRefusal a ≡ 0) × (firstRefusal b ≡ 0)

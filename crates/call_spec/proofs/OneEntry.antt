@@ -12,7 +12,7 @@ use Rattle.lists.proofs.Bools.{or-false-both}
 use Rattle.lists.specs.Bytes.{any}
 use Rattle.admit.specs.Refusals.{_when_, firstRefusal, textLimit, textTests, textRefusal, Call, inOrder, Test}
 use Rattle.admit.specs.declared.Refusal.the-variants.{NameTooLong, BufferTooShort, NoSuchEntry}
-use Rattle.admit.proofs.Calls.{call-accepted, passed, both-passed, none-refused, call-number}
+use Rattle.admit.proofs.Calls.{call-accepted, passed-first, both-passed, none-refused, call-number}
 use Rattle.tokens.specs.Tokens.{tokens}
 use Rattle.call_spec.specs.Sheet.{SheetEntry, entries, wordsOf, lines, callSheet, countWords, noEntry}
 use Rattle.call_spec.specs.Calls.{isLong, anyLong, AcceptedSheet, entryAt, lineAt, entryTests, EntryResult, entryCall, sheetTests}
@@ -33,7 +33,7 @@ unfolding entryCall
 entry-alone s old k t h l r =
     let short : Bool = ltb (length old) (length (lineAt s k)) in
     let d : firstRefusal (entryTests s k short) ≡ 0 =
-    passed (textTests textLimit (s ∷ [])) _ (sym t) refl
+    passed-first (textTests textLimit (s ∷ [])) _ (sym t) refl
     ∙ rw (lt-leb (length (tokens s)) k h, l, le-ltb (length old) (length (lineAt s k)) r) in
     let q = call-accepted _ _ _ (firstRefusal (entryTests s k short)) (sym d) refl in (
       sym (ap (λ (c : Call EntryResult). c .refusal) q),
@@ -77,7 +77,7 @@ pub no-such-entry : (s old : List ℕ) (k : ℕ) → textRefusal textLimit s ≡
 unfolding entryCall
 no-such-entry s old k t h =
     call-number _ _ (firstRefusal (entryTests s k (ltb (length old) (length (lineAt s k)))))
-    ∙ passed (textTests textLimit (s ∷ [])) _ (sym t) refl ∙ rw (le-leb (length (tokens s)) k h)
+    ∙ passed-first (textTests textLimit (s ∷ [])) _ (sym t) refl ∙ rw (le-leb (length (tokens s)) k h)
 
 -- what holds of each entry holds of all
 none-long : (es : List SheetEntry) → ((k : ℕ) → k < length es → isLong (getD es k noEntry) ≡ false) → anyLong es ≡ false
@@ -96,4 +96,4 @@ each-accepted s t h =
     none-long (entries s) (λ k l.
     let e = sym (call-number _ _ (firstRefusal (text ++ later k))) ∙ h k (omega (arith, entries-length s)) in
     none-refused (later k) (both-passed text (later k) e .1) .1 .0) in
-    passed text (NameTooLong when anyLong (entries s) ∷ BufferTooShort when false ∷ []) (sym t) refl ∙ rw long
+    passed-first text (NameTooLong when anyLong (entries s) ∷ BufferTooShort when false ∷ []) (sym t) refl ∙ rw long

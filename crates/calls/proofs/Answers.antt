@@ -8,7 +8,7 @@ use lib.ListN.{length, take, drop}
 use borrow.Author.Tests.{ltb-true, ltb-false, le-ltb, lt-ltb, le-leb, lt-leb}
 use Rattle.admit.specs.Refusals.{Test, _when_, textLimit, textTests, textRefusal}
 use Rattle.admit.specs.declared.Refusal.the-variants.{NoSuchEntry, NameTooLong, BufferTooShort}
-use Rattle.admit.proofs.Calls.{held, passed}
+use Rattle.admit.proofs.Calls.{refused-first, passed-first}
 use Rattle.word_writer.specs.Writer.{usizeMax, writer}
 use Rattle.word_writer.specs.Words.{spacedCursor}
 use Rattle.word_writer.specs.declared.Cursor.{Cursor}
@@ -54,7 +54,7 @@ module _ (e : SheetEntry) (old : List ℕ) where
 
 -- ---- the sheet s, whose refusal n is tested first
 
-module _ (s old : List ℕ) {n : ℕ} (due : n ≡ textRefusal textLimit s) where
+module _ (s old : List ℕ) {n : ℕ} (refusal-eq : n ≡ textRefusal textLimit s) where
   abbrev text : List Test
   text = textTests textLimit (s ∷ [])
 
@@ -66,15 +66,15 @@ module _ (s old : List ℕ) {n : ℕ} (due : n ≡ textRefusal textLimit s) wher
 
   pub sheet-refused : (n ≡ 0 → ⊥) → {r : CalledSheet} → r ≡ refusedSheet n → asSheet r old ≡ sheetCall s old
   unfolding sheetCall
-  sheet-refused z q = rw q (held text later due _ _ z)
+  sheet-refused z q = rw q (refused-first text later refusal-eq _ _ z)
 
   pub sheet-long : n ≡ 0 → anyLong (entries s) ≡ true → {r : CalledSheet} → r ≡ refusedSheet 4 → asSheet r old ≡ sheetCall s old
   unfolding sheetCall
-  sheet-long z l q = rw (q, passed text later due z, l)
+  sheet-long z l q = rw (q, passed-first text later refusal-eq z, l)
 
   pub sheet-short : n ≡ 0 → anyLong (entries s) ≡ false → isShort ≡ true → {r : CalledSheet} → r ≡ refusedSheet 5 → asSheet r old ≡ sheetCall s old
   unfolding sheetCall
-  sheet-short z l t q = rw (q, passed text later due z, l, t)
+  sheet-short z l t q = rw (q, passed-first text later refusal-eq z, l, t)
 
   pub sheet-given : n ≡ 0 → anyLong (entries s) ≡ false → isShort ≡ false → length old < usizeMax → (t t₀ : List ℕ) {new : List ℕ} {p : Cursor} {k : ℕ}
       → k ≡ length (tokens s) → writer new t p ≡ linesTo (entries s) (writer old t₀ spacedCursor)
@@ -82,7 +82,7 @@ module _ (s old : List ℕ) {n : ℕ} (due : n ≡ textRefusal textLimit s) wher
   unfolding sheetCall
   sheet-given z l f small t t₀ {new} {p} c q =
       let g = written-lines (wrote-lines (entries s)) (lines-words (entries s)) new t old t₀ refl q f small in
-      rw (passed text later due z, l, f) (λ j. record { refusal = 0; value = record { tokens = c j; words = g .1 j; bytes = g .0 j; buffer = g .2 j } })
+      rw (passed-first text later refusal-eq z, l, f) (λ j. record { refusal = 0; value = record { tokens = c j; words = g .1 j; bytes = g .0 j; buffer = g .2 j } })
 
   -- entry k of it
   module _ (k : ℕ) where
@@ -91,7 +91,7 @@ module _ (s old : List ℕ) {n : ℕ} (due : n ≡ textRefusal textLimit s) wher
 
     pub entry-refused : (n ≡ 0 → ⊥) → {r : CalledEntry} → r ≡ refusedEntry n → asEntry r old ≡ entryCall s k old
     unfolding entryCall
-    entry-refused z q = rw q (held text here due _ _ z)
+    entry-refused z q = rw q (refused-first text here refusal-eq _ _ z)
 
     -- r is where the code has found it, if it has
     module _ (z : n ≡ 0) (r : Found) (f : asFoundEntry s r ≡ foundEntry s k) where
@@ -101,7 +101,7 @@ module _ (s old : List ℕ) {n : ℕ} (due : n ≡ textRefusal textLimit s) wher
       -- there is no such entry
       pub entry-none : r .found ≡ false → {a : CalledEntry} → a ≡ refusedEntry 3 → asEntry a old ≡ entryCall s k old
       unfolding entryCall
-      entry-none t q = rw (q, passed text here due z, le-leb (length (tokens s)) k (ltb-false _ _ (sym there ∙ t)))
+      entry-none t q = rw (q, passed-first text here refusal-eq z, le-leb (length (tokens s)) k (ltb-false _ _ (sym there ∙ t)))
 
       -- its call is that of the name which was found
       pub entry-there : r .found ≡ true → {m : List ℕ} → m ≡ take (r .end - r .name) (drop (r .name) s) → nameCall (entryNamed (r .starts) m) old ≡ entryCall s k old
@@ -109,4 +109,4 @@ module _ (s old : List ℕ) {n : ℕ} (due : n ≡ textRefusal textLimit s) wher
       entry-there t q =
           let h : k < length (tokens s) = ltb-true _ _ (sym there ∙ t) in
           ap (λ (e : SheetEntry). nameCall e old) (ap (entryNamed (r .starts)) q ∙ ap (λ (x : FoundEntry). x .entry) f)
-          ∙ rw (passed text here due z, lt-leb (length (tokens s)) k h, line-at s k h)
+          ∙ rw (passed-first text here refusal-eq z, lt-leb (length (tokens s)) k h, line-at s k h)

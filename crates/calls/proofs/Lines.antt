@@ -1,4 +1,4 @@
--- What lines leave in the buffer, and where the pen stands after them. Assumes nothing.
+-- What lines leave in the buffer, and where the cursor stands after them. Assumes nothing.
 use mathlib.Core.Path.{_≡_, refl, sym, ap, _∙_}
 use mathlib.Core.Bool.{Bool, true, false}
 use mathlib.Core.Logic.{⊎-elim}
@@ -19,7 +19,7 @@ use Rattle.word_writer.proofs.Finish.{storeBy, emitAll-at, emitAll-words, emitA
 use Rattle.call_spec.specs.Sheet.{SheetEntry, wordsOf, mark, spacedWords, lineOf, countWords}
 use Rattle.calls.specs.Walk.{lineTo, linesTo}
 
--- a spaced pen whose places are numbers of the machine
+-- a spaced cursor whose places are numbers of the machine
 pub record LineWriter (s : Writer) : Type 0 where
   pub spaced : s .spaced ≡ true
   pub at : s .at ≤ usizeMax
@@ -32,7 +32,7 @@ pub record Wrote (b : List ℕ) (n : ℕ) (s t : Writer) : Type 0 where
   pub words : t .words ≡ min (s .words + n) usizeMax
   pub store : s .at + length b ≤ usizeMax → s .words + n ≤ usizeMax → t .store ≡ sets (s .store) (s .at) b
 
--- f writes the bytes b, with n words in them, wherever the pen stands
+-- f writes the bytes b, with n words in them, wherever the cursor stands
 abbrev pub Writes : List ℕ → ℕ → (Writer → Writer) → Type 0
 Writes b n f = (s : Writer) → LineWriter s → Wrote b n s (f s)
 
@@ -134,7 +134,7 @@ module _ {b : List ℕ} {n : ℕ} {f : Writer → Writer} (w : Writes b n f) (fe
       let e : writer x y p ≡ f (writer x₀ y₀ spacedCursor) = q ∙ ap (λ (r : Cursor). f (writer x₀ y₀ r)) start in
       rw e (w (writer x₀ y₀ spacedCursor) (record { spaced = refl; at = omega arith; words = omega arith }))
 
-  -- the pen tells whether a buffer of so many bytes is too short: no buffer is as long as the largest number
+  -- the cursor tells whether a buffer of so many bytes is too short: no buffer is as long as the largest number
   pub measured-lines : (room : ℕ) → room < usizeMax → ltb room (p .at) ≡ ltb room (length b)
   measured-lines room h =
       let a = all-wrote .at in
@@ -142,7 +142,7 @@ module _ {b : List ℕ} {n : ℕ} {f : Writer → Writer} (w : Writes b n f) (fe
       (λ (l : room < length b). lt-ltb room (p .at) (omega arith) ∙ sym (lt-ltb room (length b) l))
       (le-or-lt (length b) room)
 
-  -- a buffer that is long enough holds them, and the pen has their counts
+  -- a buffer that is long enough holds them, and the cursor has their counts
   pub written-lines : ltb (length x₀) (length b) ≡ false → length x₀ < usizeMax → (p .at ≡ length b) × (p .words ≡ n) × (x ≡ overwrite b x₀)
   written-lines g small =
       let fits : length b ≤ length x₀ = ltb-false _ _ g in

@@ -170,11 +170,11 @@ pub sheet-room : (s : List ℕ) → length (callSheet s) ≤ 11 * (length s + 1)
 sheet-room s = omega (arith, lines-room (sentenceStarts (tokens s)) (tokens s), names-room s .0)
 
 -- a name is no longer than its text
-none-long : (bs : List Bool) (ts : List Token) → nameRoom ts ≤ nameLimit + 1 → anyLong (entriesOf bs ts) ≡ false
+names-not-long : (bs : List Bool) (ts : List Token) → nameRoom ts ≤ nameLimit + 1 → anyLong (entriesOf bs ts) ≡ false
 unfolding any entriesOf nameRoom
-none-long [] ts h = refl
-none-long (b ∷ bs) [] h = refl
-none-long (b ∷ bs) (t ∷ ts) h = rw (le-ltb nameLimit (length (t .name)) (omega arith), none-long bs ts (omega arith))
+names-not-long [] ts h = refl
+names-not-long (b ∷ bs) [] h = refl
+names-not-long (b ∷ bs) (t ∷ ts) h = rw (le-ltb nameLimit (length (t .name)) (omega arith), names-not-long bs ts (omega arith))
 
 -- so a sheet that is no longer than a name may be, in a buffer of 11 bytes for each of its bytes and one more, is refused only where
 -- it isn't UTF-8
@@ -182,14 +182,14 @@ pub only-not-utf8 : (s old new : List ℕ) {r : CalledSheet} → asSheet r new �
     → (r .refusal ≡ 0 → ⊥) → r .refusal ≡ refusalNumber NotUtf8
 unfolding sheetCall textTests any
 only-not-utf8 s old new {r} e h k z =
-    let due : r .refusal ≡ firstRefusal (sheetTests s (ltb (length old) (length (callSheet s)))) =
+    let refusal-eq : r .refusal ≡ firstRefusal (sheetTests s (ltb (length old) (length (callSheet s)))) =
     ap (λ (c : Call SheetResult). c .refusal) e ∙ call-number _ _ _ in
     go (utf8 s)
     (rw (
       le-ltb textLimit (length s) (omega arith),
-      none-long (sentenceStarts (tokens s)) (tokens s) (omega (arith, names-room s .0)),
+      names-not-long (sentenceStarts (tokens s)) (tokens s) (omega (arith, names-room s .0)),
       le-ltb (length old) (length (callSheet s)) (omega (arith, sheet-room s)),
-    ) at due)
+    ) at refusal-eq)
   where
     go : (u : Bool) → r .refusal ≡ cond (not u || false) 2 0 → r .refusal ≡ 2
     go true q = absurd (z q)

@@ -24,7 +24,7 @@ refusedSheet n = record { refusal = n; tokens = 0; words = 0; bytes = 0 }
 abbrev pub refusedEntry : ℕ → CalledEntry
 refusedEntry n = record { refusal = n; entry = record { row = NoRow }; words = 0; bytes = 0 }
 
--- an entry's line, and the lines of several, as a spaced pen writes them
+-- an entry's line, and the lines of several, as a spaced cursor writes them
 unfoldable pub lineTo : SheetEntry → Writer → Writer
 lineTo e s = putByte (code "\n") (emitAll (wordsOf e) (putByte (mark (e .starts)) s))
 

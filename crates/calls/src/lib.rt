@@ -47,7 +47,7 @@ pub struct CalledEntry {
     pub bytes: usize,
 }
 
-// A walk over all entries: how many there are, and the pen after their lines.
+// A walk over all entries: how many there are, and the cursor after their lines.
 struct SheetWalk {
     tokens: usize,
     cursor: Cursor,
@@ -138,12 +138,12 @@ pub fn call_sheet(s: &[u8], out: &mut [u8]) -> CalledSheet
         return sheet_refused(Refusal::BufferTooShort.number());
     }
     let mut no_table = [0u8; 0];
-    let written = say_sheet(s, out, &mut no_table);
+    let walk = say_sheet(s, out, &mut no_table);
     CalledSheet {
         refusal: 0,
-        tokens: written.tokens,
-        words: written.cursor.words,
-        bytes: written.cursor.at,
+        tokens: walk.tokens,
+        words: walk.cursor.words,
+        bytes: walk.cursor.at,
     }
 }
 

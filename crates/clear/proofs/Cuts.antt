@@ -34,9 +34,9 @@ same-false s t n = go (same s t) refl
 -- ---- at the front
 
 -- a text that starts with c is c and the rest
-pub starts-cons : (c : ℕ) (s : List ℕ) → startsWith c s ≡ true → c ∷ drop 1 s ≡ s
-starts-cons c [] h = absurd (false≢true h)
-starts-cons c (b ∷ s) h = let e : b ≡ c = eqb-true b c (sym (startsWith-first c b s) ∙ h) in rw e
+pub startsWith-cons : (c : ℕ) (s : List ℕ) → startsWith c s ≡ true → c ∷ drop 1 s ≡ s
+startsWith-cons c [] h = absurd (false≢true h)
+startsWith-cons c (b ∷ s) h = let e : b ≡ c = eqb-true b c (sym (startsWith-first c b s) ∙ h) in rw e
 
 -- ---- at the end
 
@@ -50,16 +50,16 @@ module _ (s t : List ℕ) (n : ℕ) (e : length t ≡ n) where
   cut-back = drop-at s t (length (s ++ t) - n) (omega (arith, length-append s t))
 
 -- a text that ends in c is the rest and c
-pub ends-snoc : (c : ℕ) (s : List ℕ) → endsWith c s ≡ true → take (length s - 1) s ++ (c ∷ []) ≡ s
-ends-snoc c [] h = absurd (false≢true h)
-ends-snoc c (b ∷ s) h =
+pub endsWith-snoc : (c : ℕ) (s : List ℕ) → endsWith c s ≡ true → take (length s - 1) s ++ (c ∷ []) ≡ s
+endsWith-snoc c [] h = absurd (false≢true h)
+endsWith-snoc c (b ∷ s) h =
     let e : suc (length s) - 1 ≡ length s = omega arith in
     let l : getD (b ∷ s) (length s) 0 ≡ c = eqb-true _ _ (rw (ne-eqb (suc (length s)) 0 (omega arith), e) at h) in
     rw e (sym (rw (l, drop-length s) at (split-at (b ∷ s) (length s) 0 (omega arith))))
 
 -- and the other way round
-pub snoc-ends : (c : ℕ) (s : List ℕ) → endsWith c (s ++ (c ∷ [])) ≡ true
-snoc-ends c s =
+pub snoc-endsWith : (c : ℕ) (s : List ℕ) → endsWith c (s ++ (c ∷ [])) ≡ true
+snoc-endsWith c s =
     let n = length-append s (c ∷ []) in
     rw (ne-eqb (length (s ++ (c ∷ []))) 0 (omega arith), getD-at s c [] 0 (length (s ++ (c ∷ [])) - 1) (omega arith)) (eq-eqb c c refl)
 
@@ -71,21 +71,21 @@ module _ (p : ℕ → Bool) (s t : List ℕ) (h : all p s ≡ true) (z : span p 
   span-seam = span-append p s t ∙ rw (h, z) (add-zero (length s))
 
   -- what it passed is the first text
-  pub lead-seam : takeWhile p (s ++ t) ≡ s
-  lead-seam = take-at s t _ (sym span-seam)
+  pub takeWhile-seam : takeWhile p (s ++ t) ≡ s
+  takeWhile-seam = take-at s t _ (sym span-seam)
 
   -- what is left is the second
-  pub after-seam : dropWhile p (s ++ t) ≡ t
-  after-seam = drop-at s t _ (sym span-seam)
+  pub dropWhile-seam : dropWhile p (s ++ t) ≡ t
+  dropWhile-seam = drop-at s t _ (sym span-seam)
 
 -- ---- digits
 
 -- a byte that is no digit is not the first of digits
-pub starts-digits : (c : ℕ) (s t : List ℕ) → digit c ≡ false → isDigits s ≡ true → startsWith c (s ++ t) ≡ false
+pub startsWith-digits : (c : ℕ) (s t : List ℕ) → digit c ≡ false → isDigits s ≡ true → startsWith c (s ++ t) ≡ false
 unfolding isDigits all
-starts-digits c [] t n h = absurd (false≢true h)
-starts-digits c (b ∷ s) t n h = startsWith-first c b (s ++ t) ∙ class-apart digit c b n (and-eq-true-iff (digit b) (all digit s) .0 (digits-all (b ∷ s) h) .0)
+startsWith-digits c [] t n h = absurd (false≢true h)
+startsWith-digits c (b ∷ s) t n h = startsWith-first c b (s ++ t) ∙ class-apart digit c b n (and-eq-true-iff (digit b) (all digit s) .0 (digits-all (b ∷ s) h) .0)
 
 -- also where nothing follows them
 pub digits-alone : (c : ℕ) (s : List ℕ) → digit c ≡ false → isDigits s ≡ true → startsWith c s ≡ false
-digits-alone c s n h = rw (append-nil s) at (starts-digits c s [] n h)
+digits-alone c s n h = rw (append-nil s) at (startsWith-digits c s [] n h)

@@ -17,7 +17,7 @@ use Rattle.shapes.specs.Shapes.{isDigits, isLeadingZeroDigits, stripSign}
 use Rattle.shapes.proofs.Laws.{digits-all, digits-nonempty}
 use Rattle.clear.specs.Clear.{plain, OptionalMinus, no-minus, a-minus, Fraction, no-point, a-point, ExponentSign, no-sign, plus-sign, minus-sign, Exponent, no-exponent, an-exponent, Number, is-digits, is-figure, Clear, is-percent}
 use Rattle.clear.specs.Test.{isExponentClear, isFractionClear, isFigureClear, isNumberClear, isPercentClear}
-use Rattle.clear.proofs.Cuts.{starts-cons, cut-front, ends-snoc, snoc-ends, lead-seam, after-seam, span-seam, starts-digits, digits-alone}
+use Rattle.clear.proofs.Cuts.{startsWith-cons, cut-front, endsWith-snoc, snoc-endsWith, takeWhile-seam, dropWhile-seam, span-seam, startsWith-digits, digits-alone}
 
 -- plain digits are digits
 pub plain-digits : (s : List ℕ) → plain s ≡ true → isDigits s ≡ true
@@ -33,8 +33,8 @@ signed-exponent : (s : List ℕ) → plain (stripSign s) ≡ true → Exponent (
 signed-exponent s h = go (startsWith (code "+") s) (startsWith (code "-") s) refl refl h
   where
     go : (t u : Bool) → startsWith (code "+") s ≡ t → startsWith (code "-") s ≡ u → plain (cond (t || u) (drop 1 s) s) ≡ true → Exponent (code "e" ∷ s)
-    go true u e f h = rw (starts-cons (code "+") s e) at (an-exponent (bytes "+") (drop 1 s) plus-sign h)
-    go false true e f h = rw (starts-cons (code "-") s f) at (an-exponent (bytes "-") (drop 1 s) minus-sign h)
+    go true u e f h = rw (startsWith-cons (code "+") s e) at (an-exponent (bytes "+") (drop 1 s) plus-sign h)
+    go false true e f h = rw (startsWith-cons (code "-") s f) at (an-exponent (bytes "-") (drop 1 s) minus-sign h)
     go false false e f h = an-exponent [] s no-sign h
 
 test-exponent : (s : List ℕ) → isExponentClear s ≡ true → Exponent s
@@ -42,7 +42,7 @@ unfolding isExponentClear
 test-exponent s h = go (startsWith (code "e") s) refl h
   where
     go : (t : Bool) → startsWith (code "e") s ≡ t → cond t (plain (stripSign (drop 1 s))) (eqb (length s) 0) ≡ true → Exponent s
-    go true e h = rw (starts-cons (code "e") s e) at (signed-exponent (drop 1 s) h)
+    go true e h = rw (startsWith-cons (code "e") s e) at (signed-exponent (drop 1 s) h)
     go false e h = rw (empty-text s h) at no-exponent
 
 -- the digits of an exponent, after its sign or without one
@@ -91,7 +91,7 @@ test-fraction s h = go (startsWith (code ".") s) refl h
           x = dropWhile digit d;
           point = a-point (takeWhile digit d) (span-digits d (not-true _ (p .0)));
           exponent = test-exponent (dropWhile digit d) (p .1);
-          whole = ap (λ (r : List ℕ). code "." ∷ r) (take-append-drop (span digit d) d) ∙ starts-cons (code ".") s e;
+          whole = ap (λ (r : List ℕ). code "." ∷ r) (take-append-drop (span digit d) d) ∙ startsWith-cons (code ".") s e;
         }
     go false e h = record { f = []; x = s; point = no-point; exponent = test-exponent s h; whole = refl }
 
@@ -106,7 +106,7 @@ fraction-test f x no-point e = rw (exponent-point x e) (exponent-test x e)
 fraction-test f x (a-point d h) e =
     let z = exponent-front x e in
     let a = digits-all d h in
-    rw (startsWith-first (code ".") (code ".") (d ++ x), after-seam digit d x a z, span-seam digit d x a z, digits-nonempty d h) (exponent-test x e)
+    rw (startsWith-first (code ".") (code ".") (d ++ x), dropWhile-seam digit d x a z, span-seam digit d x a z, digits-nonempty d h) (exponent-test x e)
 
 fraction-front : (f x : List ℕ) → Fraction f → Exponent x → span digit (f ++ x) ≡ 0
 unfolding span
@@ -127,11 +127,11 @@ pub test-number : (s : List ℕ) → isNumberClear s ≡ true → Number s
 test-number s = or-true-elim (isDigits s) (isFigureClear (stripPrefix (code "-") s)) (is-digits s) (go (startsWith (code "-") s) refl)
   where
     go : (t : Bool) → startsWith (code "-") s ≡ t → isFigureClear (cond t (drop 1 s) s) ≡ true → Number s
-    go true e k = rw (starts-cons (code "-") s e) at (figure-number (bytes "-") (drop 1 s) a-minus k)
+    go true e k = rw (startsWith-cons (code "-") s e) at (figure-number (bytes "-") (drop 1 s) a-minus k)
     go false e k = figure-number [] s no-minus k
 
 strip-minus : (m a t : List ℕ) → OptionalMinus m → isDigits a ≡ true → stripPrefix (code "-") (m ++ (a ++ t)) ≡ a ++ t
-strip-minus m a t no-minus h = rw (starts-digits (code "-") a t refl h)
+strip-minus m a t no-minus h = rw (startsWith-digits (code "-") a t refl h)
 strip-minus m a t a-minus h = rw (startsWith-first (code "-") (code "-") (a ++ t))
 
 -- a number passes the test
@@ -143,8 +143,8 @@ number-test s (is-figure m a f x r h p e) =
     let z = fraction-front f x p e in
     rw (
       strip-minus m a (f ++ x) r d,
-      lead-seam digit a (f ++ x) (digits-all a d) z,
-      after-seam digit a (f ++ x) (digits-all a d) z,
+      takeWhile-seam digit a (f ++ x) (digits-all a d) z,
+      dropWhile-seam digit a (f ++ x) (digits-all a d) z,
       h,
       fraction-test f x p e,
     )
@@ -156,8 +156,8 @@ number-test s (is-figure m a f x r h p e) =
 pub test-percent : (s : List ℕ) → isPercentClear s ≡ true → Clear s
 test-percent s h =
     let p = and-eq-true-iff (endsWith (code "%") s) (isNumberClear (take (length s - 1) s)) .0 h in
-    rw (ends-snoc (code "%") s (p .0)) at (is-percent (take (length s - 1) s) (test-number (take (length s - 1) s) (p .1)))
+    rw (endsWith-snoc (code "%") s (p .0)) at (is-percent (take (length s - 1) s) (test-number (take (length s - 1) s) (p .1)))
 
 -- a number with one % passes the test
 pub percent-test : (s : List ℕ) → Number s → isPercentClear (s ++ bytes "%") ≡ true
-percent-test s n = rw (snoc-ends (code "%") s, cut-front s (bytes "%") 1 refl) (number-test s n)
+percent-test s n = rw (snoc-endsWith (code "%") s, cut-front s (bytes "%") 1 refl) (number-test s n)

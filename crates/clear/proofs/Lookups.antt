@@ -36,25 +36,25 @@ pub first-zero : true ≡ isFirstAbbreviation 0
 unfolding unfoldVocabulary indexOf unitWords abbreviations unitAbbreviations
 first-zero = refl
 
-firstTest : ℕ → Bool
-firstTest k = cond (newWord (suc k)) (isFirstAbbreviation (suc k)) (not (isFirstAbbreviation (suc k)))
+firstAgrees : ℕ → Bool
+firstAgrees k = cond (newWord (suc k)) (isFirstAbbreviation (suc k)) (not (isFirstAbbreviation (suc k)))
 
--- rows with one word stand together, and the words in the lexicon's order
+-- rows with one word stand together, and the words in the vocabulary's order
 pub first-abbreviation : (k : ℕ) → (k ≡ 0 → ⊥) → newWord k ≡ isFirstAbbreviation k
-unfolding firstTest unfoldVocabulary wordNumbers indexOf unitWords abbreviations unitAbbreviations
+unfolding firstAgrees unfoldVocabulary wordNumbers indexOf unitWords abbreviations unitAbbreviations
 first-abbreviation zero h = absurd (h refl)
 first-abbreviation (suc k) h =
     ⊎-elim (λ (g : 21 ≤ k). rw (le-ltb (suc k) 22 (omega arith)))
-    (λ (g : k < 21). agree (newWord (suc k)) (isFirstAbbreviation (suc k)) (below firstTest 21 refl k g)) (le-or-lt 21 k)
+    (λ (g : k < 21). agree (newWord (suc k)) (isFirstAbbreviation (suc k)) (below firstAgrees 21 refl k g)) (le-or-lt 21 k)
 
--- where the lexicon has the words of the tables
+-- where the vocabulary has the words of the tables
 abbrev tableWordNumber : ℕ → ℕ
 tableWordNumber i = cond (ltb i 30) (16 + i) (cond (ltb i 60) (16 + 34 + (i - 30)) (46 + (63 - i)))
 
 tableWordTest : ℕ → Bool
 tableWordTest i = same (wordOf (tableWordNumber i)) (getD tableWords i [])
 
--- each word of the tables stands in the lexicon
+-- each word of the tables stands in the vocabulary
 pub table-word : (i : ℕ) → i < 63 → wordOf (tableWordNumber i) ≡ getD tableWords i []
 unfolding tableWordTest unfoldVocabulary tableWords
 table-word i h = same-true _ _ (below tableWordTest 63 refl i h)

@@ -21,7 +21,7 @@ use Rattle.shapes.specs.Shapes.{unitAt}
 use Rattle.shapes.proofs.Laws.{digits-all}
 use Rattle.clear.specs.Clear.{plain, suffix, Clear, is-ordinal, is-unit}
 use Rattle.clear.specs.Test.{butLastTwo, lastTwo, isOrdinalClear, isFirstUnit, isUnitClear}
-use Rattle.clear.proofs.Cuts.{same-self, cut-front, cut-back, span-seam, after-seam}
+use Rattle.clear.proofs.Cuts.{same-self, cut-front, cut-back, span-seam, dropWhile-seam}
 use Rattle.clear.proofs.Figures.{plain-digits}
 
 -- what holds of each suffix holds of the suffix of any digits
@@ -101,7 +101,7 @@ unit-at s k h l =
     let u = getD abbreviations k [] in
     let r = unit-facts k l in
     let d = digits-all s (plain-digits s h) in
-    last-span digit (s ++ u) ∙ rw (after-seam digit s u d (r .front), span-seam digit s u d (r .front), r .last) (add-zero (length s))
+    last-span digit (s ++ u) ∙ rw (dropWhile-seam digit s u d (r .front), span-seam digit s u d (r .front), r .last) (add-zero (length s))
 
 -- plain digits with a unit pass the test, if no row before has the unit's word
 pub unit-test : (s : List ℕ) (k : ℕ) → plain s ≡ true → k < length unitWords → indexOf (getD unitWords k []) unitWords ≡ k

@@ -198,7 +198,7 @@ pub fn is_initials_clear(s: &[u8]) -> bool
     is_dotted_abbrev(s) & !ends_with(s, b'.') & all_letters(UPPERCASE_OR_POINT, s)
 }
 
-// The number, in the lexicon, of a word of the tables.
+// The number, in the vocabulary, of a word of the tables.
 fn table_word(i: usize) -> usize
     requires { ⌜ i < 63 ⌝ }
     ensures { λ r. ⌜ wordOf r ≡ getD tableWords i [] ⌝ }
@@ -215,7 +215,7 @@ fn table_word(i: usize) -> usize
     HUNDRED + (63 - i)
 }
 
-// Whether s is the word of a number in the lexicon.
+// Whether s is the word of a number in the vocabulary.
 fn is_vocabulary_word(k: usize, s: &[u8]) -> bool
     ensures { λ r. ⌜ r ≡ sameText (wordOf k) (now (s .entry)) ⌝ }
 {

@@ -1,4 +1,4 @@
--- Every clear name is heeded, kind by kind. Assumes nothing.
+-- Every clear name is decoded, kind by kind. Assumes nothing.
 use mathlib.Core.List.{List}
 use Prim.Native.Nat.{ℕ}
 use Rattle.clear.specs.Clear.{Clear, is-number, is-percent, is-time, is-meridiem, is-ordinal, is-unit, is-initials, is-word}
@@ -10,7 +10,7 @@ use Rattle.decoder.proofs.Units.{unit-decoded}
 use Rattle.decoder.proofs.Initials.{initials-decoded}
 use Rattle.decoder.proofs.OneWord.{lowercase-lowered, word-decoded}
 
--- a word outside the tables is heard as itself, whether or not it is an answer of `cardinal` or `ordinal`
+-- a word outside the tables is decoded as itself, whether or not it is an answer of `cardinal` or `ordinal`
 pub clear-decoded : (n : List ℕ) → Clear n → Decoded n
 clear-decoded n (is-number s a) = number-decoded s a
 clear-decoded n (is-percent s a) = percent-decoded s a

@@ -14,7 +14,7 @@ use Rattle.decoder.specs.Decode.{decode}
 abbrev pub separatorFree : List ℕ → Bool
 separatorFree w = all (λ b. not (eqb b (code " ")) && not (eqb b (code "\n"))) w
 
--- the words are heard as the name; `word` is what row 12 says
+-- the words are decoded as the name; `word` is what row 12 says
 pub record DecodedWith (word : List ℕ → List ℕ) (n : List ℕ) : Type 0 where
   pub decoded : decode (spelled (readWith word n .words)) ≡ n
 

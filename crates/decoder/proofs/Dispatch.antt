@@ -68,8 +68,8 @@ module _ (ns : List Word) (x : List ℕ) (e : Every NumberWord ns) (q : isOrdina
   abbrev line : List (List ℕ)
   line = spelled ns ++ x ∷ []
 
-  late : (isLetterWord x ≡ false) × (same x (bytes "cent") ≡ false) × (same x (bytes "m") ≡ false)
-  late =
+  ordinary-end : (isLetterWord x ≡ false) × (same x (bytes "cent") ≡ false) × (same x (bytes "m") ≡ false)
+  ordinary-end =
       let k = and-eq-true-iff (not (isLetterWord x)) _ .0 q in
       let l = and-eq-true-iff (not (same x (bytes "cent"))) (not (same x (bytes "m"))) .0 (k .1) in
       (not-true _ (k .0), not-true _ (l .0), not-true _ (l .1))
@@ -79,23 +79,23 @@ module _ (ns : List Word) (x : List ℕ) (e : Every NumberWord ns) (q : isOrdina
   first = go ns e
     where
       go : (ns : List Word) → Every NumberWord ns → isLetterWord (firstWord (spelled ns ++ x ∷ [])) ≡ false
-      go [] e = late .0
+      go [] e = ordinary-end .0
       go (w ∷ ws) e = number-word-no-letter w (e .0)
 
   -- a number and a unit's word
-  pub hear-unit : listed x unitWords ≡ true → decode line ≡ decodeDigits ns ++ getD abbreviations (indexOf x unitWords) []
+  pub decode-unit : listed x unitWords ≡ true → decode line ≡ decodeDigits ns ++ getD abbreviations (indexOf x unitWords) []
   unfolding decode
-  hear-unit u = rw (l, first, last-word (spelled ns) x, late .1, late .2, u, but-last (spelled ns) (x ∷ []), number-words-parsed ns e)
+  decode-unit u = rw (l, first, last-word (spelled ns) x, ordinary-end .1, ordinary-end .2, u, but-last (spelled ns) (x ∷ []), number-words-parsed ns e)
 
   -- a number whose last word is in its ordinal form
-  pub hear-ordinal : listed x unitWords ≡ false → listed x (map bytes ordinals) ≡ true
+  pub decode-ordinal : listed x unitWords ≡ false → listed x (map bytes ordinals) ≡ true
       → decode line ≡ withSuffix (decodeDigits (parseWords (spelled ns ++ cardinalWord x ∷ [])))
   unfolding decode
-  hear-ordinal u o = rw (l, first, last-word (spelled ns) x, late .1, late .2, u, o, but-last (spelled ns) (x ∷ []))
+  decode-ordinal u o = rw (l, first, last-word (spelled ns) x, ordinary-end .1, ordinary-end .2, u, o, but-last (spelled ns) (x ∷ []))
 
   -- a name that is read as a number and one word more
-  pub heeded-late : {word : List ℕ → List ℕ} (n : List ℕ) → readWith word n .words ≡ ns ++ other x ∷ [] → decode line ≡ n → DecodedWith word n
+  pub decoded-ordinary : {word : List ℕ → List ℕ} (n : List ℕ) → readWith word n .words ≡ ns ++ other x ∷ [] → decode line ≡ n → DecodedWith word n
   unfolding spelled spell
-  heeded-late n r h =
+  decoded-ordinary n r h =
       let s : spelled (ns ++ other x ∷ []) ≡ line = spelled-append ns (other x ∷ []) in
       decoded n (ns ++ other x ∷ []) r (rw s h)

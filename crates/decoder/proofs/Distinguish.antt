@@ -34,7 +34,7 @@ marks-length s = go (sentenceStarts (tokens s)) ∙ starts-length s
     go [] = refl
     go (b ∷ bs) = ap suc (go bs)
 
--- clear names are heeded
+-- clear names are decoded
 entries-decoded : (bs : List Bool) (ts : List Token) → AllClear (map nameOf ts) → Every (λ (e : SheetEntry). Decoded (e .name)) (entriesOf bs ts)
 unfolding entriesOf
 entries-decoded [] ts h = tt

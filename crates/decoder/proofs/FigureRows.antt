@@ -23,7 +23,7 @@ use Rattle.rows.proofs.Taken.{untaken, doubleByte, meridiem-last, double-bytes,
 use Rattle.clear.specs.Clear.{plain, OptionalMinus, no-minus, a-minus, Fraction, no-point, a-point, Exponent, no-exponent, an-exponent}
 use Rattle.clear.proofs.Figures.{plain-digits, strip-sign, exponent-front, exponent-point}
 use Rattle.decoder.proofs.Suffixed.{digit-no-letter}
-use Rattle.clear.proofs.Cuts.{span-seam, starts-digits}
+use Rattle.clear.proofs.Cuts.{span-seam, startsWith-digits}
 use Rattle.decoder.proofs.Real.{real-digits, minusWords, fractionWords, exponentWords, real-figure}
 
 -- ---- rows 1 to 5 take no such name
@@ -80,7 +80,7 @@ unsigned-is a h {x = x} (a-point f k) e =
     (exponent-is e)
 
 figure-double : {m f x : List ℕ} → OptionalMinus m → (a : List ℕ) → isDigits a ≡ true → Fraction f → Exponent x → isDouble (m ++ (a ++ (f ++ x))) ≡ true
-figure-double {f = f} {x = x} no-minus a h t e = rw (starts-digits (code "-") a (f ++ x) refl h) (unsigned-is a h t e)
+figure-double {f = f} {x = x} no-minus a h t e = rw (startsWith-digits (code "-") a (f ++ x) refl h) (unsigned-is a h t e)
 figure-double {f = f} {x = x} a-minus a h t e = rw (startsWith-first (code "-") (code "-") (a ++ (f ++ x))) (unsigned-is a h t e)
 
 -- ---- what numbers are read as

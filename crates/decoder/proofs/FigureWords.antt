@@ -1,4 +1,4 @@
--- The words of a figure are heard as the figure, from the right: a sign and the digits after it at a time. Assumes nothing.
+-- The words of a figure are decoded as the figure, from the right: a sign and the digits after it at a time. Assumes nothing.
 use mathlib.Core.Path.{_≡_, refl, ap, _∙_}
 use mathlib.Core.Bool.{Bool, true, false, not, _&&_}
 use mathlib.Core.List.{List, [], _∷_, _++_, map, append-nil}
@@ -22,7 +22,7 @@ use Rattle.decoder.proofs.Real.{fractionWords, exponentWords}
 
 -- ---- words that a figure may have
 
--- a last word by which `hear` goes on to figures
+-- a last word by which `decode` goes on to figures
 abbrev pub isFigureEnd : List ℕ → Bool
 isFigureEnd w = not (same w (bytes "cent")) && not (same w (bytes "m")) && not (listed w unitWords) && not (listed w (map bytes ordinals))
 
@@ -129,6 +129,6 @@ fraction-tail : {f t : List ℕ} {r : List Word} (d : Fraction f) → SignedTail
 fraction-tail no-point k = k
 fraction-tail (a-point f h) k = sign-part (other (bytes "point")) (code ".") (digits f) f point-is (digits-number-words f) (point-after f h) k
 
--- a fraction and an exponent, as their words are heard
+-- a fraction and an exponent, as their words are decoded
 pub figure-tail : {f x : List ℕ} (d : Fraction f) (e : Exponent x) → SignedTail (f ++ x) (fractionWords d ++ exponentWords e)
 figure-tail {f} {x} d e = rw (append-nil x, append-nil (exponentWords e)) at (fraction-tail d (exponent-tail e no-tail))

@@ -1,4 +1,4 @@
--- Capitals with single dots between: row 2 takes them, and they are heard from their letters. Assumes nothing.
+-- Capitals with single dots between: row 2 takes them, and they are decoded from their letters. Assumes nothing.
 use mathlib.Core.Path.{_≡_, refl, ap, ap₂, _∙_}
 use mathlib.Core.Bool.{Bool, true, _&&_, and-eq-true-iff, not}
 use mathlib.Core.List.{List, [], _∷_, map}
@@ -41,7 +41,7 @@ uppercase-range b h = (leb-true 65 b (and-eq-true-iff (leb 65 b) (leb b 90) .0 h
 uppercase-letter : (b : ℕ) → uppercase b ≡ true → letter b ≡ true
 uppercase-letter b h = rw h
 
--- a capital's letter is a letter's word, and the capital is heard from it
+-- a capital's letter is a letter's word, and the capital is decoded from it
 uppercase-read-back : (b : ℕ) → uppercase b ≡ true → isReadBack b ≡ true
 unfolding isReadBack letterWord sameBy all
 uppercase-read-back b h =
@@ -54,9 +54,9 @@ module _ (b : ℕ) (h : uppercase b ≡ true) where
   unfolding isReadBack
   is-letter = and-eq-true-iff (isLetterWord (initial b)) _ .0 (uppercase-read-back b h) .0
 
-  same-capital : uppercaseOf (initial b) ≡ b
+  same-uppercase : uppercaseOf (initial b) ≡ b
   unfolding isReadBack
-  same-capital = eqb-true _ b (and-eq-true-iff (isLetterWord (initial b)) _ .0 (uppercase-read-back b h) .1)
+  same-uppercase = eqb-true _ b (and-eq-true-iff (isLetterWord (initial b)) _ .0 (uppercase-read-back b h) .1)
 
 -- ---- the name
 
@@ -83,15 +83,15 @@ initials-read-back : (s : List ℕ) → all uppercase s ≡ true → map upperca
 unfolding all
 initials-read-back [] h = refl
 initials-read-back (b ∷ s) h =
-    ap₂ (λ (x : ℕ) (t : List ℕ). x ∷ t) (same-capital b (and-eq-true-iff (uppercase b) (all uppercase s) .0 h .0))
+    ap₂ (λ (x : ℕ) (t : List ℕ). x ∷ t) (same-uppercase b (and-eq-true-iff (uppercase b) (all uppercase s) .0 h .0))
     (initials-read-back s (and-eq-true-iff (uppercase b) (all uppercase s) .0 h .1))
 
 module _ (c d : ℕ) (cs : List ℕ) (h : all uppercase (c ∷ d ∷ cs) ≡ true) where
   abbrev name : List ℕ
   name = dottedInitials c (d ∷ cs)
 
-  capitals-letters : all letter (c ∷ d ∷ cs) ≡ true
-  capitals-letters = all-within uppercase letter uppercase-letter (c ∷ d ∷ cs) h
+  uppercase-letters : all letter (c ∷ d ∷ cs) ≡ true
+  uppercase-letters = all-within uppercase letter uppercase-letter (c ∷ d ∷ cs) h
 
   is-dotted : isDottedAbbrev name ≡ true
   is-dotted =
@@ -99,27 +99,27 @@ module _ (c d : ℕ) (cs : List ℕ) (h : all uppercase (c ∷ d ∷ cs) ≡ tru
       and-eq-true-iff (isDottedAbbrev name) (not (endsWith (code ".") name)) .0
       (and-eq-true-iff name-dotted (all uppercaseOrPoint name) .0 (initials-test c d cs h) .0) .0
 
-  row : (word : List ℕ → List ℕ) → readWith word name ≡ by Dotted (map (λ b. other (initial b)) (c ∷ d ∷ cs))
+  initials-row : (word : List ℕ → List ℕ) → readWith word name ≡ by Dotted (map (λ b. other (initial b)) (c ∷ d ∷ cs))
   unfolding readStep
-  row word =
+  initials-row word =
       step-eq word name
       ∙ rw (
         ne-eqb (length name) 0 (λ z. omega (arith, dottedInitials-some c (d ∷ cs))),
         is-dotted,
         dottedInitials-filterb c (d ∷ cs) h,
-        letter-chars (c ∷ d ∷ cs) capitals-letters,
+        letter-chars (c ∷ d ∷ cs) uppercase-letters,
       )
 
-  letters-heard : decode (map initial (c ∷ d ∷ cs)) ≡ name
+  letters-decoded : decode (map initial (c ∷ d ∷ cs)) ≡ name
   unfolding decode decodeInitials all
-  letters-heard =
+  letters-decoded =
       let p = and-eq-true-iff (uppercase c) (all uppercase (d ∷ cs)) .0 h .0 in
       rw (not-single (map initial (c ∷ d ∷ cs)) (omega arith), is-letter c p)
-      (ap₂ dottedInitials (same-capital c p) (initials-read-back (d ∷ cs) (and-eq-true-iff (uppercase c) (all uppercase (d ∷ cs)) .0 h .1)))
+      (ap₂ dottedInitials (same-uppercase c p) (initials-read-back (d ∷ cs) (and-eq-true-iff (uppercase c) (all uppercase (d ∷ cs)) .0 h .1)))
 
--- capitals with dots between are heeded
+-- capitals with dots between are decoded
 pub initials-decoded : {word : List ℕ → List ℕ} (c d : ℕ) (cs : List ℕ) → all uppercase (c ∷ d ∷ cs) ≡ true → DecodedWith word (dottedInitials c (d ∷ cs))
 initials-decoded {word} c d cs h =
     let e = spelled-initials (c ∷ d ∷ cs) in
-    decoded (dottedInitials c (d ∷ cs)) (map (λ b. other (initial b)) (c ∷ d ∷ cs)) (ap (λ r. r .words) (row c d cs h word))
-    (rw e (letters-heard c d cs h))
+    decoded (dottedInitials c (d ∷ cs)) (map (λ b. other (initial b)) (c ∷ d ∷ cs)) (ap (λ r. r .words) (initials-row c d cs h word))
+    (rw e (letters-decoded c d cs h))

@@ -1,4 +1,4 @@
--- A call sheet is taken apart at LFs and spaces, and heard as its entries if their names are heeded. Assumes nothing.
+-- A call sheet is taken apart at LFs and spaces, and decoded as its entries if their names are decoded. Assumes nothing.
 use mathlib.Core.Path.{_≡_, refl, ap, _∙_}
 use mathlib.Core.Bool.{Bool, true, false, not, cond, _&&_, and-eq-true-iff}
 use mathlib.Core.List.{List, [], _∷_, _++_, map, append-assoc, append-nil, flatten}
@@ -28,7 +28,7 @@ split-at c (b ∷ s) t r h = go (eqb b c) h (split-at c s t r)
     go true h i = cc
     go false h i = rw (i h)
 
--- a solid word has neither separator
+-- such a word has neither separator
 separatorFree-except : (w : List ℕ) → separatorFree w ≡ true → (all (except (code " ")) w ≡ true) × (all (except (code "\n")) w ≡ true)
 separatorFree-except w h = (
   all-within _ (except (code " ")) (λ b k. and-eq-true-iff (except (code " ") b) (except (code "\n") b) .0 k .0) w h,
@@ -44,17 +44,17 @@ words-split w [] h =
 words-split w (v ∷ ws) h =
     split-at (code " ") w (v ++ spacedWords ws) refl (separatorFree-except w (h .0) .0) ∙ ap (λ (vs : List (List ℕ)). w ∷ vs) (words-split v ws (h .1))
 
-words-read : (ws : List (List ℕ)) → Every (λ w. separatorFree w ≡ true) ws → drop 1 (split (code " ") (spacedWords ws)) ≡ ws
+words-split-back : (ws : List (List ℕ)) → Every (λ w. separatorFree w ≡ true) ws → drop 1 (split (code " ") (spacedWords ws)) ≡ ws
 unfolding spacedWords split
-words-read [] h = refl
-words-read (w ∷ ws) h = words-split w ws h
+words-split-back [] h = refl
+words-split-back (w ∷ ws) h = words-split w ws h
 
 spaced-except : (ws : List (List ℕ)) → Every (λ w. separatorFree w ≡ true) ws → all (except (code "\n")) (spacedWords ws) ≡ true
 unfolding spacedWords all
 spaced-except [] h = refl
 spaced-except (w ∷ ws) h = rw (all-append (except (code "\n")) w (spacedWords ws), separatorFree-except w (h .0) .1, spaced-except ws (h .1))
 
--- a mark is told, and is no LF
+-- a mark is read back, and is no LF
 mark-read : (b : Bool) → (eqb (mark b) (code "+") ≡ b) × (except (code "\n") (mark b) ≡ true)
 mark-read true = (refl, refl)
 mark-read false = (refl, refl)
@@ -88,7 +88,7 @@ lines-whole es h = ap (λ (ls : List (List ℕ)). flatten (map (λ l. l ++ bytes
     go [] = refl
     go (e ∷ es) = ap (λ (r : List ℕ). lineOf e ++ r) (go es)
 
--- what a line tells, by its mark and its words, of each entry
+-- what is read from a line, by its mark and its words, of each entry
 pub lines-read : {A : Type 0} (f : Bool → List (List ℕ) → A) (es : List SheetEntry) → Every SeparatorFreeEntry es
     → map (λ l. f (isStartIn l) (wordsIn l)) (linesIn (flatten (map lineOf es))) ≡ map (λ (e : SheetEntry). f (e .starts) (wordsOf e)) es
 unfolding bare
@@ -97,9 +97,9 @@ lines-read {A} f es h = ap (map (λ l. f (isStartIn l) (wordsIn l))) (lines-in e
     go : (es : List SheetEntry) → Every SeparatorFreeEntry es
         → map (λ l. f (isStartIn l) (wordsIn l)) (map bare es) ≡ map (λ (e : SheetEntry). f (e .starts) (wordsOf e)) es
     go [] h = refl
-    go (e ∷ es) h = rw (mark-read (e .starts) .0, words-read (wordsOf e) (h .0)) (ap (λ (r : List A). f (e .starts) (wordsOf e) ∷ r) (go es (h .1)))
+    go (e ∷ es) h = rw (mark-read (e .starts) .0, words-split-back (wordsOf e) (h .0)) (ap (λ (r : List A). f (e .starts) (wordsOf e) ∷ r) (go es (h .1)))
 
--- a call sheet is heard as its entries
+-- a call sheet is decoded as its entries
 pub sheet-decoded : (es : List SheetEntry) → Every SeparatorFreeEntry es → Every (λ (e : SheetEntry). Decoded (e .name)) es → decodeSheet (flatten (map lineOf es)) ≡ es
 sheet-decoded es k h = lines-read (λ b ws. record { starts = b; name = decode ws }) es k ∙ go es h
   where

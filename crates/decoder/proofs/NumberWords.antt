@@ -1,4 +1,4 @@
--- The words that numbers are read with: what each of them passes, and which digits they are heard as. Assumes nothing.
+-- The words that numbers are read with: what each of them passes, and which digits they are decoded as. Assumes nothing.
 use mathlib.Core.Path.{_≡_, refl, sym, ap, _∙_}
 use mathlib.Core.Bool.{Bool, true, false, cond, _&&_, and-false, and-eq-true-iff}
 use mathlib.Core.Logic.{⊎-elim}
@@ -58,7 +58,7 @@ unfolding spelled
 every-parsed [] h = refl
 every-parsed (w ∷ ws) h = rw (h .0, every-parsed ws (h .1))
 
--- ---- digits that are heard
+-- ---- digits that are decoded
 
 -- digit by digit
 pub digits-back : (d : List ℕ) → map digitOf (map one d) ≡ d
@@ -134,7 +134,7 @@ plain-has-words s h e =
     (λ (l : 12 < length (digitValues s)). omega (arith, long-length s l, ap length e))
     (le-or-lt (length (digitValues s)) 12)
 
--- plain digits have a word, and are heard from their words; so are digits with a leading zero
+-- plain digits have a word, and are decoded from their words; so are digits with a leading zero
 pub plain-some : (s : List ℕ) → plain s ≡ true → (w : Word) × (ws : List Word) × (cardinal s ≡ w ∷ ws)
 plain-some s h = go (cardinal s) refl
   where

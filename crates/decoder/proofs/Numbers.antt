@@ -1,4 +1,4 @@
--- Numbers, also with a percent sign, are heeded. Assumes nothing.
+-- Numbers, also with a percent sign, are decoded. Assumes nothing.
 use mathlib.Core.Path.{_≡_, refl, ap, _∙_}
 use mathlib.Core.Bool.{Bool, true, false, not, _&&_, _||_, and-eq-true-iff}
 use mathlib.Core.List.{List, [], _∷_, _++_, map, append-nil}
@@ -20,7 +20,7 @@ use Rattle.numerals.specs.Cardinal.{digitValues, cardinal, digits}
 use Rattle.numerals.proofs.Digits.{spelled-append}
 use Rattle.rows.specs.Rows.{readWith, perCent}
 use Rattle.rows.proofs.Percent.{percent-with}
-use Rattle.clear.proofs.Cuts.{cut-front, snoc-ends}
+use Rattle.clear.proofs.Cuts.{cut-front, snoc-endsWith}
 use Rattle.clear.specs.Clear.{plain, tableWords, OptionalMinus, no-minus, a-minus, Fraction, no-point, Exponent, no-exponent, Number, is-digits, is-figure}
 use Rattle.decoder.specs.Decode.{parseWord, parseWords, firstWord, lastWord, valueBelowHundred, timeLike, decodeDigits, decodeAfterSign, decodeFigure, isLetterWord, isSingleWord, decode, isBelowHundred}
 use Rattle.decoder.proofs.Decoded.{DecodedWith}
@@ -35,7 +35,7 @@ use Rattle.decoder.proofs.NotTime.{NotTime, large-not-time, cardinal-no
 
 -- ---- what is said of a number
 
--- the words ws are heard as the number s
+-- the words ws are decoded as the number s
 record NumberDecoded (s : List ℕ) (ws : List Word) : Type 0 where
   pub some : 0 < length ws
   pub figure : Every FigureWord ws
@@ -119,25 +119,25 @@ number-words-decoded word n (is-digits s h) = go (isLeadingZeroDigits s) refl
 -- ---- how `decode` goes by these words
 
 module _ {s : List ℕ} {ws : List Word} (o : NumberDecoded s ws) where
-  fine-known : parseWords (spelled ws) ≡ ws
-  fine-known = every-parsed ws (every-imply FigureWord (λ w. parseWord (spell w) ≡ w) (λ w f. f .parsed) ws (o .figure))
+  figure-words-parsed : parseWords (spelled ws) ≡ ws
+  figure-words-parsed = every-parsed ws (every-imply FigureWord (λ w. parseWord (spell w) ≡ w) (λ w f. f .parsed) ws (o .figure))
 
-  fine-last : isFigureEnd (lastWord (spelled ws)) ≡ true
+  figure-word-last : isFigureEnd (lastWord (spelled ws)) ≡ true
   unfolding spelled
-  fine-last =
+  figure-word-last =
       let l = length-map ws spell in
       every-at (λ w. isFigureEnd w ≡ true) (spelled ws) (length (spelled ws) - 1) [] (omega (arith, o .some))
       (every-map FigureWord (λ w. isFigureEnd w ≡ true) spell (λ w f. f .ending) ws (o .figure))
 
-  hear-number : decode (spelled ws) ≡ s
+  decode-number : decode (spelled ws) ≡ s
   unfolding decode
-  hear-number =
+  decode-number =
       let w = lastWord (spelled ws) in
       let c = not (same w (bytes "cent")) in
       let m = not (same w (bytes "m")) in
       let u = not (listed w unitWords) in
       let n = not (listed w (map bytes ordinals)) in
-      let a = and-eq-true-iff (c && m && u) n .0 fine-last .0 in
+      let a = and-eq-true-iff (c && m && u) n .0 figure-word-last .0 in
       let b = and-eq-true-iff (c && m) u .0 a .0 in
       rw (
         o .not-single,
@@ -145,8 +145,8 @@ module _ {s : List ℕ} {ws : List Word} (o : NumberDecoded s ws) where
         not-true (same w (bytes "cent")) (and-eq-true-iff c m .0 b .0),
         not-true (same w (bytes "m")) (and-eq-true-iff c m .0 b .1),
         not-true (listed w unitWords) (and-eq-true-iff (c && m) u .0 a .1),
-        not-true (listed w (map bytes ordinals)) (and-eq-true-iff (c && m && u) n .0 fine-last .1),
-        fine-known,
+        not-true (listed w (map bytes ordinals)) (and-eq-true-iff (c && m && u) n .0 figure-word-last .1),
+        figure-words-parsed,
         o .not-time-like,
       )
       (o .decoded)
@@ -156,25 +156,25 @@ module _ {s : List ℕ} {ws : List Word} (o : NumberDecoded s ws) where
   unfolding spelled spell
   said-percent = spelled-append ws perCent
 
-  hear-percent : decode (spelled (ws ++ perCent)) ≡ s ++ bytes "%"
+  decode-percent : decode (spelled (ws ++ perCent)) ≡ s ++ bytes "%"
   unfolding decode spelled sameBy
-  hear-percent =
+  decode-percent =
       let v = bytes "per" ∷ bytes "cent" ∷ [] in
       let n = length-append (spelled ws) v in
       let m = length-map ws spell in
       let f : firstWord (spelled ws ++ v) ≡ firstWord (spelled ws) = List·getD-append (spelled ws) v [] 0 (omega (arith, o .some)) in
       let l : lastWord (spelled ws ++ v) ≡ bytes "cent" =
       rw (← append-snoc (spelled ws) (bytes "per") (bytes "cent" ∷ [])) (last-word (spelled ws ++ bytes "per" ∷ []) (bytes "cent")) in
-      rw (said-percent, not-single (spelled ws ++ v) (omega (arith, o .some)), f, o .first, l, but-last (spelled ws) v, fine-known, o .decoded)
+      rw (said-percent, not-single (spelled ws ++ v) (omega (arith, o .some)), f, o .first, l, but-last (spelled ws) v, figure-words-parsed, o .decoded)
 
--- a number is heeded
+-- a number is decoded
 pub number-decoded : {word : List ℕ → List ℕ} (s : List ℕ) → Number s → DecodedWith word s
-number-decoded {word} s n = record { decoded = hear-number (number-words-decoded word s n) }
+number-decoded {word} s n = record { decoded = decode-number (number-words-decoded word s n) }
 
 percent-words : (word : List ℕ → List ℕ) (s : List ℕ) → readWith word (s ++ bytes "%") .words ≡ readWith word s .words ++ perCent
-percent-words word s = rw (percent-with word (s ++ bytes "%") (snoc-ends (code "%") s), cut-front s (bytes "%") 1 refl)
+percent-words word s = rw (percent-with word (s ++ bytes "%") (snoc-endsWith (code "%") s), cut-front s (bytes "%") 1 refl)
 
 -- so is a number with one %
 pub percent-decoded : {word : List ℕ → List ℕ} (s : List ℕ) → Number s → DecodedWith word (s ++ bytes "%")
 percent-decoded {word} s n =
-    decoded (s ++ bytes "%") (readWith word s .words ++ perCent) (percent-words word s) (hear-percent (number-words-decoded word s n))
+    decoded (s ++ bytes "%") (readWith word s .words ++ perCent) (percent-words word s) (decode-percent (number-words-decoded word s n))

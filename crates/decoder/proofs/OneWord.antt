@@ -1,4 +1,4 @@
--- A clear name of letters is read by row 12 alone, and is heard if that row says it as it is. Assumes nothing.
+-- A clear name of letters is read by row 12 alone, and is decoded if that row says it as it is. Assumes nothing.
 use mathlib.Core.Path.{_≡_, refl, sym, ap₂, _∙_}
 use mathlib.Core.Bool.{true, false, _&&_, and-false, and-eq-true-iff, false≢true}
 use mathlib.Core.List.{List, [], _∷_, map}
@@ -50,8 +50,8 @@ module _ (b : ℕ) (t : List ℕ) (h : all lowercase (b ∷ t) ≡ true) where
   unfolding all
   first = and-eq-true-iff (lowercase b) (all lowercase t) .0 h .0
 
-  starts-otherwise : (c : ℕ) → lowercase c ≡ false → startsWith c (b ∷ t) ≡ false
-  starts-otherwise c n = startsWith-first c b t ∙ class-apart lowercase c b n first
+  startsWith-otherwise : (c : ℕ) → lowercase c ≡ false → startsWith c (b ∷ t) ≡ false
+  startsWith-otherwise c n = startsWith-first c b t ∙ class-apart lowercase c b n first
 
   not-dotted : isDottedAbbrev (b ∷ t) ≡ false
   unfolding isDottedAbbrev
@@ -69,7 +69,7 @@ module _ (b : ℕ) (t : List ℕ) (h : all lowercase (b ∷ t) ≡ true) where
 
   not-double : isDouble (b ∷ t) ≡ false
   unfolding isUnsigned span
-  not-double = rw (starts-otherwise (code "-") refl, not-digit b first, starts-otherwise (code ".") refl)
+  not-double = rw (startsWith-otherwise (code "-") refl, not-digit b first, startsWith-otherwise (code ".") refl)
 
   front-digit : (n : ℕ) → digit (getD (take n (b ∷ t)) 0 0) ≡ false
   front-digit zero = refl
@@ -83,9 +83,9 @@ module _ (b : ℕ) (t : List ℕ) (h : all lowercase (b ∷ t) ≡ true) where
   unfolding hasUnit
   no-unit = rw (last-none digit lowercase not-digit (b ∷ t) h)
 
-  word-read : (word : List ℕ → List ℕ) → readWith word (b ∷ t) ≡ by OneWord (other (word (b ∷ t)) ∷ [])
+  one-word-read : (word : List ℕ → List ℕ) → readWith word (b ∷ t) ≡ by OneWord (other (word (b ∷ t)) ∷ [])
   unfolding readStep
-  word-read word =
+  one-word-read word =
       step-eq word (b ∷ t)
       ∙ rw (
         not-dotted,
@@ -105,4 +105,4 @@ module _ (b : ℕ) (t : List ℕ) (h : all lowercase (b ∷ t) ≡ true) where
 pub word-decoded : {word : List ℕ → List ℕ} (s : List ℕ) → word s ≡ s → 2 ≤ length s → all lowercase s ≡ true → listed s tableWords ≡ false → DecodedWith word s
 unfolding decode spelled spell
 word-decoded [] e l h n = absurd (omega arith)
-word-decoded {word} (b ∷ t) e l h n = record { decoded = rw (word-read b t h word, e, n) }
+word-decoded {word} (b ∷ t) e l h n = record { decoded = rw (one-word-read b t h word, e, n) }

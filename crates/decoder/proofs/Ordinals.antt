@@ -1,4 +1,4 @@
--- Plain digits with their ordinal suffix are heard. Assumes nothing.
+-- Plain digits with their ordinal suffix are decoded. Assumes nothing.
 use mathlib.Core.Path.{_≡_, refl, sym, ap, _∙_}
 use mathlib.Core.Bool.{Bool, true, false, not, _||_}
 use mathlib.Core.Logic.{⊎-elim}
@@ -36,7 +36,7 @@ use Rattle.clear.proofs.Suffixes.{suffix-elim, suffix-two}
 use Rattle.numerals.proofs.NumberWords.{NumberWord, number-word-test, cardinal-number-words}
 use Rattle.decoder.proofs.NumberWords.{plain-some, zero-named, long-length, decode-plain}
 use Rattle.decoder.proofs.Suffixed.{read-ordinal}
-use Rattle.decoder.proofs.Dispatch.{isOrdinaryEnd, not-single, number-words-parsed, hear-ordinal, heeded-late}
+use Rattle.decoder.proofs.Dispatch.{isOrdinaryEnd, not-single, number-words-parsed, decode-ordinal, decoded-ordinary}
 
 -- ---- the name
 
@@ -81,9 +81,9 @@ abbrev formOf : Word → List ℕ
 formOf w = ordinalForm (spell w)
 
 module _ (w : Word) (n : NumberWord w) where
-  form-late : isOrdinaryEnd (formOf w) ≡ true
+  form-ordinary-end : isOrdinaryEnd (formOf w) ≡ true
   unfolding numberWords consecutiveWords spell unfoldVocabulary ordinalForm formIn all
-  form-late = number-word-test (λ w. isOrdinaryEnd (formOf w)) refl w n
+  form-ordinary-end = number-word-test (λ w. isOrdinaryEnd (formOf w)) refl w n
 
   form-no-unit : listed (formOf w) unitWords ≡ false
   unfolding numberWords consecutiveWords spell unfoldVocabulary ordinalForm formIn indexOf any unitWords unitAbbreviations all
@@ -111,8 +111,8 @@ zeroth-in-table = refl
 
 module _ (s : List ℕ) (p : plain s ≡ true) where
   -- a number of one word has its form in the tables
-  lone-form : (w : Word) → NumberWord w → cardinal s ≡ w ∷ [] → listed (formOf w) tableWords ≡ true
-  lone-form w n e = go (eqb (wordsValue (w ∷ [])) 0) refl (form-in-table w n)
+  single-form : (w : Word) → NumberWord w → cardinal s ≡ w ∷ [] → listed (formOf w) tableWords ≡ true
+  single-form w n e = go (eqb (wordsValue (w ∷ [])) 0) refl (form-in-table w n)
     where
       short : length (digitValues s) ≤ 12
       short =
@@ -126,10 +126,10 @@ module _ (s : List ℕ) (p : plain s ≡ true) where
           rw g zeroth-in-table
       go false z h = h
 
-  not-lone-form : (a : List Word) (w : Word) → NumberWord w → cardinal s ≡ a ++ w ∷ [] → isSingleWord (spelled a ++ formOf w ∷ []) ≡ false
+  not-single-form : (a : List Word) (w : Word) → NumberWord w → cardinal s ≡ a ++ w ∷ [] → isSingleWord (spelled a ++ formOf w ∷ []) ≡ false
   unfolding spelled
-  not-lone-form [] w n e = rw (lone-form w n e)
-  not-lone-form (v ∷ a) w n e = not-single (spell v ∷ (map spell a ++ formOf w ∷ [])) (omega (arith, length-append (map spell a) (formOf w ∷ [])))
+  not-single-form [] w n e = rw (single-form w n e)
+  not-single-form (v ∷ a) w n e = not-single (spell v ∷ (map spell a ++ formOf w ∷ [])) (omega (arith, length-append (map spell a) (formOf w ∷ [])))
 
   ordinal-words : (a : List Word) (w : Word) → cardinal s ≡ a ++ w ∷ [] → ordinal s ≡ a ++ other (formOf w) ∷ []
   unfolding ordinal cardinal
@@ -138,14 +138,14 @@ module _ (s : List ℕ) (p : plain s ≡ true) where
   by-last : {word : List ℕ → List ℕ} (a : List Word) (w : Word) → cardinal s ≡ a ++ w ∷ [] → Every NumberWord a → NumberWord w → DecodedWith word (s ++ suffix s)
   unfolding spelled
   by-last {word} a w e es n =
-      let q = form-late w n in
-      let l = not-lone-form a w n e in
+      let q = form-ordinary-end w n in
+      let l = not-single-form a w n e in
       let k : spelled (cardinal s) ≡ spelled a ++ spell w ∷ [] = ap spelled e ∙ spelled-append a (w ∷ []) in
-      heeded-late a (formOf w) es q l (s ++ suffix s) (words s p word ∙ ordinal-words a w e)
-      (hear-ordinal a (formOf w) es q l (form-no-unit w n) (form-listed w n)
+      decoded-ordinary a (formOf w) es q l (s ++ suffix s) (words s p word ∙ ordinal-words a w e)
+      (decode-ordinal a (formOf w) es q l (form-no-unit w n) (form-listed w n)
       ∙ rw (form-back w n, ← k, number-words-parsed (cardinal s) (cardinal-number-words s), decode-plain s p))
 
--- plain digits with their suffix are heeded
+-- plain digits with their suffix are decoded
 pub ordinal-decoded : {word : List ℕ → List ℕ} (s : List ℕ) → plain s ≡ true → DecodedWith word (s ++ suffix s)
 ordinal-decoded s p =
     let c = cardinal s in

@@ -18,7 +18,7 @@ use Rattle.numerals.specs.Cardinal.{cardinal, digits}
 use Rattle.reals.specs.Real.{pointAt, eAt, pointed, realStep, real}
 use Rattle.reals.proofs.RealLaws.{real-eq, real-plain}
 use Rattle.clear.proofs.Figures.{plain-digits}
-use Rattle.clear.proofs.Cuts.{starts-digits, digits-alone}
+use Rattle.clear.proofs.Cuts.{startsWith-digits, digits-alone}
 use Rattle.clear.specs.Clear.{OptionalMinus, no-minus, a-minus, Fraction, no-point, a-point, ExponentSign, no-sign, plus-sign, minus-sign, Exponent, no-exponent, an-exponent}
 
 -- ---- digits
@@ -123,7 +123,7 @@ module _ (a : List ℕ) (h : isDigits a ≡ true) where
   -- digits and a fraction, alone or before an exponent
   module _ {f : List ℕ} (t : Fraction f) where
     start : (c : ℕ) → digit c ≡ false → startsWith c (a ++ f) ≡ false
-    start c n = starts-digits c a f n h
+    start c n = startsWith-digits c a f n h
 
     notE-all : all notE (a ++ f) ≡ true
     notE-all = all-append notE a f ∙ rw (digits-notE a (digits-all a h)) (fraction-notE t)
@@ -136,7 +136,7 @@ module _ (a : List ℕ) (h : isDigits a ≡ true) where
     real-exponent (an-exponent g x s k) =
         let whole : (c : ℕ) → digit c ≡ false
         → startsWith c ((a ++ f) ++ (bytes "e" ++ (g ++ x))) ≡ false = λ c n.
-        rw (append-assoc a f (bytes "e" ++ (g ++ x))) (starts-digits c a (f ++ (bytes "e" ++ (g ++ x))) n h) in
+        rw (append-assoc a f (bytes "e" ++ (g ++ x))) (startsWith-digits c a (f ++ (bytes "e" ++ (g ++ x))) n h) in
         ap real (sym (append-assoc a f (bytes "e" ++ (g ++ x))))
         ∙ real-e (a ++ f) (start (code "-") refl) (start (code "+") refl) notE-all (g ++ x) (whole (code "-") refl) (whole (code "+") refl)
         ∙ rw (real-fraction, real-sign s x, real-digits x (plain-digits x k))

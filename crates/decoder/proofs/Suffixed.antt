@@ -56,14 +56,14 @@ module _ (s u : List ℕ) (h : isDigits s ≡ true) (l : all letter u ≡ true) 
   not-double : all doubleByte name ≡ true → ⊥
   not-double e = true≢false (sym e ∙ all-append doubleByte s u ∙ rw x (and-false (all doubleByte s)))
 
-  no-digits : isDigits name ≡ false
-  no-digits = untaken (isDigits name) (λ e. not-double (all-within digit doubleByte digit-double name (digits-all name e)))
+  suffix-not-digits : isDigits name ≡ false
+  suffix-not-digits = untaken (isDigits name) (λ e. not-double (all-within digit doubleByte digit-double name (digits-all name e)))
 
   no-double : isDouble name ≡ false
   no-double = untaken (isDouble name) (λ e. not-double (double-bytes name e))
 
   no-leading : isLeadingZeroDigits name ≡ false
-  no-leading = rw no-digits (and-false (ltb 1 (length name) && startsWith (code "0") name))
+  no-leading = rw suffix-not-digits (and-false (ltb 1 (length name) && startsWith (code "0") name))
 
   past : PastTimes name
   past = past-times letterOrDigit name plain-bytes refl refl some first (no-meridiem letterOrDigit name plain-bytes refl refl)
@@ -71,11 +71,11 @@ module _ (s u : List ℕ) (h : isDigits s ≡ true) (l : all letter u ≡ true) 
   -- by row 9, or by row 11
   pub read-ordinal : (word : List ℕ → List ℕ) → isOrdinal name ≡ true → readWith word name .words ≡ ordinal (take (length name - 2) name)
   unfolding readStep
-  read-ordinal word o = rw (step-eq word name, o, no-double, no-leading, no-digits, past .meridiem, past .time, past .comma, past .dotted, past .empty)
+  read-ordinal word o = rw (step-eq word name, o, no-double, no-leading, suffix-not-digits, past .meridiem, past .time, past .comma, past .dotted, past .empty)
 
   pub read-unit : (word : List ℕ → List ℕ) → isOrdinal name ≡ false → hasUnit name ≡ true
       → readWith word name .words ≡ cardinal (take (unitAt name) name) ++ other (unitWord (drop (unitAt name) name)) ∷ []
   unfolding readStep
   read-unit word o k =
       let p = no-ending letterOrDigit (code "%") name refl plain-bytes in
-      rw (step-eq word name, k, p, o, no-double, no-leading, no-digits, past .meridiem, past .time, past .comma, past .dotted, past .empty)
+      rw (step-eq word name, k, p, o, no-double, no-leading, suffix-not-digits, past .meridiem, past .time, past .comma, past .dotted, past .empty)

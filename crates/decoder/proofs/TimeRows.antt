@@ -1,4 +1,4 @@
--- The rows that take a clear time, with am or pm or without, and what is heard of it. Assumes nothing.
+-- The rows that take a clear time, with am or pm or without, and what is decoded of it. Assumes nothing.
 use mathlib.Core.Path.{_≡_, refl, sym, ap, _∙_}
 use mathlib.Core.Bool.{true, false, _||_, or-true}
 use mathlib.Core.List.{List, [], _∷_, _++_, append-assoc}
@@ -23,7 +23,7 @@ use Rattle.clear.specs.Clear.{isHour, isMinute, HalfDay, am, pm}
 use Rattle.decoder.proofs.Decoded.{DecodedWith}
 use Rattle.clear.proofs.Times.{digit-colon, hour-minute, colon-at}
 use Rattle.decoder.proofs.Dispatch.{decoded}
-use Rattle.decoder.proofs.TimeWords.{time-told, meridiem-told}
+use Rattle.decoder.proofs.TimeWords.{time-read, meridiem-read}
 
 elem-right : (c : ℕ) (a b : List ℕ) → elem c b ≡ true → elem c (a ++ b) ≡ true
 unfolding any
@@ -41,9 +41,9 @@ module _ (h t : List ℕ) (p : isHour h ≡ true) where
   abbrev name : List ℕ
   name = h ++ (bytes ":" ++ t)
 
-  has-colon : elem (code ":") name ≡ true
+  elem-colon : elem (code ":") name ≡ true
   unfolding any
-  has-colon = elem-right (code ":") h (bytes ":" ++ t) refl
+  elem-colon = elem-right (code ":") h (bytes ":" ++ t) refl
 
   name-length : length name ≡ length h + suc (length t)
   name-length = length-append h (bytes ":" ++ t)
@@ -52,8 +52,8 @@ module _ (h t : List ℕ) (p : isHour h ≡ true) where
   first-rows : (eqb (length name) 0 ≡ false) × (isDottedAbbrev name ≡ false) × (isCommaInt name ≡ false)
   first-rows = (
     ne-eqb (length name) 0 (λ z. omega (arith, name-length)),
-    outside (isDottedAbbrev name) dottedByte (code ":") name (dotted-bytes name) refl has-colon,
-    outside (isCommaInt name) digitOrComma (code ":") name (comma-bytes name) refl has-colon,
+    outside (isDottedAbbrev name) dottedByte (code ":") name (dotted-bytes name) refl elem-colon,
+    outside (isCommaInt name) digitOrComma (code ":") name (comma-bytes name) refl elem-colon,
   )
 
 time-row : (word : List ℕ → List ℕ) (h m : List ℕ) → isHour h ≡ true → isMinute m ≡ true → readWith word (h ++ (bytes ":" ++ m)) ≡ by Time (clock h m)
@@ -128,15 +128,15 @@ module _ (h m x : List ℕ) (p : isHour h ≡ true) (q : isMinute m ≡ true) (d
       (elem-right (code "m") h (bytes ":" ++ (m ++ x)) (elem-right (code "m") (bytes ":" ++ m) x (half-day-letters x d .2))) in
       step-eq word whole ∙ rw (a, b, c, e, is-meridiem, front, back, at, take-append-seam h (bytes ":" ++ m), past-byte h 58 m)
 
--- ---- what is heard
+-- ---- what is decoded
 
--- a time that is not on the hour is heeded
+-- a time that is not on the hour is decoded
 pub time-decoded : {word : List ℕ → List ℕ} (h m : List ℕ) → isHour h ≡ true → isMinute m ≡ true → (m ≡ bytes "00" → ⊥) → DecodedWith word (h ++ (bytes ":" ++ m))
 time-decoded {word} h m p q n =
-    decoded (h ++ (bytes ":" ++ m)) (clock h m) (ap (λ r. r .words) (time-row word h m p q)) (time-told h m q p n)
+    decoded (h ++ (bytes ":" ++ m)) (clock h m) (ap (λ r. r .words) (time-row word h m p q)) (time-read h m q p n)
 
 -- so is every time with am or pm
 pub meridiem-decoded : {word : List ℕ → List ℕ} (h m x : List ℕ) → isHour h ≡ true → isMinute m ≡ true → HalfDay x
     → DecodedWith word (h ++ (bytes ":" ++ (m ++ x)))
 meridiem-decoded {word} h m x p q d =
-    decoded (h ++ (bytes ":" ++ (m ++ x))) (clock h m ++ letters x) (ap (λ r. r .words) (meridiem-row h m x p q d word)) (meridiem-told h m q p x d)
+    decoded (h ++ (bytes ":" ++ (m ++ x))) (clock h m ++ letters x) (ap (λ r. r .words) (meridiem-row h m x p q d word)) (meridiem-read h m q p x d)

@@ -1,4 +1,4 @@
--- The words of a time: what each of them passes, and how they are told. Assumes nothing.
+-- The words of a time: what each of them passes, and how they are decoded. Assumes nothing.
 use mathlib.Core.Path.{_≡_, refl, sym, ap, _∙_}
 use mathlib.Core.Bool.{Bool, true, false, cond, not, and-eq-true-iff, false≢true}
 use mathlib.Core.List.{List, [], _∷_, _++_, map, append-assoc}
@@ -31,7 +31,7 @@ use Rattle.decoder.proofs.DecimalDigits.{digitValues-length}
 use Rattle.numerals.proofs.NumberWords.{NumberWord, number-word-test, cardinal-number-words, digits-number-words}
 use Rattle.decoder.proofs.NumberWords.{number-word-parsed, every-parsed, plain-some}
 use Rattle.decoder.proofs.Dispatch.{not-single, but-last}
-use Rattle.decoder.proofs.Times.{minute-parts, time-like, time-heard}
+use Rattle.decoder.proofs.Times.{minute-parts, time-like, time-words-decoded}
 
 abbrev ohWord : Word
 ohWord = other (bytes "oh")
@@ -86,10 +86,10 @@ module _ (ws : List (List ℕ)) (y : List ℕ) where
   more-length : length more ≡ length ws + 2
   more-length = length-append ws (y ∷ bytes "m" ∷ [])
 
-  hear-half : 1 ≤ length ws → isLetterWord (firstWord ws) ≡ false
+  decode-half : 1 ≤ length ws → isLetterWord (firstWord ws) ≡ false
       → decode more ≡ decodeTime (parseWords ws) ++ ((cond (same y (bytes "p")) (code "p") (code "a") ∷ []) ++ bytes "m")
   unfolding decode sameBy
-  hear-half l f =
+  decode-half l f =
       let first : firstWord more ≡ firstWord ws = List·getD-append ws (y ∷ bytes "m" ∷ []) [] 0 l in
       let last : lastWord more ≡ bytes "m" = ap (λ k. getD more k []) (let e = more-length in omega arith) ∙ getD-append-add ws (y ∷ bytes "m" ∷ []) 1 [] in
       let next : getD more (length more - 2) [] ≡ y =
@@ -116,9 +116,9 @@ module _ (h m : List ℕ) (q : isMinute m ≡ true) where
   unfolding spelled spell
   clock-test p a b = every-map TimeWord (λ w. p w ≡ true) spell (time-word-test (λ w. p (spell w)) a b) (clock h m) clock-words
 
-  clock-known : parseWords (spelled (clock h m)) ≡ clock h m
+  clock-parsed : parseWords (spelled (clock h m)) ≡ clock h m
   unfolding parseWord parseWordIn numberWords consecutiveWords spell unfoldVocabulary
-  clock-known =
+  clock-parsed =
       every-parsed (clock h m)
       (every-imply TimeWord (λ w. parseWord (spell w) ≡ w) (λ w. ⊎-elim (number-word-parsed w) (λ (e : w ≡ ohWord). ap (λ v. parseWord (spell v)) e ∙ sym e))
       (clock h m) clock-words)
@@ -130,11 +130,11 @@ module _ (h m : List ℕ) (q : isMinute m ≡ true) where
       not-true (p (getD (spelled (clock h m)) i []))
       (every-at (λ w. not (p w) ≡ true) (spelled (clock h m)) i [] (rw spelled-length l) (clock-test (λ w. not (p w)) a b))
 
-  -- with a minute the words are told as a time
+  -- with a minute the words are a time's
   module _ (p : isHour h ≡ true) (n : m ≡ bytes "00" → ⊥) where
-    pub time-told : decode (spelled (clock h m)) ≡ h ++ (bytes ":" ++ m)
+    pub time-read : decode (spelled (clock h m)) ≡ h ++ (bytes ":" ++ m)
     unfolding decode numberWords consecutiveWords spell unfoldVocabulary unitAbbreviations unitWords indexOf any all
-    time-told =
+    time-read =
         let ws = spelled (clock h m) in
         let t : timeLike (clock h m) ≡ true = time-like h m p q n in
         let e : length ws ≡ length (clock h m) = spelled-length (clock h m) in
@@ -148,17 +148,17 @@ module _ (h m : List ℕ) (q : isMinute m ≡ true) where
           clock-fails (λ w. same w (bytes "m")) refl refl i k,
           clock-fails (λ w. listed w unitWords) refl refl i k,
           clock-fails (λ w. listed w (map bytes ordinals)) refl refl i k,
-          clock-known,
+          clock-parsed,
           t,
-        ) (time-heard h m p q)
+        ) (time-words-decoded h m p q)
 
   -- and before "_a" or "p" and "m" with or without one
-  pub meridiem-told : isHour h ≡ true → (x : List ℕ) → HalfDay x → decode (spelled (clock h m ++ letters x)) ≡ h ++ (bytes ":" ++ (m ++ x))
+  pub meridiem-read : isHour h ≡ true → (x : List ℕ) → HalfDay x → decode (spelled (clock h m ++ letters x)) ≡ h ++ (bytes ":" ++ (m ++ x))
   unfolding numberWords consecutiveWords spell unfoldVocabulary all
-  meridiem-told p x d =
+  meridiem-read p x d =
       let ws = spelled (clock h m) in
       let l : 1 ≤ length (clock h m) = some-clock h m p in
       let (y, e, f) = half-letters x d in
       ap decode (spelled-append (clock h m) (letters x) ∙ ap (λ (v : List (List ℕ)). ws ++ v) e)
-      ∙ hear-half ws y (rw (spelled-length (clock h m)) l) (clock-fails isLetterWord refl refl 0 l)
-      ∙ rw (clock-known, time-heard h m p q, f) (append-assoc h (bytes ":" ++ m) x)
+      ∙ decode-half ws y (rw (spelled-length (clock h m)) l) (clock-fails isLetterWord refl refl 0 l)
+      ∙ rw (clock-parsed, time-words-decoded h m p q, f) (append-assoc h (bytes ":" ++ m) x)

@@ -1,4 +1,4 @@
--- Hours and minutes as numbers, and what their words are heard as: a test of each hour and one of each minute. Assumes nothing.
+-- Hours and minutes as numbers, and what their words are decoded as: a test of each hour and one of each minute. Assumes nothing.
 use mathlib.Core.Path.{_≡_, refl, sym, ap, ap₂, _∙_}
 use mathlib.Core.Bool.{Bool, true, false, cond, not, _&&_, and-false, and-eq-true-iff, or-true, false≢true}
 use mathlib.Core.List.{List, [], _∷_, _++_, map}
@@ -116,7 +116,7 @@ minute-words m p =
     let (k, l, e) = minute-number m p in
     (k, e, ap (λ s. minutely k (minuteWords s)) e ∙ below (λ k. minutely k (minuteWords (minuteBytes k))) 60 minutes k l)
 
--- ---- a time is heard
+-- ---- a time is decoded
 
 minute-decoded : (m : ℕ) (vs : List Word) → isMinuteOf m vs ≡ true → decodeMinute vs ≡ m
 unfolding isMinuteOf decodeMinute
@@ -163,9 +163,9 @@ some-time-like h m (w ∷ ws) vs p q n =
     rw (s, minute-only-append ws vs (some-minute-only m vs q n))
 
 module _ (h m : List ℕ) (p : isHour h ≡ true) (q : isMinute m ≡ true) where
-  pub time-heard : decodeTime (clock h m) ≡ h ++ (bytes ":" ++ m)
+  pub time-words-decoded : decodeTime (clock h m) ≡ h ++ (bytes ":" ++ m)
   unfolding clock
-  time-heard =
+  time-words-decoded =
       let (k, e, hs) = hour-words h p in
       let (i, f, ms) = minute-words m q in
       hour-minute-decoded k i (cardinal h) (minuteWords m) (and-eq-true-iff (all isBelowHundred (cardinal h)) _ .0 hs .1) (and-eq-true-iff (all isBelowHundred (minuteWords m)) _ .0 ms .1)

@@ -1,4 +1,4 @@
--- Plain digits with a unit are heard. Assumes nothing.
+-- Plain digits with a unit are decoded. Assumes nothing.
 use mathlib.Core.Path.{_≡_, refl, _∙_}
 use mathlib.Core.Bool.{Bool, true, false, not, _&&_, and-false}
 use mathlib.Core.List.{List, [], _∷_, _++_}
@@ -27,53 +27,53 @@ use Rattle.clear.proofs.Suffixes.{unit-facts, unit-at}
 use Rattle.numerals.proofs.NumberWords.{cardinal-number-words}
 use Rattle.decoder.proofs.NumberWords.{decode-plain}
 use Rattle.decoder.proofs.Suffixed.{read-unit}
-use Rattle.decoder.proofs.Dispatch.{isOrdinaryEnd, plain-not-single, hear-unit, heeded-late}
+use Rattle.decoder.proofs.Dispatch.{isOrdinaryEnd, plain-not-single, decode-unit, decoded-ordinary}
 
 -- ---- the rows of the table
 
-abbrev unitAt22 : ℕ → List ℕ
-unitAt22 k = getD abbreviations k []
+abbrev abbreviationAt : ℕ → List ℕ
+abbreviationAt k = getD abbreviations k []
 
-abbrev wordAt22 : ℕ → List ℕ
-wordAt22 k = getD unitWords k []
+abbrev unitWordAt : ℕ → List ℕ
+unitWordAt k = getD unitWords k []
 
 -- what each row passes
-unit-row-test : (p : ℕ → Bool) → upto p 22 ≡ true → (k : ℕ) → k < length unitWords → p k ≡ true
+each-unit-test : (p : ℕ → Bool) → upto p 22 ≡ true → (k : ℕ) → k < length unitWords → p k ≡ true
 unfolding unitWords unitAbbreviations
-unit-row-test p t k h = below p 22 t k h
+each-unit-test p t k h = below p 22 t k h
 
 module _ (k : ℕ) (h : k < length unitWords) where
-  letters : all letter (unitAt22 k) ≡ true
+  letters : all letter (abbreviationAt k) ≡ true
   unfolding abbreviations unitAbbreviations all
-  letters = unit-row-test (λ k. all letter (unitAt22 k)) refl k h
+  letters = each-unit-test (λ k. all letter (abbreviationAt k)) refl k h
 
-  no-double : all doubleByte (unitAt22 k) ≡ false
+  no-double : all doubleByte (abbreviationAt k) ≡ false
   unfolding abbreviations unitAbbreviations all
-  no-double = not-true (all doubleByte (unitAt22 k)) (unit-row-test (λ k. not (all doubleByte (unitAt22 k))) refl k h)
+  no-double = not-true (all doubleByte (abbreviationAt k)) (each-unit-test (λ k. not (all doubleByte (abbreviationAt k))) refl k h)
 
-  size : 2 ≤ length (unitAt22 k)
+  size : 2 ≤ length (abbreviationAt k)
   unfolding abbreviations unitAbbreviations
-  size = leb-true 2 (length (unitAt22 k)) (unit-row-test (λ k. leb 2 (length (unitAt22 k))) refl k h)
+  size = leb-true 2 (length (abbreviationAt k)) (each-unit-test (λ k. leb 2 (length (abbreviationAt k))) refl k h)
 
-  no-suffix : isOrdinalSuffix (drop (length (unitAt22 k) - 2) (unitAt22 k)) ≡ false
+  no-suffix : isOrdinalSuffix (drop (length (abbreviationAt k) - 2) (abbreviationAt k)) ≡ false
   unfolding abbreviations unitAbbreviations sameBy
   no-suffix =
-      not-true (isOrdinalSuffix (drop (length (unitAt22 k) - 2) (unitAt22 k)))
-      (unit-row-test (λ k. not (isOrdinalSuffix (drop (length (unitAt22 k) - 2) (unitAt22 k)))) refl k h)
+      not-true (isOrdinalSuffix (drop (length (abbreviationAt k) - 2) (abbreviationAt k)))
+      (each-unit-test (λ k. not (isOrdinalSuffix (drop (length (abbreviationAt k) - 2) (abbreviationAt k)))) refl k h)
 
-  in-table : isUnit (unitAt22 k) ≡ true
+  in-table : isUnit (abbreviationAt k) ≡ true
   unfolding abbreviations unitAbbreviations indexOf any sameBy
-  in-table = unit-row-test (λ k. isUnit (unitAt22 k)) refl k h
+  in-table = each-unit-test (λ k. isUnit (abbreviationAt k)) refl k h
 
-  late : isOrdinaryEnd (wordAt22 k) ≡ true
+  unit-ordinary-end : isOrdinaryEnd (unitWordAt k) ≡ true
   unfolding unitWords unitAbbreviations sameBy all
-  late = unit-row-test (λ k. isOrdinaryEnd (wordAt22 k)) refl k h
+  unit-ordinary-end = each-unit-test (λ k. isOrdinaryEnd (unitWordAt k)) refl k h
 
 -- ---- the name
 
 module _ (s : List ℕ) (k : ℕ) (p : plain s ≡ true) (h : k < length unitWords) where
   abbrev u : List ℕ
-  u = unitAt22 k
+  u = abbreviationAt k
 
   abbrev name : List ℕ
   name = s ++ u
@@ -99,17 +99,17 @@ module _ (s : List ℕ) (k : ℕ) (p : plain s ≡ true) (h : k < length unitWor
         digits-nonempty s (plain-digits s p),
       )
 
-  words : (word : List ℕ → List ℕ) → readWith word name .words ≡ cardinal s ++ other (wordAt22 k) ∷ []
+  words : (word : List ℕ → List ℕ) → readWith word name .words ≡ cardinal s ++ other (unitWordAt k) ∷ []
   words word =
       read-unit s u (plain-digits s p) (letters k h) (no-double k h) word not-ordinal with-unit
       ∙ rw (unit-at s k p h, take-at s u (length s) refl, drop-at s u (length s) refl, unit-facts k h .first)
 
--- plain digits with a unit are heeded, if no row before has the unit's word
+-- plain digits with a unit are decoded, if no row before has the unit's word
 pub unit-decoded : {word : List ℕ → List ℕ} (s : List ℕ) (k : ℕ) → plain s ≡ true → k < length unitWords → indexOf (getD unitWords k []) unitWords ≡ k
     → DecodedWith word (s ++ getD abbreviations k [])
 unit-decoded {word} s k p h b =
     let e = cardinal-number-words s in
-    let q = late k h in
-    let l = plain-not-single s p (wordAt22 k) [] in
-    heeded-late (cardinal s) (wordAt22 k) e q l (s ++ unitAt22 k) (words s k p h word)
-    (hear-unit (cardinal s) (wordAt22 k) e q l (listed-indexOf (wordAt22 k) unitWords ∙ rw b (lt-ltb k (length unitWords) h)) ∙ rw (b, decode-plain s p))
+    let q = unit-ordinary-end k h in
+    let l = plain-not-single s p (unitWordAt k) [] in
+    decoded-ordinary (cardinal s) (unitWordAt k) e q l (s ++ abbreviationAt k) (words s k p h word)
+    (decode-unit (cardinal s) (unitWordAt k) e q l (listed-indexOf (unitWordAt k) unitWords ∙ rw b (lt-ltb k (length unitWords) h)) ∙ rw (b, decode-plain s p))

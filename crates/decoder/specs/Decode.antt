@@ -1,5 +1,5 @@
 -- Document 01, demand 3: from the words that a clear name is called with back to the name. Definitions only; no public promise is made
--- of them, and `told-apart` does not speak of them.
+-- of them, and `call-sheets-distinguish-sheets` does not speak of them.
 use mathlib.Core.Bool.{Bool, false, cond, not, _&&_, _||_}
 use mathlib.Core.List.{List, [], _∷_, _++_, map}
 use Prim.Native.Nat.{ℕ, zero, suc, _+_, _-_, _*_, _/_, _%_}
@@ -90,7 +90,7 @@ unfoldable pub decodeAfterSign : ℕ → List Word → List ℕ
 decodeAfterSign c [] = []
 decodeAfterSign c (w ∷ ws) = cond (eqb c (code ".")) (digitBytes (map digitOf (w ∷ ws))) (decodeDigits (w ∷ ws))
 
--- words heard from the right: those that no sign stands before yet, and what is heard after them
+-- words decoded from the right: those that no sign stands before yet, and what is decoded after them
 pub record Decoding : Type 0 where
   pub pending : List Word
   pub bytes : List ℕ

@@ -39,8 +39,8 @@ long-none e h = ap longNames (sym e) ∙ h
 -- p is where the parts of the next token are
 module _ {s : List ℕ} {at : ℕ} {p : Places} (next : Next s at p) where
   -- the length of its name, as the code has it
-  name-size : p .punctuation - p .name ≡ length (firstToken (drop at s) .name)
-  name-size =
+  name-length : p .punctuation - p .name ≡ length (firstToken (drop at s) .name)
+  name-length =
       let a = ap (λ (r : Places). r .name) (next .places) in
       let b = ap (λ (r : Places). r .punctuation) (next .places) in
       omega arith
@@ -50,7 +50,7 @@ module _ {s : List ℕ} {at : ℕ} {p : Places} (next : Next s at p) where
   unfolding any
   long-next =
       ap longNames (next .token)
-      ∙ ap (λ (k : ℕ). ltb nameLimit k || longNames (tokens (drop (p .end) s))) (sym name-size)
+      ∙ ap (λ (k : ℕ). ltb nameLimit k || longNames (tokens (drop (p .end) s))) (sym name-length)
 
   -- the next name is long
   pub long-here : nameLimit < p .punctuation - p .name → {z : Bool} → longNames (tokens (drop at s)) ≡ z → true ≡ z

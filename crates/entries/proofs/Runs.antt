@@ -61,8 +61,8 @@ module _ (s : List ℕ) (at : ℕ) {k : ℕ} {l : List ℕ} (q : l ≡ take (at 
   pub ahead-within : at ≤ length s → at + k ≤ length s
   ahead-within h = omega (arith, last-within .1)
 
-  pub runs-on : (k ≡ 0 → ⊥) → RunsFrom s at → RunsFrom s (at + k)
-  runs-on z f i r =
+  pub long-runs-on : (k ≡ 0 → ⊥) → RunsFrom s at → RunsFrom s (at + k)
+  long-runs-on z f i r =
       let w : whitespace (getD l (k - 1) 0) ≡ true = last-passes whitespace l (k - 1) (omega arith) in
       let b = last-within in
       let g = f i r in

@@ -1,4 +1,4 @@
--- How signs are counted, and where the pen stands after a name. Assumes nothing.
+-- How signs are counted, and where the cursor stands after a name. Assumes nothing.
 use mathlib.Core.Path.{_≡_, sym, ap, _∙_}
 use mathlib.Core.Bool.{true}
 use mathlib.Core.List.{List, _++_, append-assoc, append-nil}
@@ -16,13 +16,13 @@ use Rattle.rows.proofs.Percent.{percent-read}
 use Rattle.row_readers.specs.Walk.{Says}
 use Rattle.entry_reader.specs.Percents.{perCents, withPercents}
 
-one-more : (n : ℕ) → perCents (n + 1) ≡ perCent ++ perCents n
+perCents-suc : (n : ℕ) → perCents (n + 1) ≡ perCent ++ perCents n
 unfolding perCents
-one-more n = rw add-one
+perCents-suc n = rw add-one
 
 -- a sign is said, and one less is left
 pub one-less : (n : ℕ) → 0 < n → perCents n ≡ perCent ++ perCents (n - 1)
-one-less n h = let e : n ≡ n - 1 + 1 = omega arith in ap perCents e ∙ one-more (n - 1)
+one-less n h = let e : n ≡ n - 1 + 1 = omega arith in ap perCents e ∙ perCents-suc (n - 1)
 
 -- nothing is left to be said
 pub none-left : (n : ℕ) → n ≡ 0 → (σ : Writer) {z : Writer} → emitAll (spelled (perCents n)) σ ≡ z → σ ≡ z
@@ -35,8 +35,8 @@ no-percents g = λ j. record { row = g .row; words = sym (append-nil (g .words))
 
 -- a name that ends in % is read as what stands before, with one sign more after it
 pub percent-taken : (s : List ℕ) (n : ℕ) → isPercent s ≡ true → withPercents (read s) n ≡ by Percent (read (take (length s - 1) s) .words ++ perCents (n + 1))
-percent-taken s n e = rw (percent-read s e, one-more n, append-assoc)
+percent-taken s n e = rw (percent-read s e, perCents-suc n, append-assoc)
 
--- what is said from the pen that a place stands for
+-- what is said from the cursor that a place stands for
 pub from-cursor : (g : Reading) (s t : List ℕ) {p q : Cursor} → p ≡ q → {τ : Writer} {r : Row} → Says g (writer s t p) τ r → Says g (writer s t q) τ r
 from-cursor g s t e h = rw e at h

@@ -1,4 +1,4 @@
--- The signs at a name's end, and the pen that the readers hand on. Definitions only; no public promise is made of them.
+-- The signs at a name's end, and the cursor that the readers hand on. Definitions only; no public promise is made of them.
 use mathlib.Core.Bool.{not}
 use mathlib.Core.List.{List, [], _++_}
 use Prim.Native.Nat.{ℕ, zero, suc}
@@ -17,6 +17,6 @@ perCents (suc n) = perCent ++ perCents n
 abbrev pub withPercents : Reading → ℕ → Reading
 withPercents g n = by (g .row) (g .words ++ perCents n)
 
--- the pen that three numbers stand for
+-- the cursor that three numbers stand for
 abbrev pub cursorOf : List ℕ → Cursor
 cursorOf p = record { at = getD p 0 0; words = getD p 1 0; spaced = not (eqb (getD p 2 0) 0) }

@@ -3,7 +3,7 @@
 // first.
 //
 // A name may be nothing but signs, so a level of the two has to take little of the stack. The signs taken off are counted and said
-// once what stands before them was read: nothing waits for the inner call. The pen is three numbers at one place, whose address is
+// once what stands before them was read: nothing waits for the inner call. The cursor is three numbers at one place, whose address is
 // all that a level hands on.
 use lists::ends_with;
 use lists::without_back;
@@ -54,7 +54,7 @@ fn say_per_cents(percents: usize, store: &mut [u8], table: &mut [u8], cursor: Cu
     p
 }
 
-// The pen as three numbers.
+// The cursor as three numbers.
 fn place_of(cursor: Cursor) -> [usize; 3]
     ensures { λ r. ⌜ cursorOf r ≡ cursor ⌝ }
 {

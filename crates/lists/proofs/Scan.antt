@@ -340,10 +340,10 @@ module _ (p q : ℕ → Bool) (f : (b : ℕ) → p b ≡ true → q b ≡ true) 
       go true g i = rw (g refl) (omega arith)
       go false g i = omega arith
 
-  pub span-lead : (s : List ℕ) → span p (take (span q s) s) ≡ span p s
+  pub span-takeWhile : (s : List ℕ) → span p (take (span q s) s) ≡ span p s
   unfolding span
-  span-lead [] = refl
-  span-lead (b ∷ s) = go (q b) (p b) refl (f b) (span-lead s)
+  span-takeWhile [] = refl
+  span-takeWhile (b ∷ s) = go (q b) (p b) refl (f b) (span-takeWhile s)
     where
       go : (u t : Bool) → p b ≡ t → (t ≡ true → u ≡ true) → span p (take (span q s) s) ≡ span p s
           → span p (take (cond u (suc (span q s)) 0) (b ∷ s)) ≡ cond t (suc (span p s)) 0

@@ -250,5 +250,5 @@ parts-shorter s k h e =
     (r, omega (arith, length-take (length s - 3 * k) s), omega (arith, length-drop (length s - 3 * k) s))
 
 -- a number that is none of 0 to 3 is above 3
-pub over-3 : (n : ℕ) → (n ≡ 0 → ⊥) → (n ≡ 1 → ⊥) → (n ≡ 2 → ⊥) → (n ≡ 3 → ⊥) → 3 < n
-over-3 n a b c d = omega arith
+pub above-3 : (n : ℕ) → (n ≡ 0 → ⊥) → (n ≡ 1 → ⊥) → (n ≡ 2 → ⊥) → (n ≡ 3 → ⊥) → 3 < n
+above-3 n a b c d = omega arith

@@ -1,4 +1,4 @@
--- The words of `cardinal` are words of the lexicon that have ordinal forms. Assumes nothing.
+-- The words of `cardinal` are words of the vocabulary that have ordinal forms. Assumes nothing.
 use mathlib.Core.Path.{_≡_, refl, ap, _∙_}
 use mathlib.Core.List.{List, [], _∷_}
 use Prim.Native.Nat.{ℕ, _+_, _-_, _<_}

@@ -68,9 +68,9 @@ module _ (s d : List ℕ) (n i : ℕ) (h : i < length s) (p : PickedDigits s d n
         }
 
     -- where twelve are picked, there are more
-    pub pick-over : n ≡ 12 → record { d = d; n = 13 } ≡ firstDigits s
+    pub pick-beyond : n ≡ 12 → record { d = d; n = 13 } ≡ firstDigits s
     unfolding firstDigits
-    pick-over k =
+    pick-beyond k =
         let ds = digitValues (take i s) in
         let r = digitValues (drop (i + 1) s) in
         let e : digitValues s ≡ ds ++ (b ∷ r) =
@@ -90,19 +90,19 @@ pick-end s d n i h p =
 
 module _ (s : List ℕ) (f : FirstDigits) (e : f ≡ firstDigits s) where
   -- up to twelve digits are all there
-  pub few-digits : length (digitValues s) ≤ 12 → take (f .n) (f .d) ≡ digitValues s
+  pub firstDigits-digits : length (digitValues s) ≤ 12 → take (f .n) (f .d) ≡ digitValues s
   unfolding firstDigits
-  few-digits h = rw (e, le-leb (length (digitValues s)) 12 h) (padded-front 12 (digitValues s) h)
+  firstDigits-digits h = rw (e, le-leb (length (digitValues s)) 12 h) (padded-front 12 (digitValues s) h)
 
   -- the number tells whether there are more
-  pub few-more : 12 < f .n → 12 < length (digitValues s)
+  pub firstDigits-more : 12 < f .n → 12 < length (digitValues s)
   unfolding firstDigits
-  few-more h =
+  firstDigits-more h =
       ⊎-elim (λ (l : length (digitValues s) ≤ 12). absurd (omega (arith, rw (e, le-leb (length (digitValues s)) 12 l) at h))) (λ (l : 12 < length (digitValues s)). l)
       (le-or-lt (length (digitValues s)) 12)
 
-  pub few-all : f .n ≤ 12 → length (digitValues s) ≤ 12
+  pub firstDigits-all : f .n ≤ 12 → length (digitValues s) ≤ 12
   unfolding firstDigits
-  few-all h =
+  firstDigits-all h =
       ⊎-elim (λ (l : length (digitValues s) ≤ 12). l) (λ (l : 12 < length (digitValues s)). absurd (omega (arith, rw (e, lt-leb (length (digitValues s)) 12 l) at h)))
       (le-or-lt (length (digitValues s)) 12)

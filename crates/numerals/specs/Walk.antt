@@ -26,7 +26,7 @@ padded (suc k) (d ∷ ds) = d ∷ padded k ds
 unfoldable pub firstDigits : List ℕ → FirstDigits
 firstDigits s = record { d = padded 12 (digitValues s); n = cond (leb (length (digitValues s)) 12) (length (digitValues s)) 13 }
 
--- a word's number in the lexicon
+-- a word's number in the vocabulary
 unfoldable pub numberOf : Word → ℕ
 numberOf (one d) = onesAt + d
 numberOf (teen d) = teensAt + d

@@ -1,4 +1,4 @@
-// A writer of lexicon words that is one word behind, since an ordinal number changes its last word.
+// A writer of vocabulary words that is one word behind, since an ordinal number changes its last word.
 use crate::saying::say;
 use vocabulary::HUNDRED;
 use vocabulary::ONES;

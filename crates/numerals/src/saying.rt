@@ -1,4 +1,4 @@
-// A word of the lexicon, and one word a digit.
+// A word of the vocabulary, and one word a digit.
 use lists::unpacked;
 use vocabulary::ONES;
 use word_writer::Cursor;
@@ -10,7 +10,7 @@ ghost use Rattle.numerals.specs.Words.{spelled};
 ghost use Rattle.numerals.specs.Cardinal.{digitValue, digits};
 ghost use mathlib.Core.List.{_∷_, []};
 
-// Says word number k of the lexicon.
+// Says word number k of the vocabulary.
 pub fn say(k: usize, store: &mut [u8], table: &mut [u8], cursor: Cursor) -> Cursor
     ensures { λ r. ⌜ writer (now (store .exit)) (now (table .exit)) r ≡ emit (wordOf k) (writer (now (store .entry)) (now (table .entry)) cursor) ⌝ }
 {

@@ -9,7 +9,7 @@ use lib.ListN.{length, take, drop, length-drop}
 use lib.Seq.{take-length}
 use borrow.Author.Tests.{le-ltb}
 use Rattle.admit.specs.Refusals.{textLimit, textTests, textRefusal, inOrder}
-use Rattle.admit.proofs.Calls.{held, passed}
+use Rattle.admit.proofs.Calls.{refused-first, passed-first}
 use Rattle.units.specs.Units.{unitIndex, unitWord}
 use Rattle.units.proofs.Laws.{miss-none, miss-word, hit-some}
 use Rattle.shapes.specs.Shapes.{unitAt, hasUnit, unitPart}
@@ -64,16 +64,16 @@ pub word-in-order : (s store : List ℕ) → inOrder (textTests textLimit (s ∷
 unfolding textTests
 word-in-order s store = refl
 
-module _ (s store : List ℕ) (n : ℕ) (due : n ≡ textRefusal textLimit s) where
+module _ (s store : List ℕ) (n : ℕ) (refusal-eq : n ≡ textRefusal textLimit s) where
   pub word-refused : (n ≡ 0 → ⊥) → record { refusal = n; value = record { found = false; size = 0; store = store } } ≡ unitWordCall s store
-  word-refused z = held (textTests textLimit (s ∷ [])) (storeTests (unitWord s) store) due _ _ z
+  word-refused z = refused-first (textTests textLimit (s ∷ [])) (storeTests (unitWord s) store) refusal-eq _ _ z
 
   -- an accepted text that is a unit
   pub word-found : n ≡ 0 → unitIndex s < 22 → storeCall (unitWord s) store ≡ unitWordCall s store
-  word-found z h = rw (hit-some s h, passed (textTests textLimit (s ∷ [])) (storeTests (unitWord s) store) due z)
+  word-found z h = rw (hit-some s h, passed-first (textTests textLimit (s ∷ [])) (storeTests (unitWord s) store) refusal-eq z)
 
   -- an accepted text that is none
   pub word-none : n ≡ 0 → 22 ≤ unitIndex s → record { refusal = 0; value = record { found = false; size = 0; store = store } } ≡ unitWordCall s store
   word-none z h =
       let l : ltb (length store) 0 ≡ false = le-ltb (length store) 0 (omega arith) in
-      rw (miss-none s h, miss-word s h, passed (textTests textLimit (s ∷ [])) (storeTests [] store) due z, l)
+      rw (miss-none s h, miss-word s h, passed-first (textTests textLimit (s ∷ [])) (storeTests [] store) refusal-eq z, l)

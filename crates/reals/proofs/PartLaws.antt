@@ -1,4 +1,4 @@
--- What is said of a number without sign and "e", and in one turn of `real`. Assumes nothing.
+-- What is said of a number without sign and "e", and in one step of `real`. Assumes nothing.
 use mathlib.Core.Path.{_≡_, refl}
 use mathlib.Core.Bool.{Bool, true, false}
 use mathlib.Core.List.{List, [], _∷_, append-nil}
@@ -32,7 +32,7 @@ module _ (s : List ℕ) (σ : Writer) {n : ℕ} (e : n ≡ pointAt s) where
       (says-more (cardinal w) (other (bytes "point") ∷ digits f) refl σ a
       (says-more (other (bytes "point") ∷ []) (digits f) refl τ (said-word (other (bytes "point")) τ b) c))
 
--- what a turn answers: the words are said, and their bytes are counted
+-- what a step answers: the words are said, and their bytes are counted
 module _ (s : List ℕ) (σ : Writer) where
   abbrev pub Turned : Writer → ℕ → Type 0
   Turned τ n = (τ ≡ emitAll (spelled (partWords s)) σ) × (n ≡ partBytes s)

@@ -21,20 +21,20 @@ use Rattle.reals.specs.Real.{eAt, pointed, realStep, real}
 use Rattle.reals.specs.Walk.{startsWithSign, partWords, partBytes}
 
 -- a text that starts with a byte is not empty
-starts-some : (c : ℕ) (s : List ℕ) → startsWith c s ≡ true → 0 < length s
-starts-some c [] e = let z : _≡_ {A = ℕ} 0 1 = cc in omega arith
-starts-some c (b ∷ s) e = omega arith
+startsWith-some : (c : ℕ) (s : List ℕ) → startsWith c s ≡ true → 0 < length s
+startsWith-some c [] e = let z : _≡_ {A = ℕ} 0 1 = cc in omega arith
+startsWith-some c (b ∷ s) e = omega arith
 
 -- where a text does not start with a byte, no part of it does
-starts-take : (c n : ℕ) (s : List ℕ) → startsWith c s ≡ false → startsWith c (take n s) ≡ false
-starts-take c zero s e = refl
-starts-take c (suc n) [] e = refl
-starts-take c (suc n) (b ∷ s) e = startsWith-first c b (take n s) ∙ sym (startsWith-first c b s) ∙ e
+startsWith-take : (c n : ℕ) (s : List ℕ) → startsWith c s ≡ false → startsWith c (take n s) ≡ false
+startsWith-take c zero s e = refl
+startsWith-take c (suc n) [] e = refl
+startsWith-take c (suc n) (b ∷ s) e = startsWith-first c b (take n s) ∙ sym (startsWith-first c b s) ∙ e
 
 real-local : Local realStep
 unfolding realStep
 real-local f g s h =
-    let rest : (c : ℕ) → startsWith c s ≡ true → f (drop 1 s) ≡ g (drop 1 s) = λ c e. h (drop 1 s) (simp length-drop (omega (arith, starts-some c s e))) in
+    let rest : (c : ℕ) → startsWith c s ≡ true → f (drop 1 s) ≡ g (drop 1 s) = λ c e. h (drop 1 s) (simp length-drop (omega (arith, startsWith-some c s e))) in
     cond-cong (startsWith (code "-") s) (λ e. ap (λ (ws : List Word). other (bytes "minus") ∷ ws) (rest (code "-") e)) (λ n.
     cond-cong (startsWith (code "+") s) (λ e. ap (λ (ws : List Word). other (bytes "plus") ∷ ws) (rest (code "+") e)) (λ m.
     cond-cong (ltb (eAt s) (length s)) (λ e.
@@ -60,7 +60,7 @@ pub real-plain : (s : List ℕ) → startsWith (code "-") s ≡ false → starts
 unfolding realStep
 real-plain s m p h = real-eq s ∙ rw (m, p, le-ltb (eAt s) (length s) h)
 
--- the words of one turn, and those of what is left
+-- the words of one step, and those of what is left
 pub real-part : (s : List ℕ) → real s ≡ partWords s ++ real (drop (partBytes s) s)
 unfolding realStep partWords partBytes
 real-part s = real-eq s ∙ go (startsWith (code "-") s) (startsWith (code "+") s) (ltb (eAt s) (length s)) refl refl refl
@@ -70,13 +70,13 @@ real-part s = real-eq s ∙ go (startsWith (code "-") s) (startsWith (code "+") 
     go false true e m q r = rw (m, q)
     go false false true m q r =
         let t = take (eAt s) s in
-        let plain = real-plain t (starts-take (code "-") (eAt s) s m) (starts-take (code "+") (eAt s) s q) (span-again notE s) in
+        let plain = real-plain t (startsWith-take (code "-") (eAt s) s m) (startsWith-take (code "+") (eAt s) s q) (span-again notE s) in
         rw (m, q, r, plain) (sym (append-snoc (pointed t) (other (bytes "e")) (real (drop (eAt s + 1) s))))
     go false false false m q r =
         let h : length s ≤ eAt s = ltb-false _ _ r in
         rw (m, q, r, take-all (eAt s) s h, drop-of-length-le s {i = eAt s} h, real-none) (sym (append-nil (pointed s ++ []) ∙ append-nil (pointed s)))
 
--- a turn reads some bytes, and no more than there are
+-- a step reads some bytes, and no more than there are
 part-bytes : (s : List ℕ) → 0 < length s → (0 < partBytes s) × (partBytes s ≤ length s)
 unfolding partBytes
 part-bytes s h = go (startsWithSign s) (ltb (eAt s) (length s)) refl (span-le notE s)
@@ -86,7 +86,7 @@ part-bytes s h = go (startsWithSign s) (ltb (eAt s) (length s)) refl (span-le no
     go false true r l = (omega arith, omega (arith, ltb-true (eAt s) (length s) r))
     go false false r l = (omega (arith, ltb-false (eAt s) (length s) r), omega arith)
 
--- a turn reads n bytes from i, where the text t starts
+-- a step reads n bytes from i, where the text t starts
 module _ (s : List ℕ) (i : ℕ) {t : List ℕ} {n : ℕ} (g : t ≡ drop i s) (e : n ≡ partBytes t) where
   pub part-more : i < length s → (0 < n) × (i + n ≤ length s)
   part-more h =

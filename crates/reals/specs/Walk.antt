@@ -9,7 +9,7 @@ use Rattle.lists.specs.Bytes.{bytes, startsWith}
 use Rattle.numerals.specs.Words.{Word, other}
 use Rattle.reals.specs.Real.{eAt, pointed}
 
--- the words that one turn says, a sign or the part up to the next "e" and that, and the bytes that it reads
+-- the words that one step says, a sign or the part up to the next "e" and that, and the bytes that it reads
 abbrev pub startsWithSign : List ℕ → Bool
 startsWithSign s = startsWith (code "-") s || startsWith (code "+") s
 

@@ -1,4 +1,4 @@
-// A line of a file: its fields, numbers and hex. What is no number or no hex is told, and never taken for one.
+// A line of a file: its fields, numbers and hex. A field that is no number, or no hex, is answered as such.
 use lists::DIGIT;
 use lists::NOT;
 use lists::all_of;

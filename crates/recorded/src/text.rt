@@ -1,4 +1,4 @@
-// The text of a line, told as a byte repeated and what follows it.
+// The text of a line, written as a byte repeated and what follows it.
 use crate::fields::BAD;
 use crate::fields::NO_BYTE;
 use crate::fields::add_or_bad;

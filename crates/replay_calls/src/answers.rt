@@ -63,7 +63,7 @@ fn is_short(case: usize, bytes: usize) -> bool {
     (case == SHORT_BUFFER) & (bytes != 0)
 }
 
-// The answer that is due.
+// The answer that the case expects.
 fn expected_in_case(case: usize, expected: CallAnswer) -> CallAnswer {
     if is_short(case, expected.bytes) {
         return CallAnswer::refused(BUFFER_TOO_SHORT);
@@ -71,7 +71,7 @@ fn expected_in_case(case: usize, expected: CallAnswer) -> CallAnswer {
     expected
 }
 
-// What is due in the buffer.
+// What the case expects in the buffer.
 fn given(case: usize, result: &[u8]) -> &[u8] {
     if is_short(case, result.len()) {
         return front(result, 0);
@@ -120,7 +120,7 @@ fn is_result(result: &[u8], looked_at: &[u8]) -> bool {
     same(EXACT, front(looked_at, n), result) & is_untouched(tail(looked_at, n))
 }
 
-// Whether a call answers what is due, and leaves just that in the buffer.
+// Whether a call answers what is expected, and leaves just that in the buffer.
 fn agrees(
     case: usize,
     what: usize,

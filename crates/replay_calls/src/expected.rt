@@ -1,4 +1,4 @@
-// What a line tells: HEAD, the verdict, the whole sheet's call, and a field for each entry.
+// What a recorded line holds: HEAD, the verdict, the whole sheet's call, and a field for each entry.
 use lists::ONLY;
 use lists::count_of;
 use recorded::fields::add_or_bad;

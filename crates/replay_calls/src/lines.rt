@@ -1,4 +1,4 @@
-// The lines of a sheet's entries, told in pieces: bytes in hex that stand so many times.
+// The lines of a sheet's entries, written in pieces: bytes in hex that stand so many times.
 use lists::NOT;
 use lists::front;
 use lists::span_of;

@@ -106,7 +106,7 @@ fn is_answer(a: WordCounts, refusal: usize, words: &[u8]) -> bool {
     (a.refusal as usize == refusal) & (a.words == words_in(words)) & (a.bytes == bytes_in(words))
 }
 
-// Whether a call of the reading k answers what is due, and leaves just that in store and table.
+// Whether a call of the reading k answers what is expected, and leaves just that in store and table.
 pub fn agrees(
     case: usize,
     k: usize,
@@ -128,9 +128,9 @@ pub fn agrees(
         store,
         table,
     );
-    let due = refusal_in_case(case, refusal, words);
+    let expected = refusal_in_case(case, refusal, words);
     let given = given(case, words);
-    is_answer(a, due, given) & is_result(given, store, table)
+    is_answer(a, expected, given) & is_result(given, store, table)
 }
 
 // Whether a field was left out, since its words are more than the table has room for.

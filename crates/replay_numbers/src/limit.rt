@@ -31,7 +31,7 @@ fn turns(k: usize) -> usize {
     if k == YEAR { LIMIT / 2 } else { LIMIT }
 }
 
-// Puts the words of the reading k: in the first list what each turn but the last gives, in the second what that gives.
+// Puts the words of the reading k: in the first list what each round but the last gives, in the second what that gives.
 fn put_fives(k: usize, out: &mut [u8]) -> usize {
     let words = b"five /five /fifty five /five /five /5 ";
     let last = b"five/fifth/fifty five/five/five/5";

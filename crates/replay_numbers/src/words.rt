@@ -1,4 +1,4 @@
-// A field of words, with a space between, held against the store and the table of a reading. A byte is told by itself, or as a
+// A field of words, with a space between, held against the store and the table of a reading. A byte is written as itself, or as a
 // backslash and a hex pair.
 use lists::NOT;
 use lists::byte_at;
@@ -40,7 +40,7 @@ pub fn pairs_in(field: &[u8]) -> usize {
     BAD
 }
 
-// The byte that is told at i, NO_BYTE where a backslash has no hex pair.
+// The byte that is expected at i, NO_BYTE where a backslash has no hex pair.
 fn expected_byte(word: &[u8], i: usize) -> usize {
     if byte_at(word, i) == b'\\' {
         return byte_of(front(tail(word, add_or_bad(i, 1)), 2));
@@ -48,12 +48,12 @@ fn expected_byte(word: &[u8], i: usize) -> usize {
     byte_at(word, i) as usize
 }
 
-// How many bytes follow the first of those that tell a byte.
+// How many bytes follow the first of those that stand for a byte.
 fn more_at(word: &[u8], i: usize) -> usize {
     if byte_at(word, i) == b'\\' { 2 } else { 0 }
 }
 
-// Whether the bytes are those that the word tells.
+// Whether the bytes are those of the word.
 fn is_word(word: &[u8], bytes: &[u8]) -> bool {
     let mut ok = true;
     let mut n = 0;

@@ -40,7 +40,7 @@ const PLACES: usize = 8;
 
 const RECORD: usize = 32;
 
-// The room of a buffer: a record more than a line tells of.
+// The room of a buffer: a record more than a line has.
 const ROOM: usize = (MOST + 1) * RECORD;
 
 // The bytes of the table of n tokens.
@@ -71,7 +71,7 @@ fn is_short(case: usize, n: usize) -> bool {
     (case == SHORT_BUFFER) & (n != 0)
 }
 
-// The refusal that is due.
+// The refusal that the case expects.
 fn refusal_in_case(case: usize, refusal: usize, n: usize) -> usize {
     if is_short(case, n) {
         BUFFER_TOO_SHORT
@@ -124,7 +124,7 @@ fn is_result(call: usize, line: &[u8], n: usize, out: &[u8]) -> bool {
     is_starts(line, n, out)
 }
 
-// Whether a call answers what is due, and leaves just that in the buffer.
+// Whether a call answers what is expected, and leaves just that in the buffer.
 fn agrees(case: usize, call: usize, line: &[u8], s: &[u8], out: &mut [u8]) -> bool {
     let n = expected_tokens(line);
     let len = out.len();

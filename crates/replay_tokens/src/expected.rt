@@ -1,4 +1,4 @@
-// What a line tells: a head, and a field of nine numbers for each token.
+// What a recorded line holds: a head, and a field of nine numbers for each token.
 use lists::ONLY;
 use lists::count_of;
 use recorded::fields::add_or_bad;

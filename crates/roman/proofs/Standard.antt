@@ -51,15 +51,15 @@ comes-to-append {l} {m} {h} {a} {b} {x} {y} o r q =
     }
 
 -- a digit of the place `unit`, tested at each numeral of its row
-module _ (lo hi unit : ℕ) (row : List String) where
+module _ (lo hi unit : ℕ) (table : List String) where
   digitTest : ℕ → Bool
   digitTest d =
-      all (inRange lo hi) (map romanLetterValue (romanDigit row d)) && eqb (sumAdded (map romanLetterValue (romanDigit row d))) (sumSubtracted (map romanLetterValue (romanDigit row d)) + d * unit)
+      all (inRange lo hi) (map romanLetterValue (romanDigit table d)) && eqb (sumAdded (map romanLetterValue (romanDigit table d))) (sumSubtracted (map romanLetterValue (romanDigit table d)) + d * unit)
 
-  digit-reads : (n : ℕ) → upto digitTest n ≡ true → (d : ℕ) → d < n → ComesTo lo hi (d * unit) (map romanLetterValue (romanDigit row d))
+  digit-reads : (n : ℕ) → upto digitTest n ≡ true → (d : ℕ) → d < n → ComesTo lo hi (d * unit) (map romanLetterValue (romanDigit table d))
   unfolding digitTest
   digit-reads n t d h =
-      let k = and-eq-true-iff (all (inRange lo hi) (map romanLetterValue (romanDigit row d))) _ .0 (below digitTest n t d h) in
+      let k = and-eq-true-iff (all (inRange lo hi) (map romanLetterValue (romanDigit table d))) _ .0 (below digitTest n t d h) in
       record { sizes = every-tested _ _ (bounds lo hi) _ (k .0); sum = eqb-true _ _ (k .1) }
 
 -- no letter is foreign where each value is at least 1, so the numeral's value is what they come to

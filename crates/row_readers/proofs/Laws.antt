@@ -1,4 +1,4 @@
--- What the readers of a leaf's rows answer. Assumes nothing.
+-- What the readers of rows answer. Assumes nothing.
 use mathlib.Core.Path.{_≡_, refl, sym, ap, _∙_}
 use mathlib.Core.Bool.{Bool, true, false, cond, not, _&&_, and-eq-true-iff, or-false}
 use mathlib.Core.List.{List, [], _∷_, map-append}
@@ -57,7 +57,7 @@ unit-missing s e n = untaken (hasUnit s) (λ k. unit-some s k (rw (e, k) at n))
 unit-listed : (s : List ℕ) → hasUnit s ≡ true → isUnit (unitPart s) ≡ true
 unit-listed s e = rw e (unfold hasUnit in and-eq-true-iff (not (eqb (unitAt s) 0) && all digitOrComma (take (unitAt s) s)) (isUnit (drop (unitAt s) s)) .0 e .1)
 
--- the lexicon's word of a unit is the unit's
+-- the vocabulary's word of a unit is the unit's
 pub unit-word : (s : List ℕ) {u : List ℕ} {i k : ℕ} → u ≡ unitPart s → (length u ≡ 0 → ⊥) → i ≡ unitIndex u → k ≡ getD wordNumbers i 0
     → wordOf k ≡ unitWord (unitPart s)
 unit-word s e n p q =

@@ -43,7 +43,7 @@ ghost use Rattle.numerals.specs.Words.{spelled};
 ghost use Rattle.rows.specs.Rows.{signOf, clock, isPercent, read};
 ghost use Rattle.row_readers.specs.Walk.{Says, initials, rowsAfter};
 
-// An entry's record, and where the pen stands after its words.
+// An entry's record, and where the cursor stands after its words.
 pub struct NameRead {
     pub entry: Entry,
     pub cursor: Cursor,

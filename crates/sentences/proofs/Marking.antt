@@ -26,7 +26,7 @@ unfolding sentenceStartsFrom
 startsFrom-next next st ew em eq es =
     ap (sentenceStartsFrom st) (next .token) ∙ rw (es, ew ∙ next .white, em ∙ next .name, eq ∙ next .punctuation)
 
--- a turn: the flag of the first token is stored, those of the others are left
+-- a step: the flag of the first token is stored, those of the others are left
 pub starts-step : (l : List ℕ) (n : ℕ) {x : ℕ} {b : Bool} {ms bs : List Bool} → ms ≡ b ∷ bs → x ≡ flag b → {z : List ℕ}
     → sets l n (flags ms) ≡ z → sets (set l n x) (n + 1) (flags bs) ≡ z
 unfolding flags
@@ -53,12 +53,12 @@ starts-length s = flags-length (sentenceStarts (tokens s)) ∙ starts-each (toke
 -- ---- a step
 
 -- k is the number that the code has for the three texts
-module _ (st : State) (w n p : List ℕ) (k : ℕ) (due : k ≡ firstRefusal (stepTests w n p)) where
+module _ (st : State) (w n p : List ℕ) (k : ℕ) (refusal-eq : k ≡ firstRefusal (stepTests w n p)) where
   pub step-refused : (k ≡ 0 → ⊥) → asStep (record { refusal = k; breaks = false; state = st }) ≡ stepCall st w n p
   unfolding stepCall
-  step-refused z = call-refused _ _ k (firstRefusal (stepTests w n p)) z due
+  step-refused z = call-refused _ _ k (firstRefusal (stepTests w n p)) z refusal-eq
 
   pub step-done : k ≡ 0 → {b : Bool} {st′ : State} → b ≡ breaks st w n → st′ ≡ kept n p
       → asStep (record { refusal = 0; breaks = b; state = st′ }) ≡ stepCall st w n p
   unfolding stepCall
-  step-done z {b} {st′} e f = call-accepted _ _ _ (firstRefusal (stepTests w n p)) (sym z ∙ due) (λ j. record { breaks = e j; state = f j })
+  step-done z {b} {st′} e f = call-accepted _ _ _ (firstRefusal (stepTests w n p)) (sym z ∙ refusal-eq) (λ j. record { breaks = e j; state = f j })

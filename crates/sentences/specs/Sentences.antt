@@ -97,7 +97,7 @@ kept name punctuation =
       fresh = 0;
     }
 
--- what a state tells of the token before
+-- the same by a state
 abbrev pub stateContext : State → LeftContext
 stateContext s =
     record {

@@ -170,7 +170,7 @@ impl State {
     }
 }
 
-// Whether a sentence ends between the token that the state tells of and the next.
+// Whether a sentence ends between the token that the state was kept of and the next.
 fn is_sentence_break(state: State, whitespace: &[u8], name: &[u8]) -> bool
     ensures { λ r. ⌜ r ≡ breakAfter (stateContext state) (now (whitespace .entry)) (now (name .entry)) ⌝ }
 {

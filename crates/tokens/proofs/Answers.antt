@@ -13,7 +13,7 @@ use Rattle.lists.proofs.Sets.{sets-front, le-or-lt}
 use Rattle.lists.specs.Bytes.{overwrite}
 use Rattle.admit.specs.Refusals.{Test, _when_, textLimit, textTests, textRefusal, inOrder, firstRefusal, call}
 use Rattle.admit.specs.declared.Refusal.the-variants.{BufferTooShort}
-use Rattle.admit.proofs.Calls.{held, passed, both-passed}
+use Rattle.admit.proofs.Calls.{refused-first, passed-first, both-passed}
 use Rattle.tokens.specs.Tokens.{tokens}
 use Rattle.tokens.specs.Table.{recordBytes, records, tokensCall, asTokens, tokensTests}
 use Rattle.tokens.proofs.Records.{records-length}
@@ -45,7 +45,7 @@ tokensCall-accepted s result old h =
     (both-passed (textTests textLimit (s ∷ [])) _ (k .0) .0, k .1)
 
 -- `result` is what is written for the text s, whose refusal n is tested first; `old` is the lent buffer
-module _ (s result old : List ℕ) (n : ℕ) (due : n ≡ textRefusal textLimit s) where
+module _ (s result old : List ℕ) (n : ℕ) (refusal-eq : n ≡ textRefusal textLimit s) where
   abbrev isShort : Bool
   isShort = ltb (length old) (length result)
 
@@ -57,15 +57,15 @@ module _ (s result old : List ℕ) (n : ℕ) (due : n ≡ textRefusal textLimit 
 
   pub fill-refused : (n ≡ 0 → ⊥) → asTokens (record { refusal = n; tokens = 0 }) old ≡ tokensCall s result old
   unfolding tokensCall
-  fill-refused z = held text room due _ _ z
+  fill-refused z = refused-first text room refusal-eq _ _ z
 
   pub fill-short : n ≡ 0 → isShort ≡ true → asTokens (record { refusal = 5; tokens = 0 }) old ≡ tokensCall s result old
   unfolding tokensCall
-  fill-short z t = rw (passed text room due z, t)
+  fill-short z t = rw (passed-first text room refusal-eq z, t)
 
   pub fill-done : n ≡ 0 → isShort ≡ false → {k : ℕ} {new : List ℕ} → k ≡ length (tokens s) → new ≡ sets old 0 result
       → asTokens (record { refusal = 0; tokens = k }) new ≡ tokensCall s result old
   unfolding tokensCall
   fill-done z f {k} {new} e d =
       let w : new ≡ overwrite result old = d ∙ sets-front old result (ltb-false _ _ f) in
-      rw (passed text room due z, f) (λ j. record { refusal = 0; value = record { tokens = e j; buffer = w j } })
+      rw (passed-first text room refusal-eq z, f) (λ j. record { refusal = 0; value = record { tokens = e j; buffer = w j } })

@@ -11,7 +11,7 @@ use lib.Seq.{drop-drop, length-take-le}
 use borrow.Author.Tests.{le-leb, lt-leb, eq-eqb, ne-eqb}
 use Rattle.lists.specs.Bytes.{all, span, takeWhile, dropWhile, afterLast, any}
 use Rattle.lists.specs.Classes.{prepunctuationMarks, whitespace, nonWhitespace, prepunctuationMark, nonPostpunctuation}
-use Rattle.lists.proofs.Scan.{span-le, all-span, span-full, span-within, span-lead, last-le, oneOf-all}
+use Rattle.lists.proofs.Scan.{span-le, all-span, span-full, span-within, span-takeWhile, last-le, oneOf-all}
 use Rattle.lists.proofs.Sets.{le-or-lt}
 use Rattle.tokens.specs.Tokens.{Token, nameSize, cut, afterWhitespace, afterRun, firstToken, tokenParts}
 use Rattle.tokens.specs.Table.{placesOf, CutAt}
@@ -104,11 +104,11 @@ module _ (s : List ℕ) (at q m r : ℕ) (eq : q ≡ span whitespace (drop at s)
   run-take : run ≡ takeWhile nonWhitespace (drop (at + q) s)
   run-take = let k : end - (at + q) ≡ span nonWhitespace (drop (at + q) s) = omega (arith, run-size) in ap (λ (i : ℕ). take i (drop (at + q) s)) k
 
-  run-lead : run ≡ takeWhile nonWhitespace (afterWhitespace (drop at s))
-  run-lead = run-take ∙ ap (λ (d : List ℕ). takeWhile nonWhitespace d) run-white
+  run-takeWhile : run ≡ takeWhile nonWhitespace (afterWhitespace (drop at s))
+  run-takeWhile = run-take ∙ ap (λ (d : List ℕ). takeWhile nonWhitespace d) run-white
 
   pub run-marks : m ≡ span prepunctuationMark run
-  run-marks = em ∙ sym (ap (span prepunctuationMark) run-take ∙ span-lead prepunctuationMark nonWhitespace marks-nonWhitespace (drop (at + q) s))
+  run-marks = em ∙ sym (ap (span prepunctuationMark) run-take ∙ span-takeWhile prepunctuationMark nonWhitespace marks-nonWhitespace (drop (at + q) s))
 
   run-ends : leb (length s) end ≡ eqb (length (afterRun (drop at s))) 0
   run-ends =
@@ -137,7 +137,7 @@ module _ (s : List ℕ) (at q m r : ℕ) (eq : q ≡ span whitespace (drop at s)
       → record { whitespace = at; prepunctuation = at + q; name = at + q + n; punctuation = at + q + p; end = end } ≡ placesOf at (firstToken (drop at s))
   first-places n p c =
       let d : List ℕ = drop at s in
-      let c′ : CutAt (takeWhile nonWhitespace (afterWhitespace d)) (eqb (length (afterRun d)) 0) n p = rw (run-lead, run-ends) at c in
+      let c′ : CutAt (takeWhile nonWhitespace (afterWhitespace d)) (eqb (length (afterRun d)) 0) n p = rw (run-takeWhile, run-ends) at c in
       let lw : length (takeWhile whitespace d) ≡ q = length-take-le (span whitespace d) d (span-le whitespace d) ∙ sym eq in
       let lr : length (takeWhile nonWhitespace (afterWhitespace d)) ≡ m + r =
       length-take-le (span nonWhitespace (afterWhitespace d)) (afterWhitespace d) (span-le nonWhitespace (afterWhitespace d))

@@ -53,7 +53,7 @@ unfolding records
 records-length at [] = refl
 records-length at (t ∷ ts) = length-append (recordOf at t) (records (at + tokenSize t) ts) ∙ omega (arith, record-length at t, records-length (at + tokenSize t) ts)
 
--- a turn of the loop: the record of the first token is stored, those of the others are left
+-- an iteration of the loop: the record of the first token is stored, those of the others are left
 pub records-step : (l : List ℕ) (n at : ℕ) (t : Token) (ts us : List Token) (p : Places) → p ≡ placesOf at t → us ≡ t ∷ ts
     → {z : List ℕ} → sets l (recordBytes * n) (records at us) ≡ z → sets (sets l (recordBytes * n) (recordAt p)) (recordBytes * (n + 1)) (records (p .end) ts) ≡ z
 unfolding records

@@ -41,8 +41,8 @@ utf8-both : (x y : List ℕ) → ascii (getD y 0 0) ≡ true → utf8 (x ++ y) �
 utf8-both x y a h = and-eq-true-iff (utf8 x) (utf8 y) .0 (sym (utf8-append x y a) ∙ h)
 
 -- what follows bytes of an ASCII class at the front
-after-utf8 : (p : ℕ → Bool) → ((b : ℕ) → p b ≡ true → ascii b ≡ true) → (s : List ℕ) → utf8 s ≡ true → (utf8 (takeWhile p s) ≡ true) × (utf8 (dropWhile p s) ≡ true)
-after-utf8 p f s h =
+dropWhile-utf8 : (p : ℕ → Bool) → ((b : ℕ) → p b ≡ true → ascii b ≡ true) → (s : List ℕ) → utf8 s ≡ true → (utf8 (takeWhile p s) ≡ true) × (utf8 (dropWhile p s) ≡ true)
+dropWhile-utf8 p f s h =
     let a = all-within p ascii f (takeWhile p s) (span-all p s) in
     (utf8-all (takeWhile p s) a, sym (utf8-run (span p s) s a) ∙ h)
 
@@ -59,14 +59,14 @@ cut-utf8 white run ends w r = go (ends && all prepunctuationMark run)
     go : (t : Bool) → Each IsUtf8 (cond t (record { whitespace = white; prepunctuation = []; name = run; punctuation = [] }) (peel white run))
     go true = record { whitespace = w; prepunctuation = utf8-all [] refl; name = r; punctuation = utf8-all [] refl }
     go false =
-        let k = after-utf8 prepunctuationMark (oneOf-all ascii prepunctuationMarks refl) run r in
+        let k = dropWhile-utf8 prepunctuationMark (oneOf-all ascii prepunctuationMarks refl) run r in
         let n = nameSize rest in
         let l = utf8-both (take n rest) (drop n rest) (all-front ascii refl (drop n rest) (trailing-ascii rest)) (rw take-append-drop (k .1)) in
         record { whitespace = w; prepunctuation = k .0; name = l .0; punctuation = l .1 }
 
 first-utf8 : (s : List ℕ) → IsUtf8 s → Each IsUtf8 (firstToken s) × IsUtf8 (afterRun s)
 first-utf8 s h =
-    let k = after-utf8 whitespace whitespace-ascii s h in
+    let k = dropWhile-utf8 whitespace whitespace-ascii s h in
     let run : List ℕ = takeWhile nonWhitespace (afterWhitespace s) in
     let a = span-front nonWhitespace ascii refl (λ b e. whitespace-ascii b (not-false (whitespace b) e)) (afterWhitespace s) in
     let l = utf8-both run (afterRun s) a (rw take-append-drop (k .1)) in

@@ -102,8 +102,8 @@ module _ (s : List ℕ) (at : ℕ) (p : Places) (h : at ≤ length s) (e : p ≡
     pub no-more : none ≡ true → tokens (drop at s) ≡ []
     no-more f = tokens-none (drop at s) (sym (test ∙ only-white) ∙ f)
 
-    pub one-more : none ≡ false → Next s at p
-    one-more f =
+    pub one-left : none ≡ false → Next s at p
+    one-left f =
         let t : Token = firstToken (drop at s) in
         let m : all whitespace (drop at s) ≡ false = sym (test ∙ only-white) ∙ f in
         let a = afterRun-less (drop at s) m in
@@ -159,7 +159,7 @@ module _ {s : List ℕ} {n at : ℕ} (l : Left s n at) where
 
     -- else one is next
     pub left-next : none ≡ false → Next s at p
-    left-next f = one-more s at p (l .within) e test f
+    left-next f = one-left s at p (l .within) e test f
 
   -- and after it those that follow it are left
   pub left-on : {p : Places} → Next s at p → Left s (n + 1) (p .end)

@@ -1,4 +1,4 @@
--- The keys tell the abbreviations from every text, the lexicon holds the words, and how a look-up goes on. Assumes nothing.
+-- The keys tell the abbreviations from every text, the vocabulary holds the words, and how a look-up goes on. Assumes nothing.
 use mathlib.Core.Path.{_≡_, refl, sym, ap, _∙_}
 use mathlib.Core.Bool.{Bool, true, false, cond, _&&_, _||_, and-eq-true-iff}
 use mathlib.Core.List.{List, [], _∷_}
@@ -91,7 +91,7 @@ unit-key-same u k b h =
     let z = and-eq-true-iff (leb 1 (length a)) (leb (length a) 3) .0 (y .0) in
     rw (List·getD-map unitKey abbreviations k []) (key-same a u (leb-true _ _ (z .0)) (leb-true _ _ (z .1)) (y .1) b)
 
--- row k's word is the lexicon's of its number
+-- row k's word is the vocabulary's of its number
 hasWord : ℕ → Bool
 hasWord k = same (wordOf (getD wordNumbers k 0)) (getD unitWords k [])
 
@@ -140,6 +140,6 @@ pub miss-word : (u : List ℕ) → 22 ≤ unitIndex u → unitWord u ≡ []
 unfolding unitWords unitAbbreviations
 miss-word u h = List·getD-eq-default unitWords [] h
 
--- in the table: a unit, and its word from the lexicon
+-- in the table: a unit, and its word from the vocabulary
 pub hit-some : (u : List ℕ) → unitIndex u < 22 → isUnit u ≡ true
 hit-some u h = unit-in-table u ∙ lt-ltb (unitIndex u) 22 h

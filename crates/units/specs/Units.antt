@@ -60,6 +60,6 @@ unitKey u = cond (leb (length u) 3) (leValue (length u ∷ u)) 0
 unfoldable pub unitKeys : List ℕ
 unitKeys = map unitKey abbreviations
 
--- the words as the code holds them: their numbers in the lexicon
+-- the words as the code holds them: their numbers in the vocabulary
 unfoldable pub wordNumbers : List ℕ
 wordNumbers = map (λ (w : List ℕ). indexOf w vocabulary) unitWords

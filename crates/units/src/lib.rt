@@ -66,7 +66,7 @@ pub fn unit_index(u: &[u8]) -> u8
     UNIT_COUNT
 }
 
-// The number, in the lexicon, of row k's word; 0 where there is no row k. Rows 0 to 3 share a word, and so do 4 and 5, and
+// The number, in the vocabulary, of row k's word; 0 where there is no row k. Rows 0 to 3 share a word, and so do 4 and 5, and
 // 12 to 14.
 pub fn word_number(k: u8) -> u8
     ensures { λ r. ⌜ r ≡ getD wordNumbers k 0 ⌝ }

@@ -16,7 +16,7 @@ use Rattle.lists.proofs.Sets.{sets-append, sets-front, le-or-lt}
 use Rattle.lists.proofs.Bools.{or-false-both}
 use Rattle.admit.specs.Refusals.{Test, _when_, textLimit, textTests, textRefusal, inOrder}
 use Rattle.admit.specs.declared.Refusal.the-variants.{BufferTooShort}
-use Rattle.admit.proofs.Calls.{held, passed}
+use Rattle.admit.proofs.Calls.{refused-first, passed-first}
 use Rattle.word_writer.specs.Writer.{usizeMax, pairOf, pairBytes, Writer, writer, gap, afterGap, emit, emitAll}
 use Rattle.word_writer.specs.Words.{tableOf, tooShortFor, tooShort, wordsCall, asWords, startCursor, countsAt, refusedCounts, wordsTests}
 use Rattle.word_writer.specs.declared.Cursor.{Cursor}
@@ -113,7 +113,7 @@ ltb-same a b l f g =
     (λ (h : l < a). lt-ltb l a h ∙ sym (lt-ltb l b (f h)))
     (le-or-lt a l)
 
--- the pen after the words ws, on any buffers, tells whether buffers of a and b bytes are too short for them
+-- the cursor after the words ws, on any buffers, tells whether buffers of a and b bytes are too short for them
 pub measured : (ws : List (List ℕ)) (a b : ℕ) → a < usizeMax → b < usizeMax → (x y x₀ y₀ : List ℕ) {m p₀ : Cursor} → p₀ ≡ startCursor → writer x y m ≡ emitAll ws (writer x₀ y₀ p₀)
     → tooShortFor (m .at) (m .words) a b ≡ tooShortFor (length (flatten ws)) (length ws) a b
 measured ws a b ha hb x y x₀ y₀ {m} {p₀} e₀ e =
@@ -138,7 +138,7 @@ unfolding textTests
 words-in-order s ws st tb = refl
 
 -- ws are the words of the text s, whose refusal n is tested first; st and tb are the lent buffers
-module _ (s : List ℕ) (ws : List (List ℕ)) (st tb : List ℕ) (n : ℕ) (due : n ≡ textRefusal textLimit s) where
+module _ (s : List ℕ) (ws : List (List ℕ)) (st tb : List ℕ) (n : ℕ) (refusal-eq : n ≡ textRefusal textLimit s) where
   abbrev isShort : Bool
   isShort = tooShort ws st tb
 
@@ -151,12 +151,12 @@ module _ (s : List ℕ) (ws : List (List ℕ)) (st tb : List ℕ) (n : ℕ) (due
   -- a text that is refused
   pub text-refused : {r : WordCounts} → (n ≡ 0 → ⊥) → r ≡ refusedCounts n → asWords r st tb ≡ wordsCall s ws st tb
   unfolding wordsCall
-  text-refused z e = rw e (held text room due _ _ z)
+  text-refused z e = rw e (refused-first text room refusal-eq _ _ z)
 
   -- a buffer is too short
   pub short-refused : n ≡ 0 → isShort ≡ true → {r : WordCounts} → r ≡ refusedCounts 5 → asWords r st tb ≡ wordsCall s ws st tb
   unfolding wordsCall
-  short-refused z t q = rw (q, passed text room due z, t)
+  short-refused z t q = rw (q, passed-first text room refusal-eq z, t)
 
   -- both are long enough, and the words are written to them
   pub all-written : n ≡ 0 → isShort ≡ false → length st < usizeMax → length tb < usizeMax
@@ -177,4 +177,4 @@ module _ (s : List ℕ) (ws : List (List ℕ)) (st tb : List ℕ) (n : ℕ) (due
       ∙ sets-front tb (tableOf 0 ws) (omega (arith, tableOf-length 0 ws)) in
       let ea : p .at ≡ length (flatten ws) = ap (λ (k : Writer). k .at) all ∙ zero-add (length (storeBy false ws)) ∙ eg in
       let ew : p .words ≡ length ws = ap (λ (k : Writer). k .words) all ∙ zero-add (length ws) in
-      rw (q, passed text room due z, f) (λ j. record { refusal = 0; value = record { words = ew j; bytes = ea j; store = es j; table = et j } })
+      rw (q, passed-first text room refusal-eq z, f) (λ j. record { refusal = 0; value = record { words = ew j; bytes = ea j; store = es j; table = et j } })

@@ -15,12 +15,12 @@ pub record Walk (f : List ℕ → List (List ℕ)) (s : List ℕ) (σ₀ σ : Wr
   pub store : length (σ .store) ≡ length (σ₀ .store)
   pub table : length (σ .table) ≡ length (σ₀ .table)
 
--- before the first turn
+-- before the first step
 pub walk-start : {f : List ℕ → List (List ℕ)} {s : List ℕ} {σ : Writer} → Walk f s σ σ 0
 walk-start = record { within = zero-le; left = refl; store = refl; table = refl }
 
 module _ {f : List ℕ → List (List ℕ)} {s : List ℕ} {σ₀ σ : Writer} {i : ℕ} (walk : Walk f s σ₀ σ i) where
-  -- a turn says the words g of the next n bytes
+  -- a step says the words g of the next n bytes
   pub walk-on : (n : ℕ) (g : List (List ℕ)) {τ : Writer} → i + n ≤ length s → f (drop i s) ≡ g ++ f (drop (i + n) s) → τ ≡ emitAll g σ
       → length (τ .store) ≡ length (σ .store) → length (τ .table) ≡ length (σ .table) → Walk f s σ₀ τ (i + n)
   walk-on n g h e d k l =
@@ -33,7 +33,7 @@ module _ {f : List ℕ → List (List ℕ)} {s : List ℕ} {σ₀ σ : Writer} {
         table = l ∙ walk .table;
       }
 
-  -- a turn says the words of the next byte
+  -- a step says the words of the next byte
   pub walk-byte : {τ : Writer} → ByParts f → i < length s → τ ≡ emitAll (f (getD s i 0 ∷ [])) σ
       → length (τ .store) ≡ length (σ .store) → length (τ .table) ≡ length (σ .table) → Walk f s σ₀ τ (i + 1)
   walk-byte e h d k l = walk-on 1 (f (getD s i 0 ∷ [])) (omega arith) (next-byte f e s i h) d k l

@@ -80,7 +80,7 @@ pub record PairIs (at : ℕ) (ws : List (List ℕ)) (table : List ℕ) (i : ℕ)
 
 -- ---- no public promise is made of these
 
--- a pen at the start of both buffers
+-- a cursor at the start of both buffers
 abbrev pub startCursor : Cursor
 startCursor = record { at = 0; words = 0; spaced = false }
 
@@ -88,7 +88,7 @@ startCursor = record { at = 0; words = 0; spaced = false }
 abbrev pub spacedCursor : Cursor
 spacedCursor = record { at = 0; words = 0; spaced = true }
 
--- what an accepted call answers where its pen stands at p
+-- what an accepted call answers where its cursor stands at p
 abbrev pub countsAt : Cursor → WordCounts
 countsAt p = record { refusal = 0; words = p .words; bytes = p .at }
 

@@ -19,7 +19,7 @@ pairBytes = 8
 
 -- ---- no public promise is made of these
 
--- the largest usize, where the pen stays
+-- the largest usize, where the cursor stays
 abbrev pub usizeMax : ℕ
 usizeMax = 0xffff_ffff_ffff_ffff
 
@@ -43,7 +43,7 @@ abbrev pub afterGap : Bool → ℕ → ℕ
 afterGap true at = min (at + 1) usizeMax
 afterGap false at = at
 
--- the pen after a word of so many bytes
+-- the cursor after a word of so many bytes
 abbrev pub advanced : ℕ → Cursor → Cursor
 advanced size p = record { at = min (afterGap (p .spaced) (p .at) + size) usizeMax; words = min (p .words + 1) usizeMax; spaced = p .spaced }
 

@@ -1,5 +1,5 @@
 // The writing layer. A word goes to the store and its pair of offset and length to the table, each as far as it falls within its
-// buffer, and the pen moves on in any case: on empty buffers the same walk only measures. A spaced pen writes a line of the call
+// buffer, and the cursor moves on in any case: on empty buffers the same walk only measures. A spaced cursor writes a line of the call
 // sheet: a space goes before each word.
 use lists::copy;
 use lists::put;
@@ -106,7 +106,7 @@ fn after_gap(cursor: Cursor) -> usize
     }
 }
 
-// Stores the pair of a word of so many bytes, and moves the pen past it.
+// Stores the pair of a word of so many bytes, and moves the cursor past it.
 fn advance(table: &mut [u8], cursor: Cursor, size: usize) -> Cursor
     ensures { λ r. ⌜ (r ≡ advanced size cursor) × (now (table .exit) ≡ sets (now (table .entry)) (pairBytes * cursor .words) (pairOf (afterGap (cursor .spaced) (cursor .at)) size)) ⌝ }
 {

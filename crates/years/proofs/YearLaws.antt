@@ -22,7 +22,7 @@ use Rattle.numerals.specs.declared.digits.FirstDigits.{FirstDigits}
 use Rattle.numerals.proofs.Digits.{spelled-append}
 use Rattle.numerals.proofs.Cardinal.{cardinal-2}
 use Rattle.numerals.proofs.NumberWords.{digitValues-below-ten, digit-at}
-use Rattle.numerals.proofs.Picking.{few-digits}
+use Rattle.numerals.proofs.Picking.{firstDigits-digits}
 use Rattle.years.specs.Year.{yearStep, yearOf, year}
 use Rattle.years.specs.Walk.{PickedFrom, leadCount, leadWords}
 use Rattle.years.specs.declared.Picked.{Picked}
@@ -155,7 +155,7 @@ lead-count n = go (eqb (n % 2) 1) refl
     go true e = omega (arith, eqb-true (n % 2) 1 e)
     go false e = let k = eqb-false (n % 2) 1 e in omega arith
 
--- "oh" in the lexicon
+-- "oh" in the vocabulary
 pub oh-word : wordOf othersAt ≡ bytes "oh"
 unfolding unfoldVocabulary
 oh-word = refl
@@ -181,22 +181,22 @@ pub picked-two : (s : List ℕ) (a b : Picked) → PickedFrom s a → PickedFrom
 picked-two s a b p q =
     (q .digit ∙ rw (p .others, getD-drop), rw (← drop-drop, q .others, p .others, drop-drop), omega (arith, p .within, q .within, length-drop (a .next) s))
 
--- the loop counts the digits that are left from i on. A turn reads the next n bytes, which hold one digit or two
+-- the loop counts the digits that are left from i on. A step reads the next n bytes, which hold one digit or two
 module _ (s : List ℕ) (i n left : ℕ) (e : left ≡ length (digitValues (drop i s))) (d : digitValues (drop n (drop i s)) ≡ drop (leadCount (eqb (left % 2) 1)) (digitValues (drop i s))) where
-  after : digitValues (drop (i + n) s) ≡ drop (leadCount (eqb (left % 2) 1)) (digitValues (drop i s))
-  after = ap digitValues (sym (drop-drop n i s)) ∙ d
+  digitValues-after : digitValues (drop (i + n) s) ≡ drop (leadCount (eqb (left % 2) 1)) (digitValues (drop i s))
+  digitValues-after = ap digitValues (sym (drop-drop n i s)) ∙ d
 
   pub left-after : left - (2 - left % 2) ≡ length (digitValues (drop (i + n) s))
-  left-after = rw after (simp length-drop (omega (arith, lead-count left)))
+  left-after = rw digitValues-after (simp length-drop (omega (arith, lead-count left)))
 
   pub year-at : 4 < left → spelled (year (drop i s)) ≡ spelled (leadWords (eqb (left % 2) 1) (digitValues (drop i s))) ++ spelled (year (drop (i + n) s))
   unfolding year
-  year-at h = ap spelled (year-long (digitValues (drop i s)) left e h) ∙ rw (spelled-append, after)
+  year-at h = ap spelled (year-long (digitValues (drop i s)) left e h) ∙ rw (spelled-append, digitValues-after)
 
 -- the last digits, at most four
 pub year-last : (s : List ℕ) (left : ℕ) → left ≡ length (digitValues s) → left ≤ 4 → (f : FirstDigits) → f ≡ firstDigits s → {t : List ℕ} → t ≡ take (f .n) (f .d)
     → (length t ≤ 4) × BelowTen t × (yearOf t ≡ year s)
 unfolding year
 year-last s left e h f q u =
-    let d = u ∙ few-digits s f q (omega arith) in
+    let d = u ∙ firstDigits-digits s f q (omega arith) in
     rw d (omega arith, digitValues-below-ten s, refl)

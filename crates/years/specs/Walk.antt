@@ -14,7 +14,7 @@ pub record PickedFrom (s : List ℕ) (r : Picked) : Type 0 where
   pub others : digitValues (drop (r .next) s) ≡ drop 1 (digitValues s)
   pub within : r .next ≤ length s
 
--- the digits that one turn reads, and their words
+-- the digits that one step reads, and their words
 abbrev pub leadCount : Bool → ℕ
 leadCount lone = cond lone 1 2
 

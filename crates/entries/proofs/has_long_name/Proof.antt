@@ -5,7 +5,7 @@ use borrow.Author.Needs.{needs}
 use borrow.Author.Tests.{not-true}
 use mathlib.Core.Path.{_≡_, sym}
 use Rattle.tokens.specs.Tokens.{tokens}
-use Rattle.tokens.proofs.Walks.{no-more, one-more, tokens-past}
+use Rattle.tokens.proofs.Walks.{no-more, one-left, tokens-past}
 use Rattle.call_spec.specs.Sheet.{entries}
 use Rattle.call_spec.specs.Calls.{anyLong}
 use Rattle.entries.proofs.Names.{longNames, long-names, long-none, long-here, long-later}
@@ -41,21 +41,21 @@ has-long-name-spec =
     let at-if2 = c .before .before in
     let at-loop = at-if2 .before .before .before .before in
     let next =
-    one-more (at-loop .before .before .before .before .args .s .now) (at-loop .loop .at) _ (at-loop .loop .inv .0)
+    one-left (at-loop .before .before .before .before .args .s .now) (at-loop .loop .at) _ (at-loop .loop .inv .0)
     (at-if2 .before .before .token-at .ensures) (at-if2 .before .none-left .ensures) (at-if2 .if2 .left) in
     long-here next (omega (arith, c .before .saturating-sub .ensures)) (at-loop .loop .inv .1))
     (λ c.
     let at-if2 = c .before .before in
     let at-loop = at-if2 .before .before .before .before in
     let next =
-    one-more (at-loop .before .before .before .before .args .s .now) (at-loop .loop .at) _ (at-loop .loop .inv .0)
+    one-left (at-loop .before .before .before .before .args .s .now) (at-loop .loop .at) _ (at-loop .loop .inv .0)
     (at-if2 .before .before .token-at .ensures) (at-if2 .before .none-left .ensures) (at-if2 .if2 .left) in
     omega arith)
     (λ c.
     let at-if2 = c .before .before in
     let at-loop = at-if2 .before .before .before .before in
     let next =
-    one-more (at-loop .before .before .before .before .args .s .now) (at-loop .loop .at) _ (at-loop .loop .inv .0)
+    one-left (at-loop .before .before .before .before .args .s .now) (at-loop .loop .at) _ (at-loop .loop .inv .0)
     (at-if2 .before .before .token-at .ensures) (at-if2 .before .none-left .ensures) (at-if2 .if2 .left) in
     (next .within, long-later next (omega (arith, c .before .saturating-sub .ensures)) (at-loop .loop .inv .1)))
     (λ c.

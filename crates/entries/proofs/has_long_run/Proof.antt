@@ -1,5 +1,5 @@
 use mathlib.Core.Bool.{false≢true}
-use Rattle.entries.proofs.Runs.{RunsFrom, ahead-within, runs-on, long-runs-end}
+use Rattle.entries.proofs.Runs.{RunsFrom, ahead-within, long-runs-on, long-runs-end}
 use mathlib.Core.Path.{sym}
 use Prim.Native.Nat.{_-_, _≤_}
 use native.Mathlib.Omega.{arith}
@@ -46,7 +46,7 @@ has-long-run-spec =
     let start = at-loop .before .before in (
       ahead-within (start .args .s .now) (at-loop .loop .at) (at-after-last .before .part .ensures) (at-after-last .after-last .ensures)
           (at-loop .loop .inv .0),
-      runs-on (start .args .s .now) (at-loop .loop .at) (at-after-last .before .part .ensures) (at-after-last .after-last .ensures)
+      long-runs-on (start .args .s .now) (at-loop .loop .at) (at-after-last .before .part .ensures) (at-after-last .after-last .ensures)
           (c .if1 .left) (at-loop .loop .inv .1),
     ))
     (λ c. λ e. long-runs-end (c .before .before .before .args .s .now) (omega arith) (c .before .loop .inv .1)))

@@ -9,10 +9,10 @@ split-time-meridiem-spec =
     (tie.spec
     (λ c κs. search needs)
     (λ c.
-    let due = c .before .refusal-of .ensures in
-    (call-refused _ _ _ _ (c .if1 .taken) due, call-refused _ _ _ _ (c .if1 .taken) due))
+    let refusal-eq = c .before .refusal-of .ensures in
+    (call-refused _ _ _ _ (c .if1 .taken) refusal-eq, call-refused _ _ _ _ (c .if1 .taken) refusal-eq))
     (λ c κs. search needs)
     (λ c.
-    let due = rw (c .before .if1 .left) at (c .before .before .refusal-of .ensures) in
+    let refusal-eq = rw (c .before .if1 .left) at (c .before .before .refusal-of .ensures) in
     let split = c .split-time-meridiem .ensures in
-    (call-accepted _ _ _ _ due (split .parts-named), call-accepted _ _ _ _ due (split .offsets))))
+    (call-accepted _ _ _ _ refusal-eq (split .parts-named), call-accepted _ _ _ _ refusal-eq (split .offsets))))

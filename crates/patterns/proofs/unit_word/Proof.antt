@@ -1,6 +1,6 @@
 use mathlib.Core.Path.{_∙_}
 use Prim.Native.Nat.{_<_}
-use Rattle.vocabulary.proofs.Laws as lexicon
+use Rattle.vocabulary.proofs.Laws.{word-packed}
 use Rattle.units.specs.Units.{unitIndex}
 use Rattle.units.proofs.Laws.{unit-word-number}
 use Rattle.patterns.proofs.Laws.{word-refused, word-found, word-none}
@@ -40,7 +40,7 @@ unit-word-spec =
     rw (
       at-store-word .before .before .unpacked .ensures,
       at-packed .packed .ensures,
-      lexicon.word-row,
+      word-packed,
       at-packed .before .word-number .ensures,
       at-if2 .before .unit-index .ensures,
       unit-word-number (unitIndex u) h,

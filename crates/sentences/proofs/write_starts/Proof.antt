@@ -52,8 +52,8 @@ write-starts-spec =
     (λ c κs. search needs)
     (λ c.
     let after-name = c .before .before .before .before in
-    let turn = after-name .before .before .before .before .before in
-    let g = turn .before .before .before .before .good .0 .1 in
+    let iteration = after-name .before .before .before .before .before in
+    let g = iteration .before .before .before .before .good .0 .1 in
     omega arith)
     (λ c.
     let at-if1 = c .before .before .before .before .before in

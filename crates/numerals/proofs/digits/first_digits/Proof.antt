@@ -7,7 +7,7 @@ use Rattle.lists.specs.Bytes.{filterb}
 use Rattle.numerals.specs.Cardinal.{digitValues}
 use Rattle.numerals.specs.Walk.{padded}
 use Rattle.numerals.proofs.Digits.{digitValues-low, digitValues-high}
-use Rattle.numerals.proofs.Picking.{PickedDigits, pick-none, pick-digit, pick-over, pick-end}
+use Rattle.numerals.proofs.Picking.{PickedDigits, pick-none, pick-digit, pick-beyond, pick-end}
 use borrow.Author.Needs.{needs}
 use Rattle.numerals.proofs.digits.first_digits.Statement.{statement}
 use Rattle.numerals.proofs.digits.first_digits.Tie as tie
@@ -32,7 +32,7 @@ first-digits-spec =
     let at-if2 = c .before in
     let at-loop = at-if2 .before .before .before .before in
     let l = at-loop .loop in
-    pick-over (at-loop .before .args .s .now) (l .values) (l .count) (l .i) (omega arith) (l .inv) (at-if2 .before .if1 .taken)
+    pick-beyond (at-loop .before .args .s .now) (l .values) (l .count) (l .i) (omega arith) (l .inv) (at-if2 .before .if1 .taken)
     (at-if2 .if2 .taken) (omega arith))
     (λ c. search needs)
     (λ c. search needs)

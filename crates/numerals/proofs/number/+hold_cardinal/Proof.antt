@@ -1,7 +1,7 @@
 use Prim.Native.Nat.{ℕ, _<_}
 use native.Mathlib.Omega.{arith}
 use lib.ListN.{length, length-drop}
-use Rattle.numerals.proofs.Cardinal.{hold-0, hold-1, hold-2, hold-3, hold-more, parts-shorter, over-3}
+use Rattle.numerals.proofs.Cardinal.{hold-0, hold-1, hold-2, hold-3, hold-more, parts-shorter, above-3}
 use borrow.Author.Needs.{needs}
 use borrow.Fn.Kinds.{In}
 use borrow.Fn.PlainCycle.{Measures, is, falls, and}
@@ -112,7 +112,7 @@ pub +hold-cardinal-spec : {M : Type 1} → statement M
     let at-if1 = at-if3 .before .before in
     let p =
     parts-shorter (at-if1 .before .before .before .before .args .ds .now) (c .scale-for .result)
-    (over-3 _ (at-if1 .if1 .left) (at-if3 .before .if2 .left) (at-if3 .if3 .left) (c .before .if4 .left)) (c .scale-for .ensures .0) in
+    (above-3 _ (at-if1 .if1 .left) (at-if3 .before .if2 .left) (at-if3 .if3 .left) (c .before .if4 .left)) (c .scale-for .ensures .0) in
     omega (arith, p .0))
     (λ c κs. search needs)
     (λ c κs.
@@ -122,7 +122,7 @@ pub +hold-cardinal-spec : {M : Type 1} → statement M
     let start = at-if1 .before .before .before .before in
     let p =
     parts-shorter (start .args .ds .now) (at-scale-for .scale-for .result)
-    (over-3 _ (at-if1 .if1 .left) (at-if3 .before .if2 .left) (at-if3 .if3 .left) (at-scale-for .before .if4 .left))
+    (above-3 _ (at-if1 .if1 .left) (at-if3 .before .if2 .left) (at-if3 .if3 .left) (at-scale-for .before .if4 .left))
     (at-scale-for .scale-for .ensures .0) in
     rw (c .before .before .front .ensures) (omega (arith, p .1, start .pre .0), omega (arith, p .1, start .pre .1)))
     (λ c κs. search needs)
@@ -138,7 +138,7 @@ pub +hold-cardinal-spec : {M : Type 1} → statement M
     let start = at-if1 .before .before .before .before in
     let p =
     parts-shorter (start .args .ds .now) (at-scale-for .scale-for .result)
-    (over-3 _ (at-if1 .if1 .left) (at-if3 .before .if2 .left) (at-if3 .if3 .left) (at-scale-for .before .if4 .left))
+    (above-3 _ (at-if1 .if1 .left) (at-if3 .before .if2 .left) (at-if3 .if3 .left) (at-scale-for .before .if4 .left))
     (at-scale-for .scale-for .ensures .0) in
     rw (at-tail2 .tail2 .ensures) (omega (arith, p .2, start .pre .0), omega (arith, p .2, start .pre .1)))
     (λ c. search needs)
@@ -155,7 +155,7 @@ pub +hold-cardinal-spec : {M : Type 1} → statement M
     let at-if1 = at-if3 .before .before in
     let start = at-if1 .before .before .before .before in
     hold-more (start .args .ds .now) _
-    (over-3 _ (at-if1 .if1 .left) (at-if3 .before .if2 .left) (at-if3 .if3 .left) (at-scale-for .before .if4 .left)) (start .pre .1)
+    (above-3 _ (at-if1 .if1 .left) (at-if3 .before .if2 .left) (at-if3 .if3 .left) (at-scale-for .before .if4 .left)) (start .pre .1)
     (at-scale-for .scale-for .result) (at-scale-for .scale-for .ensures .0) (rw (at-front .front .ensures) at (at-hold-cardinal2 .hold-cardinal2 .ensures))
     (rw (at-has-no-words .has-no-words .ensures, at-front .front .ensures) at (at-hold-scale .hold-scale .ensures))
     (rw (at-tail2 .tail2 .ensures) at (at-hold-cardinal3 .hold-cardinal3 .ensures)))

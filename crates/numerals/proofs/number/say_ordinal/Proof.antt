@@ -1,6 +1,6 @@
 use lib.ListN.{take}
 use Rattle.word_writer.specs.Writer.{writer}
-use Rattle.numerals.proofs.Picking.{few-digits, few-more, few-all}
+use Rattle.numerals.proofs.Picking.{firstDigits-digits, firstDigits-more, firstDigits-all}
 use Rattle.numerals.proofs.Flushing.{ordinal-said}
 use borrow.Author.Needs.{needs}
 use Rattle.numerals.proofs.number.say_ordinal.Statement.{statement}
@@ -13,7 +13,7 @@ say-ordinal-spec =
     (λ c κs. search needs)
     (λ c κs.
     let at-first-digits = c .before .before .before .before in
-    few-more (at-first-digits .before .before .before .before .args .s .now) _ (at-first-digits .first-digits .ensures) (c .before .before .if1 .taken))
+    firstDigits-more (at-first-digits .before .before .before .before .args .s .now) _ (at-first-digits .first-digits .ensures) (c .before .before .if1 .taken))
     (λ c. search needs)
     (λ c. search needs)
     (λ c. search needs)
@@ -25,8 +25,8 @@ say-ordinal-spec =
     let at-first-digits = at-if1 .before .before in
     let s = at-first-digits .before .before .before .before .args .s .now in
     let e = at-first-digits .first-digits .ensures in
-    let n = few-all s _ e (at-if1 .if1 .left) in
-    rw (at-front .front .ensures, few-digits s _ e n) n)
+    let n = firstDigits-all s _ e (at-if1 .if1 .left) in
+    rw (at-front .front .ensures, firstDigits-digits s _ e n) n)
     (λ c κs. search needs)
     (λ c κs. search needs)
     (λ c. search needs)
@@ -41,8 +41,8 @@ say-ordinal-spec =
     let start = at-first-digits .before .before .before .before in
     let s = start .args .s .now in
     let f = at-first-digits .first-digits in
-    let n = few-all s (f .result) (f .ensures) (at-if1 .if1 .left) in
+    let n = firstDigits-all s (f .result) (f .ensures) (at-if1 .if1 .left) in
     let σ = writer (start .args .store .now) (start .args .table .now) (start .args .cursor) in
-    ordinal-said s (take (f .result .n) (f .result .d)) σ (few-digits s (f .result) (f .ensures) n) n
+    ordinal-said s (take (f .result .n) (f .result .d)) σ (firstDigits-digits s (f .result) (f .ensures) n) n
     (rw (at-front .front .ensures) at (at-hold-cardinal .hold-cardinal .ensures)) _ (at-ordinal-number .ordinal-number .ensures)
     (at-say .say .ensures)))

@@ -1,4 +1,4 @@
--- Nothing has to hold from turn to turn. The measure is the fields that are left. Assumes nothing.
+-- Nothing has to hold from one iteration to the next. The measure is the fields that are left. Assumes nothing.
 use borrow.Author.Needs.{needs}
 use Rattle.recorded.proofs.fields.field_at.Statement.{statement}
 use Rattle.recorded.proofs.fields.field_at.Tie as tie

@@ -1,4 +1,4 @@
--- Nothing has to hold from turn to turn. The measure is the verdicts that are left. Assumes nothing.
+-- Nothing has to hold from one iteration to the next. The measure is the verdicts that are left. Assumes nothing.
 use borrow.Author.Needs.{needs}
 use Prim.Native.Nat.{_-_}
 use Rattle.replay_patterns.proofs.answers.compare_verdicts.Statement.{statement}

@@ -1,4 +1,4 @@
--- Nothing has to hold from turn to turn. The measure is the numbers of the table that are left. Assumes nothing.
+-- Nothing has to hold from one iteration to the next. The measure is the numbers of the table that are left. Assumes nothing.
 use Prim.Native.Nat.{_-_, _/_}
 use native.Mathlib.Omega.{arith}
 use borrow.Author.Needs.{needs}
