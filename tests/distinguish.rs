@@ -1,4 +1,4 @@
-//! Demand 3 on pairs of sheets: two sheets of clear entries have the same call sheet exactly when they have the same names and
+//! Call sheets distinguish their sheets, on pairs: two sheets of clear entries have the same call sheet exactly when they have the same names and
 //! sentences that start at the same entries. Only the library is asked.
 
 use std::collections::HashMap;

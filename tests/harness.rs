@@ -139,7 +139,7 @@ fn tokens(comparison: &mut Comparison, long: bool) {
     step_states::every_choice(comparison);
 }
 
-/// The verdict on clear names among them, and demand 3 on pairs.
+/// The verdict on clear names among them, and that call sheets distinguish their sheets, on pairs.
 fn calls(comparison: &mut Comparison, long: bool) {
     clear::check_tables();
     call_texts::named(comparison);

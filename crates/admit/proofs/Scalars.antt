@@ -57,10 +57,10 @@ pub encode-elim : (P : List ℕ → Type 0) (c : ℕ) → (c ≤ 0x7F → P (c �
     → ((0x800 ≤ c) × (c ≤ 0xFFFF) → P ((0xE0 + c / 4096) ∷ low6 (c / 64) ∷ low6 c ∷ []))
     → (0x10000 ≤ c → P ((0xF0 + c / 262144) ∷ low6 (c / 4096) ∷ low6 (c / 64) ∷ low6 c ∷ [])) → P (encode c)
 unfolding encode
-encode-elim P c encoded-1 encoded-2 encoded-3 encoded-4 =
-    cond-elim P (leb c 0x7F) (λ h. encoded-1 (leb-true c 0x7F h)) (λ l.
-    cond-elim P (leb c 0x7FF) (λ h. encoded-2 (leb-false c 0x7F l, leb-true c 0x7FF h)) (λ m.
-    cond-elim P (leb c 0xFFFF) (λ h. encoded-3 (leb-false c 0x7FF m, leb-true c 0xFFFF h)) (λ n. encoded-4 (leb-false c 0xFFFF n))))
+encode-elim P c one two three four =
+    cond-elim P (leb c 0x7F) (λ h. one (leb-true c 0x7F h)) (λ l.
+    cond-elim P (leb c 0x7FF) (λ h. two (leb-false c 0x7F l, leb-true c 0x7FF h)) (λ m.
+    cond-elim P (leb c 0xFFFF) (λ h. three (leb-false c 0x7FF m, leb-true c 0xFFFF h)) (λ n. four (leb-false c 0xFFFF n))))
 
 -- they are a character of the table
 char-encode : (c : ℕ) → Scalar c → (r : List ℕ) → charLen (encode c ++ r) ≡ length (encode c)
@@ -136,7 +136,11 @@ encoded-1 a h = (a, inl (omega (arith, ltb-true)), rw (le-leb a 0x7F (omega (ari
 
 encoded-2 : (a b : ℕ) → (0xC2 ≤ a) × (a ≤ 0xDF) → TailByte b → Encoded (a ∷ b ∷ [])
 unfolding encode
-encoded-2 a b h k = (v, inl (omega arith), rw (lt-leb v 0x7F (omega arith), le-leb v 0x7FF (omega arith)) (ap₂ (λ (x y : ℕ). x ∷ y ∷ []) (omega arith) (omega arith)))
+encoded-2 a b h k = (
+  v,
+  inl (omega arith),
+  rw (lt-leb v 0x7F (omega arith), le-leb v 0x7FF (omega arith)) (ap₂ (λ (x y : ℕ). x ∷ y ∷ []) (omega arith) (omega arith)),
+)
   where
     v : ℕ
     v = scalarValue (a ∷ b ∷ [])
@@ -153,7 +157,8 @@ pair-elim t ((p, q) ∷ rows) f g h = pair-elim (t || p && q) rows (or-true-elim
 encoded-3 : (a b c : ℕ) → lead3 a b ≡ true → TailByte c → Encoded (a ∷ b ∷ c ∷ [])
 unfolding encode
 encoded-3 a b c h k =
-    pair-elim false ((eqb a 0xE0, inRange 0xA0 0xBF b) ∷ (inRange 0xE1 0xEC a, utf8Tail b) ∷ (eqb a 0xED, inRange 0x80 0x9F b) ∷ (inRange 0xEE 0xEF a, utf8Tail b) ∷ [])
+    pair-elim false ((eqb a 0xE0, inRange 0xA0 0xBF b) ∷ (inRange 0xE1 0xEC a, utf8Tail b) ∷ (eqb a 0xED, inRange 0x80 0x9F b) ∷
+    (inRange 0xEE 0xEF a, utf8Tail b) ∷ [])
     (λ e. absurd (false≢true e)) (
       λ x y. low (omega (arith, eqb-true, bounds 0xA0 0xBF b y)),
       (

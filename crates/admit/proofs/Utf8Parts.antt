@@ -48,7 +48,8 @@ char-within [] k = absurd (omega arith)
 char-within (a ∷ []) k = rw (char-1 0 refl a 0 0) (cond-le (ascii a) (omega arith) (omega arith))
 char-within (a ∷ b ∷ []) k = rw (char-2 0 refl a b 0) (cond-le (ascii a) (omega arith) (cond-le (lead2 a && utf8Tail b) (omega arith) (omega arith)))
 char-within (a ∷ b ∷ c ∷ []) k =
-    rw (char-3 0 refl a b c) (cond-le (ascii a) (omega arith) (cond-le (lead2 a && utf8Tail b) (omega arith) (cond-le (lead3 a b && utf8Tail c) (omega arith) (omega arith))))
+    rw (char-3 0 refl a b c) (cond-le (ascii a) (omega arith)
+    (cond-le (lead2 a && utf8Tail b) (omega arith) (cond-le (lead3 a b && utf8Tail c) (omega arith) (omega arith))))
 char-within (a ∷ b ∷ c ∷ d ∷ x) k =
     cond-le (ascii a) (omega arith)
     (cond-le (lead2 a && utf8Tail b) (omega arith)

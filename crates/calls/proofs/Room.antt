@@ -65,17 +65,25 @@ unit-short (b ∷ u) =
 unit-room : (s : List ℕ) → hasUnit s ≡ true → RoomFor (length s) (cardinal (take (unitAt s) s) ++ other (unitWord (unitPart s)) ∷ [])
 unfolding spell
 unit-room s e =
-    let refusalNumber = take (unitAt s) s in
+    let digits = take (unitAt s) s in
     let unit = drop (unitAt s) s in
-    rw e (omega (arith, together (cardinal refusalNumber) (other (unitWord unit) ∷ []), cardinal-room refusalNumber, unit-short unit, length-take (unitAt s) s, length-drop (unitAt s) s))
+    rw e (omega (
+      arith,
+      together (cardinal digits) (other (unitWord unit) ∷ []),
+      cardinal-room digits,
+      unit-short unit,
+      length-take (unitAt s) s,
+      length-drop (unitAt s) s,
+    ))
 
 -- an hour, a minute and a byte between them
 clock-room : (hour minute : List ℕ) (n : ℕ) → length hour + length minute < n → RoomForNumber n (clock hour minute)
 unfolding clock
 clock-room hour minute n l =
     let P : List Word → Type 0 = λ ws. RoomForNumber n (cardinal hour ++ ws) in
-    let refusalNumber = cardinal-room hour in
-    cond-elim P (same minute (bytes "00")) (λ e. omega (arith, together (cardinal hour) [])) (λ e. omega (arith, together (cardinal hour) (year minute), year-room minute))
+    let hours = cardinal-room hour in
+    cond-elim P (same minute (bytes "00")) (λ e. omega (arith, together (cardinal hour) []))
+    (λ e. omega (arith, together (cardinal hour) (year minute), year-room minute))
 
 time-room : (s : List ℕ) → isTime s ≡ true → RoomForNumber (length s) (clock (hourOf s) (minuteOf s))
 unfolding splitOnce
@@ -113,9 +121,9 @@ read-room word short = recur-induct (λ s g. RoomFor (length s) (g .words)) (by 
         cond-elim P (isDouble s) (λ e. real-room s) (λ e.
         cond-elim P (isOrdinal s) (λ e. omega (arith, ordinal-room (take (length s - 2) s), length-take (length s - 2) s)) (λ e.
         cond-elim P (endsWith (code "%") s) (λ e.
-        let indexOf = take (length s - 1) s in
+        let front = take (length s - 1) s in
         let l = shorter s (ends-some (code "%") s e) in
-        omega (arith, together (f indexOf .words) perCent, h indexOf l)) (λ e.
+        omega (arith, together (f front .words) perCent, h front l)) (λ e.
         cond-elim P (hasUnit s) (unit-room s) (λ e. omega (arith, short s))))))))))))
 
 pub line-fits : (e : SheetEntry) → length (lineOf e) ≤ 11 * (length (e .name) + 1)

@@ -61,7 +61,9 @@ fn mark_of(starts: bool) -> u8
 
 // Writes an entry's line.
 fn say_line(starts: bool, name: &[u8], out: &mut [u8], table: &mut [u8], cursor: Cursor) -> NameRead
-    ensures { λ r. ⌜ SaysLine (entryNamed starts (now (name .entry))) (writer (now (out .entry)) (now (table .entry)) cursor) (writer (now (out .exit)) (now (table .exit)) (r .cursor)) (r .entry .row) ⌝ }
+    ensures { λ r. ⌜ SaysLine (entryNamed starts (now (name .entry)))
+        (writer (now (out .entry)) (now (table .entry)) cursor)
+        (writer (now (out .exit)) (now (table .exit)) (r .cursor)) (r .entry .row) ⌝ }
 {
     let p = put_byte(out, cursor, mark_of(starts));
     let said = read_name(name, out, table, p);
@@ -127,9 +129,9 @@ fn sheet_refused(refusal: u8) -> CalledSheet
 pub fn call_sheet(s: &[u8], out: &mut [u8]) -> CalledSheet
     ensures { λ r. ⌜ asSheet r (now (out .exit)) ≡ sheetCall (now (s .entry)) (now (out .entry)) ⌝ }
 {
-    let refusal = refusal_of(s);
-    if refusal != 0 {
-        return sheet_refused(refusal);
+    let number = refusal_of(s);
+    if number != 0 {
+        return sheet_refused(number);
     }
     if has_long_name(s) {
         return sheet_refused(Refusal::NameTooLong.number());

@@ -83,7 +83,8 @@ test-fraction s h = go (startsWith (code ".") s) refl h
     d : List ℕ
     d = drop 1 s
 
-    go : (t : Bool) → startsWith (code ".") s ≡ t → cond t (not (eqb (span digit d) 0) && isExponentClear (dropWhile digit d)) (isExponentClear s) ≡ true → FractionTail s
+    go : (t : Bool) → startsWith (code ".") s ≡ t
+        → cond t (not (eqb (span digit d) 0) && isExponentClear (dropWhile digit d)) (isExponentClear s) ≡ true → FractionTail s
     go true e h =
         let p = and-eq-true-iff (not (eqb (span digit d) 0)) (isExponentClear (dropWhile digit d)) .0 h in
         record {

@@ -49,7 +49,8 @@ dottedInitials-parts c (d ∷ cs) h =
   where
     ends-dotted : (c d : ℕ) (cs : List ℕ) → endsWith pointByte (c ∷ pointByte ∷ dottedInitials d cs) ≡ endsWith pointByte (dottedInitials d cs)
     ends-dotted c d [] = ends-more pointByte c pointByte (d ∷ []) ∙ ends-more pointByte pointByte d []
-    ends-dotted c d (b ∷ cs) = ends-more pointByte c pointByte (d ∷ pointByte ∷ dottedInitials b cs) ∙ ends-more pointByte pointByte d (pointByte ∷ dottedInitials b cs)
+    ends-dotted c d (b ∷ cs) = ends-more pointByte c pointByte (d ∷ pointByte ∷ dottedInitials b cs)
+        ∙ ends-more pointByte pointByte d (pointByte ∷ dottedInitials b cs)
 
 -- two or more capitals with dots between pass the test
 pub initials-test : (c d : ℕ) (cs : List ℕ) → all uppercase (c ∷ d ∷ cs) ≡ true → isInitialsClear (dottedInitials c (d ∷ cs)) ≡ true
@@ -85,7 +86,8 @@ test-initialsOf (b ∷ []) h a = go (eqb b pointByte) refl h
 test-initialsOf (b ∷ d ∷ s) h a = go (eqb b pointByte) (eqb d pointByte) refl refl h (test-initialsOf s)
   where
     go : (t u : Bool) → eqb b pointByte ≡ t → eqb d pointByte ≡ u
-        → allOneLetter (cond t ([] ∷ cond u ([] ∷ split pointByte s) (onto d (split pointByte s))) (onto b (cond u ([] ∷ split pointByte s) (onto d (split pointByte s))))) ≡ true
+        → allOneLetter (cond t ([] ∷ cond u ([] ∷ split pointByte s) (onto d (split pointByte s)))
+        (onto b (cond u ([] ∷ split pointByte s) (onto d (split pointByte s))))) ≡ true
         → (allOneLetter (split pointByte s) ≡ true → all uppercaseOrPoint s ≡ true → InitialsOf s) → InitialsOf (b ∷ d ∷ s)
     go true u e f h i = absurd (false≢true h)
     go false false e f h i = absurd (true≢false (sym h ∙ long-fails b d (split pointByte s)))

@@ -81,7 +81,8 @@ ones-single (a ∷ b ∷ s) h = tt
 
 cardinal-single : (t : List ℕ) → IfSingle InTables (cardinal t)
 unfolding cardinal
-cardinal-single t = let d = digitValues-below-ten t in cardinalOf-elim (IfSingle InTables) (digitValues t) (λ l. short-single (digitValues t) d) (ones-single (digitValues t) d)
+cardinal-single t = let d = digitValues-below-ten t in cardinalOf-elim (IfSingle InTables) (digitValues t) (λ l. short-single (digitValues t) d)
+    (ones-single (digitValues t) d)
 
 -- ---- it is one of the tables'
 
@@ -120,7 +121,8 @@ cardinal-alone w a = single-listed w (cardinal (a .0)) (single-imply (cardinal (
 -- or of `ordinal`
 pub ordinal-alone : (w : List ℕ) → SingleAnswer ordinal w → listed w tableWords ≡ true
 unfolding ordinal
-ordinal-alone w a = let c = filterb (except (code ",")) (a .0) in single-listed w (onLast (orZero (cardinal c))) (last-single (cardinal c) (cardinal-single c)) (a .1)
+ordinal-alone w a = let c = filterb (except (code ",")) (a .0) in single-listed w (onLast (orZero (cardinal c)))
+    (last-single (cardinal c) (cardinal-single c)) (a .1)
 
 -- ---- the kind
 

@@ -98,4 +98,5 @@ pub data Clear : List ℕ → Type 0 where
   is-initials : (c d : ℕ) (cs : List ℕ) → all uppercase (c ∷ d ∷ cs) ≡ true → Clear (dottedInitials c (d ∷ cs))
   -- "two or more letters a to z, other than the words of the tables in numbers.rs and any word that alone is an answer of
   -- `cardinal` or `ordinal`"
-  is-word : (s : List ℕ) → 2 ≤ length s → all lowercase s ≡ true → listed s tableWords ≡ false → (SingleAnswer cardinal s → ⊥) → (SingleAnswer ordinal s → ⊥) → Clear s
+  is-word : (s : List ℕ) → 2 ≤ length s → all lowercase s ≡ true → listed s tableWords ≡ false → (SingleAnswer cardinal s → ⊥)
+      → (SingleAnswer ordinal s → ⊥) → Clear s

@@ -78,9 +78,11 @@ plain-values s h = rw (digitValues-all s (digits-all s (plain-digits s h))) (go 
 
 decimalDigits-step : (f n d : ℕ) (acc : List ℕ) → 0 < n → d < 10 → decimalDigits (suc f) (n * 10 + d) acc ≡ decimalDigits f n (d ∷ acc)
 unfolding decimalDigits
-decimalDigits-step f n d acc h l = rw (le-ltb (n * 10 + d) 10 (omega arith), decimalDigits) (ap₂ (λ (x y : ℕ). decimalDigits f x (y ∷ acc)) (omega arith) (omega arith))
+decimalDigits-step f n d acc h l = rw (le-ltb (n * 10 + d) 10 (omega arith), decimalDigits)
+    (ap₂ (λ (x y : ℕ). decimalDigits f x (y ∷ acc)) (omega arith) (omega arith))
 
-decimalDigits-decimal : (s : List ℕ) (f n : ℕ) (acc : List ℕ) → 0 < n → BelowTen s → decimalDigits (length s + f) (decimalFrom n s) acc ≡ decimalDigits f n (s ++ acc)
+decimalDigits-decimal : (s : List ℕ) (f n : ℕ) (acc : List ℕ) → 0 < n → BelowTen s
+    → decimalDigits (length s + f) (decimalFrom n s) acc ≡ decimalDigits f n (s ++ acc)
 unfolding decimalFrom
 decimalDigits-decimal [] f n acc h t = rw zero-add
 decimalDigits-decimal (d ∷ s) f n acc h t =

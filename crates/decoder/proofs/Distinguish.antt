@@ -1,4 +1,4 @@
--- Document 01, demand 3, in one theorem about two whole sheets. Assumes nothing.
+-- Call sheets distinguish their sheets: one theorem about two whole sheets. Assumes nothing.
 use mathlib.Core.Path.{_≡_, refl, sym, ap, _∙_}
 use mathlib.Core.Bool.{Bool, true, false}
 use mathlib.Core.List.{List, [], _∷_, map, cons-eq-cons, flatten}
@@ -85,13 +85,15 @@ entries-from s t h =
     ext-getD false _ _ (marks-length s ∙ h .same-count ∙ sym (marks-length t)) (λ k l. both-true _ _ (h .same-starts k)) in
     rw marks (entries-same (sentenceStarts (tokens t)) (tokens s) (tokens t) (h .same-names))
 
--- demand 3: two accepted sheets made only of clear entries have the same call sheet exactly when they have equally many entries,
--- the same names in the same order, and sentences starting at the same entries. That they are accepted is part of the claim, and
--- isn't needed for it
-pub call-sheets-distinguish-sheets : (s t : List ℕ) → AcceptedSheet s → AcceptedSheet t → AllClear (names s) → AllClear (names t) → (callSheet s ≡ callSheet t) ↔ SameEntries s t
+-- two accepted sheets made only of clear entries have the same call sheet exactly when they have equally many entries, the same
+-- names in the same order, and sentences starting at the same entries. That they are accepted is part of the claim, and isn't
+-- needed for it
+pub call-sheets-distinguish-sheets : (s t : List ℕ) → AcceptedSheet s → AcceptedSheet t → AllClear (names s) → AllClear (names t)
+    → (callSheet s ≡ callSheet t) ↔ SameEntries s t
 call-sheets-distinguish-sheets s t a b p q = (
   λ e. entries-same-parts s t
-      (sym (sheet-decoded (entries s) (entries-separatorFree s) (entries-decoded _ _ p)) ∙ ap decodeSheet e ∙ sheet-decoded (entries t) (entries-separatorFree t) (entries-decoded _ _ q)),
+      (sym (sheet-decoded (entries s) (entries-separatorFree s) (entries-decoded _ _ p)) ∙ ap decodeSheet e
+      ∙ sheet-decoded (entries t) (entries-separatorFree t) (entries-decoded _ _ q)),
   λ h. ap (λ (es : List SheetEntry). flatten (map lineOf es)) (entries-from s t h),
 )
 
@@ -129,7 +131,7 @@ call-counted s old a h =
     let n = sheet-counted s in
     (ap (λ (r : Call SheetResult). r .value .tokens) c ∙ sym (w ∙ n .0), ap (λ (r : Call SheetResult). r .value .words) c ∙ sym (v ∙ n .1))
 
--- so it's the two calls that are told apart
+-- so the two calls distinguish the sheets
 pub calls-distinguish-sheets : (s t old new : List ℕ) → AcceptedSheet s → AcceptedSheet t → length (callSheet s) ≤ length old → length (callSheet t) ≤ length new
     → AllClear (names s) → AllClear (names t) → (linesWritten (sheetCall s old) ≡ linesWritten (sheetCall t new)) ↔ SameEntries s t
 calls-distinguish-sheets s t old new a b h k p q = rw (written-sheet s old a h, written-sheet t new b k) (call-sheets-distinguish-sheets s t a b p q)

@@ -77,7 +77,8 @@ pub data SignedTail : List ℕ → List Word → Type 0 where
   sign-part : (w : Word) (c : ℕ) (a : List Word) (d : List ℕ) {t : List ℕ} {r : List Word} → SignWord w c → Every NumberWord a → decodeAfterSign c a ≡ d
       → SignedTail t r → SignedTail (c ∷ (d ++ t)) (w ∷ (a ++ r))
 
-number-words-pending : (a r : List Word) → Every NumberWord a → decodeFromRight (a ++ r) ≡ record { pending = a ++ decodeFromRight r .pending; bytes = decodeFromRight r .bytes }
+number-words-pending : (a r : List Word) → Every NumberWord a
+    → decodeFromRight (a ++ r) ≡ record { pending = a ++ decodeFromRight r .pending; bytes = decodeFromRight r .bytes }
 unfolding decodeFromRight unfoldDecoder
 number-words-pending [] r h = refl
 number-words-pending (w ∷ a) r h = rw (number-word-test (λ v. eqb (signByte v) 0) refl w (h .0), number-words-pending a r (h .1))
@@ -95,7 +96,8 @@ front-decoded a {t} {r} n k = rw (number-words-pending a r n, tail-decoded k, ap
 -- the words of signs and digits are such
 pub tail-figure-words : {t : List ℕ} {r : List Word} → SignedTail t r → Every FigureWord r
 tail-figure-words no-tail = tt
-tail-figure-words (sign-part w c a d {t} {r} s n h k) = (s .figure, every-append FigureWord a r (every-imply NumberWord FigureWord number-word-figure a n) (tail-figure-words k))
+tail-figure-words (sign-part w c a d {t} {r} s n h k) =
+    (s .figure, every-append FigureWord a r (every-imply NumberWord FigureWord number-word-figure a n) (tail-figure-words k))
 
 -- ---- digits after a sign
 

@@ -80,7 +80,8 @@ lines-in : (es : List SheetEntry) → Every SeparatorFreeEntry es → linesIn (f
 lines-in es h = rw (lines-split es h, take-at (map bare es) ([] ∷ []) (length (map bare es ++ [] ∷ []) - 1) (simp length-append (omega arith)))
 
 -- each with an LF after it, they are the call sheet
-pub lines-whole : (es : List SheetEntry) → Every SeparatorFreeEntry es → flatten (map (λ l. l ++ bytes "\n") (linesIn (flatten (map lineOf es)))) ≡ flatten (map lineOf es)
+pub lines-whole : (es : List SheetEntry) → Every SeparatorFreeEntry es
+    → flatten (map (λ l. l ++ bytes "\n") (linesIn (flatten (map lineOf es)))) ≡ flatten (map lineOf es)
 unfolding bare lineOf flatten
 lines-whole es h = ap (λ (ls : List (List ℕ)). flatten (map (λ l. l ++ bytes "\n") ls)) (lines-in es h) ∙ go es
   where
@@ -100,9 +101,11 @@ lines-read {A} f es h = ap (map (λ l. f (isStartIn l) (wordsIn l))) (lines-in e
     go (e ∷ es) h = rw (mark-read (e .starts) .0, words-split-back (wordsOf e) (h .0)) (ap (λ (r : List A). f (e .starts) (wordsOf e) ∷ r) (go es (h .1)))
 
 -- a call sheet is decoded as its entries
-pub sheet-decoded : (es : List SheetEntry) → Every SeparatorFreeEntry es → Every (λ (e : SheetEntry). Decoded (e .name)) es → decodeSheet (flatten (map lineOf es)) ≡ es
+pub sheet-decoded : (es : List SheetEntry) → Every SeparatorFreeEntry es → Every (λ (e : SheetEntry). Decoded (e .name)) es
+    → decodeSheet (flatten (map lineOf es)) ≡ es
 sheet-decoded es k h = lines-read (λ b ws. record { starts = b; name = decode ws }) es k ∙ go es h
   where
-    go : (es : List SheetEntry) → Every (λ (e : SheetEntry). Decoded (e .name)) es → map (λ (e : SheetEntry). record { starts = e .starts; name = decode (wordsOf e) }) es ≡ es
+    go : (es : List SheetEntry) → Every (λ (e : SheetEntry). Decoded (e .name)) es
+        → map (λ (e : SheetEntry). record { starts = e .starts; name = decode (wordsOf e) }) es ≡ es
     go [] h = refl
     go (e ∷ es) h = rw (h .0 .decoded) (ap (λ (r : List SheetEntry). e ∷ r) (go es (h .1)))

@@ -80,7 +80,8 @@ short-not-time = shortCardinal-induct (λ d. d < 10) (λ n ws. NotTime ws) (reco
 -- the words of a number
 pub cardinal-not-time : (s : List ℕ) → NotTime (cardinal s)
 unfolding cardinal
-cardinal-not-time s = let d = digitValues-below-ten s in cardinalOf-elim NotTime (digitValues s) (λ l. short-not-time (digitValues s) d) (ones-not-time (digitValues s) d)
+cardinal-not-time s = let d = digitValues-below-ten s in cardinalOf-elim NotTime (digitValues s) (λ l. short-not-time (digitValues s) d)
+    (ones-not-time (digitValues s) d)
 
 -- and of digits, one by one
 pub digits-not-time : (s : List ℕ) → NotTime (digits s)

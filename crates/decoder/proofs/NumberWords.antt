@@ -146,7 +146,8 @@ pub decode-plain : (s : List ℕ) → plain s ≡ true → decodeDigits (cardina
 unfolding decodeDigits
 decode-plain s h =
     ⊎-elim
-    (λ (l : length (digitValues s) ≤ 12). rw (ap twoOnes (cardinal-short s l) ∙ short-not (digitValues s) (digitValues-below-ten s), decimalDigits-value s h l) (digitBytes-digitValues s i))
+    (λ (l : length (digitValues s) ≤ 12). rw
+    (ap twoOnes (cardinal-short s l) ∙ short-not (digitValues s) (digitValues-below-ten s), decimalDigits-value s h l) (digitBytes-digitValues s i))
     (λ (l : 12 < length (digitValues s)). ap decodeDigits (cardinal-long s l) ∙ decode-each s i (omega (arith, digitValues-length s i)))
     (le-or-lt (length (digitValues s)) 12)
   where

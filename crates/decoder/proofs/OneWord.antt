@@ -38,7 +38,8 @@ lower-lowercase b h = rw (lt-leb b 90 (omega (arith, at-least b h)), and-false (
 pub lowercase-lowered : (s : List ℕ) → all lowercase s ≡ true → map toLower s ≡ s
 unfolding all
 lowercase-lowered [] h = refl
-lowercase-lowered (b ∷ s) h = let k = and-eq-true-iff (lowercase b) (all lowercase s) .0 h in ap₂ (λ (c : ℕ) (t : List ℕ). c ∷ t) (lower-lowercase b (k .0)) (lowercase-lowered s (k .1))
+lowercase-lowered (b ∷ s) h = let k = and-eq-true-iff (lowercase b) (all lowercase s) .0 h in ap₂ (λ (c : ℕ) (t : List ℕ). c ∷ t)
+    (lower-lowercase b (k .0)) (lowercase-lowered s (k .1))
 
 lowercase-except : (c : ℕ) → lowercase c ≡ false → (s : List ℕ) → all lowercase s ≡ true → all (except c) s ≡ true
 lowercase-except c n = all-within lowercase (except c) (λ b k. rw (class-apart lowercase c b n k))

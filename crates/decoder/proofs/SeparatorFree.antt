@@ -81,7 +81,8 @@ ones-separatorFree : (s : List ℕ) → BelowTen s → Every SeparatorFreeWord (
 ones-separatorFree = every-map (λ d. d < 10) SeparatorFreeWord one one-separatorFree
 
 cardinalOf-separatorFree : (s : List ℕ) → BelowTen s → Every SeparatorFreeWord (cardinalOf s)
-cardinalOf-separatorFree s d = cardinalOf-elim (Every SeparatorFreeWord) s (λ l. number-words-separatorFree (shortCardinal s) (short-number-words s d)) (ones-separatorFree s d)
+cardinalOf-separatorFree s d = cardinalOf-elim (Every SeparatorFreeWord) s
+    (λ l. number-words-separatorFree (shortCardinal s) (short-number-words s d)) (ones-separatorFree s d)
 
 last-separatorFree : (ws : List Word) → Every NumberWord ws → Every SeparatorFreeWord (onLast ws)
 unfolding onLast spell
@@ -112,7 +113,8 @@ yearStep-separatorFree f (a ∷ b ∷ s) h d =
     let hundreds = number-word-separatorFree hundred hundred-number-word in
     let two = cardinalOf (a ∷ b ∷ []) in
     let pair = cardinalOf-separatorFree (a ∷ b ∷ []) (d .0, (d .1 .0, tt)) in
-    cond-elim P (eqb n 4 && (zeroAt t 2 && zeroAt t 3)) (λ e. cond-elim P (zeroAt t 1) (λ e. all) (λ e. every-append SeparatorFreeWord two (hundred ∷ []) pair (hundreds, tt))) (λ e.
+    cond-elim P (eqb n 4 && (zeroAt t 2 && zeroAt t 3))
+    (λ e. cond-elim P (zeroAt t 1) (λ e. all) (λ e. every-append SeparatorFreeWord two (hundred ∷ []) pair (hundreds, tt))) (λ e.
     cond-elim P (eqb n 3 && (not (zeroAt t 0) && (zeroAt t 1 && zeroAt t 2))) (λ e. (first, (hundreds, tt))) (λ e.
     cond-elim P (eqb n 2 && (zeroAt t 0 && zeroAt t 1)) (λ e. (zero, (zero, tt))) (λ e.
     cond-elim P (eqb n 2 && zeroAt t 0) (λ e. (refl, ones-separatorFree (b ∷ s) (d .1))) (λ e.
@@ -129,10 +131,12 @@ pointed-separatorFree : (s : List ℕ) → Every SeparatorFreeWord (pointed s)
 unfolding pointed spell all
 pointed-separatorFree s =
     cond-elim (Every SeparatorFreeWord) (ltb (pointAt s) (length s))
-    (λ e. every-append SeparatorFreeWord (cardinal (take (pointAt s) s)) _ (cardinal-separatorFree (take (pointAt s) s)) (refl, digits-separatorFree (drop (pointAt s + 1) s)))
+    (λ e. every-append SeparatorFreeWord (cardinal (take (pointAt s) s)) _ (cardinal-separatorFree (take (pointAt s) s))
+    (refl, digits-separatorFree (drop (pointAt s + 1) s)))
     (λ e. cardinal-separatorFree s)
 
-realStep-separatorFree : (f : List ℕ → List Word) (s : List ℕ) → ((t : List ℕ) → length t < length s → Every SeparatorFreeWord (f t)) → Every SeparatorFreeWord (realStep f s)
+realStep-separatorFree : (f : List ℕ → List Word) (s : List ℕ) → ((t : List ℕ) → length t < length s → Every SeparatorFreeWord (f t))
+    → Every SeparatorFreeWord (realStep f s)
 unfolding realStep spell all span
 realStep-separatorFree f [] h = pointed-separatorFree []
 realStep-separatorFree f (b ∷ s) h =
@@ -185,24 +189,28 @@ letter-separatorFree (b ∷ c ∷ s) h = h
 parts-separatorFree : (cs : List (List ℕ)) → SeparatorFree (flatten cs) → Every SeparatorFree cs
 unfolding flatten
 parts-separatorFree [] h = tt
-parts-separatorFree (c ∷ cs) h = let k = and-eq-true-iff (separatorFree c) (separatorFree (flatten cs)) .0 (sym (all-append _ c (flatten cs)) ∙ h) in (k .0, parts-separatorFree cs (k .1))
+parts-separatorFree (c ∷ cs) h = let k = and-eq-true-iff (separatorFree c) (separatorFree (flatten cs)) .0
+    (sym (all-append _ c (flatten cs)) ∙ h) in (k .0, parts-separatorFree cs (k .1))
 
 letters-separatorFree : (s : List ℕ) → SeparatorFree s → Every SeparatorFreeWord (letters s)
 unfolding letters spell
-letters-separatorFree s h = every-map SeparatorFree SeparatorFreeWord (λ c. other (letterWord c)) letter-separatorFree (chars s) (parts-separatorFree (chars s) (ap separatorFree (chars-join s) ∙ h))
+letters-separatorFree s h = every-map SeparatorFree SeparatorFreeWord (λ c. other (letterWord c)) letter-separatorFree (chars s)
+    (parts-separatorFree (chars s) (ap separatorFree (chars-join s) ∙ h))
 
 -- ---- rows
 
 clock-separatorFree : (hour minute : List ℕ) → Every SeparatorFreeWord (clock hour minute)
 unfolding clock
 clock-separatorFree hour minute =
-    every-append SeparatorFreeWord (cardinal hour) _ (cardinal-separatorFree hour) (cond-elim (Every SeparatorFreeWord) (same minute (bytes "00")) (λ e. tt) (λ e. year-separatorFree minute))
+    every-append SeparatorFreeWord (cardinal hour) _ (cardinal-separatorFree hour)
+    (cond-elim (Every SeparatorFreeWord) (same minute (bytes "00")) (λ e. tt) (λ e. year-separatorFree minute))
 
 meridiem-separatorFree : (s : List ℕ) → SeparatorFree s → Every SeparatorFreeWord (clockLetters (timeParts s))
 unfolding clockLetters timeParts
 meridiem-separatorFree s h =
     cond-elim (λ (x : TimeParts). Every SeparatorFreeWord (clockLetters x)) (isMeridiemTime s)
-    (λ e. every-append SeparatorFreeWord (clock _ _) _ (clock-separatorFree _ _) (letters-separatorFree (drop (length s - 2) s) (all-split _ s (length s - 2) h .1))) (λ e. tt)
+    (λ e. every-append SeparatorFreeWord (clock _ _) _ (clock-separatorFree _ _)
+    (letters-separatorFree (drop (length s - 2) s) (all-split _ s (length s - 2) h .1))) (λ e. tt)
 
 -- whatever row 12 says, if that is such a word
 pub read-separatorFree : (word : List ℕ → List ℕ) → ((s : List ℕ) → separatorFree s ≡ true → separatorFree (word s) ≡ true) → (s : List ℕ) → separatorFree s ≡ true
@@ -227,6 +235,8 @@ read-separatorFree word k s h =
         cond-elim P (isOrdinal s) (λ e. ordinal-separatorFree (take (length s - 2) s)) (λ e.
         cond-elim P (endsWith (code "%") s) (λ e.
         let before = take (length s - 1) s in
-        every-append SeparatorFreeWord (f before .words) perCent (i before (shorter s (ends-some (code "%") s e)) (all-split _ s (length s - 1) h .0)) (refl, (refl, tt))) (λ e.
+        every-append SeparatorFreeWord (f before .words) perCent
+        (i before (shorter s (ends-some (code "%") s e)) (all-split _ s (length s - 1) h .0)) (refl, (refl, tt))) (λ e.
         cond-elim P (hasUnit s) (λ e.
-        every-append SeparatorFreeWord (cardinal (take (unitAt s) s)) _ (cardinal-separatorFree (take (unitAt s) s)) (unit-separatorFree (unitPart s), tt)) (λ e. (k s h, tt))))))))))))
+        every-append SeparatorFreeWord (cardinal (take (unitAt s) s)) _ (cardinal-separatorFree (take (unitAt s) s))
+        (unit-separatorFree (unitPart s), tt)) (λ e. (k s h, tt))))))))))))

@@ -25,7 +25,8 @@ NoWhitespace t = all nonWhitespace (t .name) ≡ true
 -- the name is a part of the token's run
 name-no-whitespace : (t : Token) → all nonWhitespace (runOf t) ≡ true → NoWhitespace t
 name-no-whitespace t h =
-    let p = and-eq-true-iff (all nonWhitespace (t .prepunctuation)) (all nonWhitespace (t .name ++ t .punctuation)) .0 (sym (all-append _ (t .prepunctuation) _) ∙ h) in
+    let p = and-eq-true-iff (all nonWhitespace (t .prepunctuation)) (all nonWhitespace (t .name ++ t .punctuation)) .0
+    (sym (all-append _ (t .prepunctuation) _) ∙ h) in
     and-eq-true-iff (all nonWhitespace (t .name)) (all nonWhitespace (t .punctuation)) .0 (sym (all-append _ (t .name) (t .punctuation)) ∙ p .1) .0
 
 -- so no name has whitespace

@@ -55,8 +55,11 @@ hour-number : (h : List ℕ) → isHour h ≡ true → (k : ℕ) × (k < 100) ×
 hour-number h e =
     let (p, l) = hour-parts h e in
     let d = plain-digits h p in
-    let n : length (digitValues h) ≤ 2 = rw (digitValues-length h d) l in
-    (decimal (digitValues h), two-digits-below (digitValues h) (digitValues-below-ten h) n, sym (ap digitBytes (decimalDigits-plain (digitValues h) 1 (digitValues-below-ten h) (plain-values h p) n) ∙ digitBytes-digitValues h d))
+    let n : length (digitValues h) ≤ 2 = rw (digitValues-length h d) l in (
+      decimal (digitValues h),
+      two-digits-below (digitValues h) (digitValues-below-ten h) n,
+      sym (ap digitBytes (decimalDigits-plain (digitValues h) 1 (digitValues-below-ten h) (plain-values h p) n) ∙ digitBytes-digitValues h d),
+    )
 
 minute-number : (m : List ℕ) → isMinute m ≡ true → (k : ℕ) × (k < 60) × (m ≡ minuteBytes k)
 minute-number m e =
@@ -168,7 +171,8 @@ module _ (h m : List ℕ) (p : isHour h ≡ true) (q : isMinute m ≡ true) wher
   time-words-decoded =
       let (k, e, hs) = hour-words h p in
       let (i, f, ms) = minute-words m q in
-      hour-minute-decoded k i (cardinal h) (minuteWords m) (and-eq-true-iff (all isBelowHundred (cardinal h)) _ .0 hs .1) (and-eq-true-iff (all isBelowHundred (minuteWords m)) _ .0 ms .1)
+      hour-minute-decoded k i (cardinal h) (minuteWords m) (and-eq-true-iff (all isBelowHundred (cardinal h)) _ .0 hs .1)
+      (and-eq-true-iff (all isBelowHundred (minuteWords m)) _ .0 ms .1)
       ∙ ap₂ (λ x y. x ++ (bytes ":" ++ y)) (sym e) (sym f)
 
   pub time-like : (m ≡ bytes "00" → ⊥) → timeLike (clock h m) ≡ true

@@ -1,5 +1,5 @@
--- Document 01, demand 3: from the words that a clear name is called with back to the name. Definitions only; no public promise is made
--- of them, and `call-sheets-distinguish-sheets` does not speak of them.
+-- From the words that a clear name is called with back to the name. Definitions only; no public promise is made of them, and
+-- `call-sheets-distinguish-sheets` does not speak of them.
 use mathlib.Core.Bool.{Bool, false, cond, not, _&&_, _||_}
 use mathlib.Core.List.{List, [], _∷_, _++_, map}
 use Prim.Native.Nat.{ℕ, zero, suc, _+_, _-_, _*_, _/_, _%_}

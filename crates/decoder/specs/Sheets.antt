@@ -1,4 +1,4 @@
--- Document 01, demand 3: what two sheets have in common, and the way from a call sheet back to its entries. Definitions only.
+-- Document 01, "Clear entries": what two sheets have in common; and the way from a call sheet back to its entries. Definitions only.
 use mathlib.Core.Path.{_≡_}
 use mathlib.Core.Bool.{Bool, true, false}
 use mathlib.Core.List.{List, map}

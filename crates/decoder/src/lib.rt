@@ -1,1 +1,1 @@
-// Demand 3 of document 01: what is called can be told apart by ear. Definitions and theorems, no code.
+// From a call sheet back to its entries, and the theorem that call sheets distinguish their sheets. No code.

@@ -43,7 +43,8 @@ fn say_per_cent(store: &mut [u8], table: &mut [u8], cursor: Cursor) -> Cursor
 
 // Says "per" and "cent" so many times.
 fn say_per_cents(percents: usize, store: &mut [u8], table: &mut [u8], cursor: Cursor) -> Cursor
-    ensures { λ r. ⌜ writer (now (store .exit)) (now (table .exit)) r ≡ emitAll (spelled (perCents percents)) (writer (now (store .entry)) (now (table .entry)) cursor) ⌝ }
+    ensures { λ r. ⌜ writer (now (store .exit)) (now (table .exit)) r
+        ≡ emitAll (spelled (perCents percents)) (writer (now (store .entry)) (now (table .entry)) cursor) ⌝ }
 {
     let mut p = cursor;
     let mut left = percents;
@@ -133,7 +134,9 @@ fn read_percent(
 
 // Says the words of a name, and answers the row that took it.
 pub fn read_name(name: &[u8], store: &mut [u8], table: &mut [u8], cursor: Cursor) -> NameRead
-    ensures { λ r. ⌜ Says (read (now (name .entry))) (writer (now (store .entry)) (now (table .entry)) cursor) (writer (now (store .exit)) (now (table .exit)) (r .cursor)) (r .entry .row) ⌝ }
+    ensures { λ r. ⌜ Says (read (now (name .entry)))
+        (writer (now (store .entry)) (now (table .entry)) cursor)
+        (writer (now (store .exit)) (now (table .exit)) (r .cursor)) (r .entry .row) ⌝ }
 {
     let mut place = place_of(cursor);
     if is_percent(name) {

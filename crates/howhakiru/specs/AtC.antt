@@ -41,7 +41,8 @@ asTimeAtC r s =
       refusal = r .refusal;
       value =
           cond (r .yes)
-          (time-parts (partAt (r .«hour_at») (r .«hour_len») s) (partAt (r .«minute_at») (r .«minute_len») s) (partAt (r .«meridiem_at») (r .«meridiem_len») s)) no-time-parts;
+          (time-parts (partAt (r .«hour_at») (r .«hour_len») s) (partAt (r .«minute_at») (r .«minute_len») s)
+          (partAt (r .«meridiem_at») (r .«meridiem_len») s)) no-time-parts;
     }
 
 -- an entry's answer, with the buffer as the call leaves it

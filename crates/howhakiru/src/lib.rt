@@ -248,42 +248,48 @@ pub extern "C" fn hwk_unit_word(unit: &[u8], store: &mut [u8]) -> UnitWord
 
 #[no_mangle]
 pub extern "C" fn hwk_cardinal(s: &[u8], store: &mut [u8], table: &mut [u8]) -> WordCounts
-    ensures { λ r. ⌜ asWords r (now (store .exit)) (now (table .exit)) ≡ wordsCall (now (s .entry)) (spelled (cardinal (now (s .entry)))) (now (store .entry)) (now (table .entry)) ⌝ }
+    ensures { λ r. ⌜ asWords r (now (store .exit)) (now (table .exit))
+        ≡ wordsCall (now (s .entry)) (spelled (cardinal (now (s .entry)))) (now (store .entry)) (now (table .entry)) ⌝ }
 {
     numbers::cardinal(s, store, table)
 }
 
 #[no_mangle]
 pub extern "C" fn hwk_ordinal(s: &[u8], store: &mut [u8], table: &mut [u8]) -> WordCounts
-    ensures { λ r. ⌜ asWords r (now (store .exit)) (now (table .exit)) ≡ wordsCall (now (s .entry)) (spelled (ordinal (now (s .entry)))) (now (store .entry)) (now (table .entry)) ⌝ }
+    ensures { λ r. ⌜ asWords r (now (store .exit)) (now (table .exit))
+        ≡ wordsCall (now (s .entry)) (spelled (ordinal (now (s .entry)))) (now (store .entry)) (now (table .entry)) ⌝ }
 {
     numbers::ordinal(s, store, table)
 }
 
 #[no_mangle]
 pub extern "C" fn hwk_year(s: &[u8], store: &mut [u8], table: &mut [u8]) -> WordCounts
-    ensures { λ r. ⌜ asWords r (now (store .exit)) (now (table .exit)) ≡ wordsCall (now (s .entry)) (spelled (year (now (s .entry)))) (now (store .entry)) (now (table .entry)) ⌝ }
+    ensures { λ r. ⌜ asWords r (now (store .exit)) (now (table .exit))
+        ≡ wordsCall (now (s .entry)) (spelled (year (now (s .entry)))) (now (store .entry)) (now (table .entry)) ⌝ }
 {
     numbers::year(s, store, table)
 }
 
 #[no_mangle]
 pub extern "C" fn hwk_digits(s: &[u8], store: &mut [u8], table: &mut [u8]) -> WordCounts
-    ensures { λ r. ⌜ asWords r (now (store .exit)) (now (table .exit)) ≡ wordsCall (now (s .entry)) (spelled (digits (now (s .entry)))) (now (store .entry)) (now (table .entry)) ⌝ }
+    ensures { λ r. ⌜ asWords r (now (store .exit)) (now (table .exit))
+        ≡ wordsCall (now (s .entry)) (spelled (digits (now (s .entry)))) (now (store .entry)) (now (table .entry)) ⌝ }
 {
     numbers::digits(s, store, table)
 }
 
 #[no_mangle]
 pub extern "C" fn hwk_real(s: &[u8], store: &mut [u8], table: &mut [u8]) -> WordCounts
-    ensures { λ r. ⌜ asWords r (now (store .exit)) (now (table .exit)) ≡ wordsCall (now (s .entry)) (spelled (real (now (s .entry)))) (now (store .entry)) (now (table .entry)) ⌝ }
+    ensures { λ r. ⌜ asWords r (now (store .exit)) (now (table .exit))
+        ≡ wordsCall (now (s .entry)) (spelled (real (now (s .entry)))) (now (store .entry)) (now (table .entry)) ⌝ }
 {
     numbers::real(s, store, table)
 }
 
 #[no_mangle]
 pub extern "C" fn hwk_letters(s: &[u8], store: &mut [u8], table: &mut [u8]) -> WordCounts
-    ensures { λ r. ⌜ asWords r (now (store .exit)) (now (table .exit)) ≡ wordsCall (now (s .entry)) (spelled (letters (now (s .entry)))) (now (store .entry)) (now (table .entry)) ⌝ }
+    ensures { λ r. ⌜ asWords r (now (store .exit)) (now (table .exit))
+        ≡ wordsCall (now (s .entry)) (spelled (letters (now (s .entry)))) (now (store .entry)) (now (table .entry)) ⌝ }
 {
     numbers::letters(s, store, table)
 }

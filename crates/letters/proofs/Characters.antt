@@ -65,7 +65,8 @@ several a b s h = rw (high-bytes-lower (a ∷ b ∷ s) h) (simp and-false)
 letter-encode : (c : ℕ) → letterWord (encode c) ≡ characterWord (encode c)
 unfolding letterWord sameBy
 letter-encode c =
-    encode-elim (λ l. letterWord l ≡ characterWord l) c (λ h. simp and-true) (λ h. several _ _ _ (omega arith)) (λ h. several _ _ _ (omega arith)) (λ h. several _ _ _ (omega arith))
+    encode-elim (λ l. letterWord l ≡ characterWord l) c (λ h. simp and-true) (λ h. several _ _ _ (omega arith))
+    (λ h. several _ _ _ (omega arith)) (λ h. several _ _ _ (omega arith))
 
 -- the words of a text of scalar values
 letters-text : (cs : List ℕ) → spelled (map (λ c. other (letterWord c)) (map encode cs)) ≡ map characterWord (map encode cs)

@@ -23,7 +23,8 @@ fn first_char(s: &[u8]) -> &[u8]
 
 // Says the word of a character.
 pub fn say_letter(c: &[u8], store: &mut [u8], table: &mut [u8], cursor: Cursor) -> Cursor
-    ensures { λ r. ⌜ writer (now (store .exit)) (now (table .exit)) r ≡ emit (letterWord (now (c .entry))) (writer (now (store .entry)) (now (table .entry)) cursor) ⌝ }
+    ensures { λ r. ⌜ writer (now (store .exit)) (now (table .exit)) r
+        ≡ emit (letterWord (now (c .entry))) (writer (now (store .entry)) (now (table .entry)) cursor) ⌝ }
 {
     if c.len() != 1 {
         return put_word(store, table, cursor, c);
@@ -38,7 +39,8 @@ pub fn say_letter(c: &[u8], store: &mut [u8], table: &mut [u8], cursor: Cursor) 
 
 // Says one word per character of s.
 pub fn say_letters(s: &[u8], store: &mut [u8], table: &mut [u8], cursor: Cursor) -> Cursor
-    ensures { λ r. ⌜ writer (now (store .exit)) (now (table .exit)) r ≡ emitAll (spelled (letters (now (s .entry)))) (writer (now (store .entry)) (now (table .entry)) cursor) ⌝ }
+    ensures { λ r. ⌜ writer (now (store .exit)) (now (table .exit)) r
+        ≡ emitAll (spelled (letters (now (s .entry)))) (writer (now (store .entry)) (now (table .entry)) cursor) ⌝ }
 {
     let mut p = cursor;
     let mut i = 0;

@@ -46,7 +46,8 @@ pub struct RomanValue {
 
 // Says what a reader reads s as.
 fn say_as(style: SayAs, s: &[u8], store: &mut [u8], table: &mut [u8], cursor: Cursor) -> Cursor
-    ensures { λ r. ⌜ writer (now (store .exit)) (now (table .exit)) r ≡ emitAll (spelled (wordsAs style (now (s .entry)))) (writer (now (store .entry)) (now (table .entry)) cursor) ⌝ }
+    ensures { λ r. ⌜ writer (now (store .exit)) (now (table .exit)) r
+        ≡ emitAll (spelled (wordsAs style (now (s .entry)))) (writer (now (store .entry)) (now (table .entry)) cursor) ⌝ }
 {
     match style {
         SayAs::Cardinal => say_cardinal(s, store, table, cursor),
@@ -73,7 +74,8 @@ fn has_ample_room(n: usize, store: usize, table: usize) -> bool
 // Whether a buffer is too short for the words of s: they are measured by the walk that writes them, on empty buffers.
 fn too_short(style: SayAs, s: &[u8], store: usize, table: usize) -> bool
     requires { ⌜ (store < usizeMax) × (table < usizeMax) ⌝ }
-    ensures { λ r. ⌜ r ≡ tooShortFor (length (flatten (spelled (wordsAs style (now (s .entry)))))) (length (spelled (wordsAs style (now (s .entry))))) store table ⌝ }
+    ensures { λ r. ⌜ r
+        ≡ tooShortFor (length (flatten (spelled (wordsAs style (now (s .entry)))))) (length (spelled (wordsAs style (now (s .entry))))) store table ⌝ }
 {
     if has_ample_room(s.len(), store, table) {
         return false;
@@ -86,7 +88,8 @@ fn too_short(style: SayAs, s: &[u8], store: usize, table: usize) -> bool
 
 // The words of s in store and table: measured first, and then written.
 fn write_words(style: SayAs, s: &[u8], store: &mut [u8], table: &mut [u8]) -> WordCounts
-    ensures { λ r. ⌜ asWords r (now (store .exit)) (now (table .exit)) ≡ wordsCall (now (s .entry)) (spelled (wordsAs style (now (s .entry)))) (now (store .entry)) (now (table .entry)) ⌝ }
+    ensures { λ r. ⌜ asWords r (now (store .exit)) (now (table .exit))
+        ≡ wordsCall (now (s .entry)) (spelled (wordsAs style (now (s .entry)))) (now (store .entry)) (now (table .entry)) ⌝ }
 {
     let refusal = refusal_of(s);
     if refusal != 0 {
@@ -99,37 +102,43 @@ fn write_words(style: SayAs, s: &[u8], store: &mut [u8], table: &mut [u8]) -> Wo
 }
 
 pub fn cardinal(s: &[u8], store: &mut [u8], table: &mut [u8]) -> WordCounts
-    ensures { λ r. ⌜ asWords r (now (store .exit)) (now (table .exit)) ≡ wordsCall (now (s .entry)) (spelled (cardinal (now (s .entry)))) (now (store .entry)) (now (table .entry)) ⌝ }
+    ensures { λ r. ⌜ asWords r (now (store .exit)) (now (table .exit))
+        ≡ wordsCall (now (s .entry)) (spelled (cardinal (now (s .entry)))) (now (store .entry)) (now (table .entry)) ⌝ }
 {
     write_words(SayAs::Cardinal, s, store, table)
 }
 
 pub fn ordinal(s: &[u8], store: &mut [u8], table: &mut [u8]) -> WordCounts
-    ensures { λ r. ⌜ asWords r (now (store .exit)) (now (table .exit)) ≡ wordsCall (now (s .entry)) (spelled (ordinal (now (s .entry)))) (now (store .entry)) (now (table .entry)) ⌝ }
+    ensures { λ r. ⌜ asWords r (now (store .exit)) (now (table .exit))
+        ≡ wordsCall (now (s .entry)) (spelled (ordinal (now (s .entry)))) (now (store .entry)) (now (table .entry)) ⌝ }
 {
     write_words(SayAs::Ordinal, s, store, table)
 }
 
 pub fn year(s: &[u8], store: &mut [u8], table: &mut [u8]) -> WordCounts
-    ensures { λ r. ⌜ asWords r (now (store .exit)) (now (table .exit)) ≡ wordsCall (now (s .entry)) (spelled (year (now (s .entry)))) (now (store .entry)) (now (table .entry)) ⌝ }
+    ensures { λ r. ⌜ asWords r (now (store .exit)) (now (table .exit))
+        ≡ wordsCall (now (s .entry)) (spelled (year (now (s .entry)))) (now (store .entry)) (now (table .entry)) ⌝ }
 {
     write_words(SayAs::Year, s, store, table)
 }
 
 pub fn digits(s: &[u8], store: &mut [u8], table: &mut [u8]) -> WordCounts
-    ensures { λ r. ⌜ asWords r (now (store .exit)) (now (table .exit)) ≡ wordsCall (now (s .entry)) (spelled (digits (now (s .entry)))) (now (store .entry)) (now (table .entry)) ⌝ }
+    ensures { λ r. ⌜ asWords r (now (store .exit)) (now (table .exit))
+        ≡ wordsCall (now (s .entry)) (spelled (digits (now (s .entry)))) (now (store .entry)) (now (table .entry)) ⌝ }
 {
     write_words(SayAs::Digits, s, store, table)
 }
 
 pub fn real(s: &[u8], store: &mut [u8], table: &mut [u8]) -> WordCounts
-    ensures { λ r. ⌜ asWords r (now (store .exit)) (now (table .exit)) ≡ wordsCall (now (s .entry)) (spelled (real (now (s .entry)))) (now (store .entry)) (now (table .entry)) ⌝ }
+    ensures { λ r. ⌜ asWords r (now (store .exit)) (now (table .exit))
+        ≡ wordsCall (now (s .entry)) (spelled (real (now (s .entry)))) (now (store .entry)) (now (table .entry)) ⌝ }
 {
     write_words(SayAs::Real, s, store, table)
 }
 
 pub fn letters(s: &[u8], store: &mut [u8], table: &mut [u8]) -> WordCounts
-    ensures { λ r. ⌜ asWords r (now (store .exit)) (now (table .exit)) ≡ wordsCall (now (s .entry)) (spelled (letters (now (s .entry)))) (now (store .entry)) (now (table .entry)) ⌝ }
+    ensures { λ r. ⌜ asWords r (now (store .exit)) (now (table .exit))
+        ≡ wordsCall (now (s .entry)) (spelled (letters (now (s .entry)))) (now (store .entry)) (now (table .entry)) ⌝ }
 {
     write_words(SayAs::Letters, s, store, table)
 }

@@ -215,7 +215,8 @@ module _ (s : List ℕ) (h : HeldWriter) where
   hold-1 e p = rw (cardinal-1 s e) p
 
   -- two digits
-  pub hold-2 : length s ≡ 2 → {r : HeldWriter} → r ≡ holdWords (map numberOf (pairWords (getD s 0 0) (getD s 1 0))) h → r ≡ holdWords (map numberOf (shortCardinal s)) h
+  pub hold-2 : length s ≡ 2 → {r : HeldWriter} → r ≡ holdWords (map numberOf (pairWords (getD s 0 0) (getD s 1 0))) h
+      → r ≡ holdWords (map numberOf (shortCardinal s)) h
   hold-2 e p = rw (cardinal-2 s e) p
 
   -- three digits: the hundreds, and the rest read again

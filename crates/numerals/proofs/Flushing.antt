@@ -55,7 +55,8 @@ last-formed w (v ∷ ws) h f =
     last-formed v ws (holdWord (numberOf w) h) (f .1)
     ∙ ap (emitAll (spelled (onLast (v ∷ ws)))) (flush-next w h (f .0))
 
-or-zero-formed : (ws : List Word) (σ : Writer) → Every NumberWord ws → flushedOrdinal (holdWords (map numberOf ws) (noneHeld σ)) ≡ emitAll (spelled (onLast (orZero ws))) σ
+or-zero-formed : (ws : List Word) (σ : Writer) → Every NumberWord ws
+    → flushedOrdinal (holdWords (map numberOf ws) (noneHeld σ)) ≡ emitAll (spelled (onLast (orZero ws))) σ
 unfolding holdWords orZero flushed emitAll spelled spell onLast ordinalNumber numberOf
 or-zero-formed [] σ f = rw (form-number (one 0) (one-number-word 0 (omega arith)))
 or-zero-formed (w ∷ ws) σ f = last-formed w ws (noneHeld σ) f

@@ -138,4 +138,5 @@ digits-number-words s = every-map (λ d. d < 10) NumberWord one one-number-word 
 -- and those of any number
 pub cardinal-number-words : (s : List ℕ) → Every NumberWord (cardinal s)
 unfolding cardinal digits
-cardinal-number-words s = cardinalOf-elim (Every NumberWord) (digitValues s) (λ l. short-number-words (digitValues s) (digitValues-below-ten s)) (digits-number-words s)
+cardinal-number-words s = cardinalOf-elim (Every NumberWord) (digitValues s) (λ l. short-number-words (digitValues s) (digitValues-below-ten s))
+    (digits-number-words s)

@@ -98,11 +98,13 @@ module _ (s : List ℕ) (f : FirstDigits) (e : f ≡ firstDigits s) where
   pub firstDigits-more : 12 < f .n → 12 < length (digitValues s)
   unfolding firstDigits
   firstDigits-more h =
-      ⊎-elim (λ (l : length (digitValues s) ≤ 12). absurd (omega (arith, rw (e, le-leb (length (digitValues s)) 12 l) at h))) (λ (l : 12 < length (digitValues s)). l)
+      ⊎-elim (λ (l : length (digitValues s) ≤ 12). absurd (omega (arith, rw (e, le-leb (length (digitValues s)) 12 l) at h)))
+      (λ (l : 12 < length (digitValues s)). l)
       (le-or-lt (length (digitValues s)) 12)
 
   pub firstDigits-all : f .n ≤ 12 → length (digitValues s) ≤ 12
   unfolding firstDigits
   firstDigits-all h =
-      ⊎-elim (λ (l : length (digitValues s) ≤ 12). l) (λ (l : 12 < length (digitValues s)). absurd (omega (arith, rw (e, lt-leb (length (digitValues s)) 12 l) at h)))
+      ⊎-elim (λ (l : length (digitValues s) ≤ 12). l)
+      (λ (l : 12 < length (digitValues s)). absurd (omega (arith, rw (e, lt-leb (length (digitValues s)) 12 l) at h)))
       (le-or-lt (length (digitValues s)) 12)

@@ -72,7 +72,8 @@ pub decimal-append : (a b : List ℕ) → decimal (a ++ b) ≡ decimal a * 10 ^ 
 unfolding decimal
 decimal-append a b = decimalFrom-append a b 0 ∙ decimalFrom-split b (decimalFrom 0 a)
 
-join-value : (t k : ℕ) (s : List ℕ) (r : List Word) → length s ≤ 3 → wordsValueFrom t 0 (joinAtScale (shortCardinal s) (scale k) r) ≡ wordsValueFrom (t + decimal s * 1000 ^ k) 0 r
+join-value : (t k : ℕ) (s : List ℕ) (r : List Word) → length s ≤ 3
+    → wordsValueFrom t 0 (joinAtScale (shortCardinal s) (scale k) r) ≡ wordsValueFrom (t + decimal s * 1000 ^ k) 0 r
 unfolding valueFrom joinAtScale
 join-value t k s r h = go (shortCardinal s) refl
   where
@@ -155,15 +156,18 @@ decimal-least [] n = omega arith
 decimal-least (d ∷ s) n = omega (arith, decimal-least s (n * 10 + d))
 
 -- and where there is no leading zero, there are words, for "0" too
-pub cardinal-some : (s : List ℕ) → 0 < length (digitValues s) → length (digitValues s) ≤ 12 → (getD (digitValues s) 0 0 ≡ 0 → length (digitValues s) ≡ 1) → 0 < length (cardinal s)
+pub cardinal-some : (s : List ℕ) → 0 < length (digitValues s) → length (digitValues s) ≤ 12
+    → (getD (digitValues s) 0 0 ≡ 0 → length (digitValues s) ≡ 1) → 0 < length (cardinal s)
 unfolding cardinal cardinalOf valueFrom decimal decimalFrom
-cardinal-some s z h n = rw (le-leb (length (digitValues s)) 12 h) (go (digitValues s) z n (shorter-value (suc (length (digitValues s))) 0 (digitValues s) (omega arith) h))
+cardinal-some s z h n = rw (le-leb (length (digitValues s)) 12 h)
+    (go (digitValues s) z n (shorter-value (suc (length (digitValues s))) 0 (digitValues s) (omega arith) h))
   where
     first : (d : ℕ) (ds : List ℕ) (ws : List Word) → 0 < d → valueFrom 0 0 (map meaningOf ws) ≡ 0 + decimal (d ∷ ds) → 0 < length ws
     first d ds [] p e = absurd (omega (arith, e, decimal-least ds (0 * 10 + d)))
     first d ds (w ∷ ws) p e = omega arith
 
-    go : (ds : List ℕ) → 0 < length ds → (getD ds 0 0 ≡ 0 → length ds ≡ 1) → valueFrom 0 0 (map meaningOf (shortCardinal ds)) ≡ 0 + decimal ds → 0 < length (shortCardinal ds)
+    go : (ds : List ℕ) → 0 < length ds → (getD ds 0 0 ≡ 0 → length ds ≡ 1) → valueFrom 0 0 (map meaningOf (shortCardinal ds)) ≡ 0 + decimal ds
+        → 0 < length (shortCardinal ds)
     go [] z n e = absurd (omega arith)
     go (zero ∷ ds) z n e = rw (cardinal-1 (zero ∷ ds) (n refl)) (omega arith)
     go (suc d ∷ ds) z n e = first (suc d) ds (shortCardinal (suc d ∷ ds)) (omega arith) e
@@ -175,7 +179,8 @@ ordinal-names s h =
     let t = filterb (except (code ",")) s in
     go (cardinal t) (cardinal-number-words t) (cardinal-value t (rw (digitValues-commas s) h) ∙ ap decimal (digitValues-commas s))
   where
-    go : (ws : List Word) → Every NumberWord ws → wordsValue ws ≡ decimal (digitValues s) → ordinalValueOf (spelled (onLast (orZero ws))) ≡ some (decimal (digitValues s))
+    go : (ws : List Word) → Every NumberWord ws → wordsValue ws ≡ decimal (digitValues s)
+        → ordinalValueOf (spelled (onLast (orZero ws))) ≡ some (decimal (digitValues s))
     go [] h e = rw (last-means (one 0) [] (one-number-word 0 (omega arith), tt), ← e)
     go (w ∷ ws) h e = rw (last-means w ws h, ← e)
 

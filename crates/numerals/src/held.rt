@@ -63,7 +63,8 @@ pub fn hold_pair(t: u8, n: u8, store: &mut [u8], table: &mut [u8], h: Held) -> H
 
 // The hundreds of three digits, nothing where they are 0.
 pub fn hold_hundreds(d: u8, store: &mut [u8], table: &mut [u8], h: Held) -> Held
-    ensures { λ r. ⌜ held (now (store .exit)) (now (table .exit)) r ≡ holdWords (map numberOf (cond (eqb d 0) [] (one d ∷ hundred ∷ []))) (held (now (store .entry)) (now (table .entry)) h) ⌝ }
+    ensures { λ r. ⌜ held (now (store .exit)) (now (table .exit)) r
+        ≡ holdWords (map numberOf (cond (eqb d 0) [] (one d ∷ hundred ∷ []))) (held (now (store .entry)) (now (table .entry)) h) ⌝ }
 {
     if d == 0 {
         return h;
@@ -74,7 +75,8 @@ pub fn hold_hundreds(d: u8, store: &mut [u8], table: &mut [u8], h: Held) -> Held
 
 // The word of scale k, nothing where what stands before it has no words.
 pub fn hold_scale(no_words: bool, k: u8, store: &mut [u8], table: &mut [u8], h: Held) -> Held
-    ensures { λ r. ⌜ held (now (store .exit)) (now (table .exit)) r ≡ holdWords (map numberOf (cond no_words [] (scale k ∷ []))) (held (now (store .entry)) (now (table .entry)) h) ⌝ }
+    ensures { λ r. ⌜ held (now (store .exit)) (now (table .exit)) r
+        ≡ holdWords (map numberOf (cond no_words [] (scale k ∷ []))) (held (now (store .entry)) (now (table .entry)) h) ⌝ }
 {
     if no_words {
         return h;

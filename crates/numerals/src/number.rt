@@ -56,7 +56,8 @@ fn scale_for(n: usize) -> u8
 // Holds the words of a string of digits' values: "the rest read again", and both parts of a split.
 fn hold_cardinal(ds: &[u8], store: &mut [u8], table: &mut [u8], h: Held) -> Held
     requires { ⌜ length (now ds) ≤ 12 ⌝ }
-    ensures { λ r. ⌜ held (now (store .exit)) (now (table .exit)) r ≡ holdWords (map numberOf (shortCardinal (now (ds .entry)))) (held (now (store .entry)) (now (table .entry)) h) ⌝ }
+    ensures { λ r. ⌜ held (now (store .exit)) (now (table .exit)) r
+        ≡ holdWords (map numberOf (shortCardinal (now (ds .entry)))) (held (now (store .entry)) (now (table .entry)) h) ⌝ }
 {
     let n = ds.len();
     if n == 0 {
@@ -83,7 +84,8 @@ fn hold_cardinal(ds: &[u8], store: &mut [u8], table: &mut [u8], h: Held) -> Held
 // Says the cardinal number of up to twelve digits, given by their values.
 pub fn say_short_cardinal(ds: &[u8], store: &mut [u8], table: &mut [u8], cursor: Cursor) -> Cursor
     requires { ⌜ (length (now ds) ≤ 12) × BelowTen (now ds) ⌝ }
-    ensures { λ r. ⌜ writer (now (store .exit)) (now (table .exit)) r ≡ emitAll (spelled (shortCardinal (now (ds .entry)))) (writer (now (store .entry)) (now (table .entry)) cursor) ⌝ }
+    ensures { λ r. ⌜ writer (now (store .exit)) (now (table .exit)) r
+        ≡ emitAll (spelled (shortCardinal (now (ds .entry)))) (writer (now (store .entry)) (now (table .entry)) cursor) ⌝ }
 {
     let start = Held { cursor, last: NONE };
     let h = hold_cardinal(ds, store, table, start);
@@ -92,7 +94,8 @@ pub fn say_short_cardinal(ds: &[u8], store: &mut [u8], table: &mut [u8], cursor:
 
 // Says the cardinal number of the digits of s.
 pub fn say_cardinal(s: &[u8], store: &mut [u8], table: &mut [u8], cursor: Cursor) -> Cursor
-    ensures { λ r. ⌜ writer (now (store .exit)) (now (table .exit)) r ≡ emitAll (spelled (cardinal (now (s .entry)))) (writer (now (store .entry)) (now (table .entry)) cursor) ⌝ }
+    ensures { λ r. ⌜ writer (now (store .exit)) (now (table .exit)) r
+        ≡ emitAll (spelled (cardinal (now (s .entry)))) (writer (now (store .entry)) (now (table .entry)) cursor) ⌝ }
 {
     let digits = first_digits(s);
     if MAX_CARDINAL_DIGITS < digits.count {
@@ -105,7 +108,8 @@ pub fn say_cardinal(s: &[u8], store: &mut [u8], table: &mut [u8], cursor: Cursor
 // Says more digits than have a cardinal reading one by one, the last of them in its ordinal form.
 fn say_long_ordinal(s: &[u8], store: &mut [u8], table: &mut [u8], cursor: Cursor) -> Cursor
     requires { ⌜ 12 < length (digitValues (now s)) ⌝ }
-    ensures { λ r. ⌜ writer (now (store .exit)) (now (table .exit)) r ≡ emitAll (spelled (ordinal (now (s .entry)))) (writer (now (store .entry)) (now (table .entry)) cursor) ⌝ }
+    ensures { λ r. ⌜ writer (now (store .exit)) (now (table .exit)) r
+        ≡ emitAll (spelled (ordinal (now (s .entry)))) (writer (now (store .entry)) (now (table .entry)) cursor) ⌝ }
 {
     let at = after_last(DIGIT, 0, s) - 1;
     let p = say_digits(front(s, at), store, table, cursor);
@@ -115,7 +119,8 @@ fn say_long_ordinal(s: &[u8], store: &mut [u8], table: &mut [u8], cursor: Cursor
 
 // Says the ordinal number of the digits of s.
 pub fn say_ordinal(s: &[u8], store: &mut [u8], table: &mut [u8], cursor: Cursor) -> Cursor
-    ensures { λ r. ⌜ writer (now (store .exit)) (now (table .exit)) r ≡ emitAll (spelled (ordinal (now (s .entry)))) (writer (now (store .entry)) (now (table .entry)) cursor) ⌝ }
+    ensures { λ r. ⌜ writer (now (store .exit)) (now (table .exit)) r
+        ≡ emitAll (spelled (ordinal (now (s .entry)))) (writer (now (store .entry)) (now (table .entry)) cursor) ⌝ }
 {
     let digits = first_digits(s);
     if MAX_CARDINAL_DIGITS < digits.count {

@@ -20,7 +20,8 @@ pub fn say(k: usize, store: &mut [u8], table: &mut [u8], cursor: Cursor) -> Curs
 
 // Says the word of a digit, and nothing of another byte.
 fn say_digit(b: u8, store: &mut [u8], table: &mut [u8], cursor: Cursor) -> Cursor
-    ensures { λ r. ⌜ writer (now (store .exit)) (now (table .exit)) r ≡ emitAll (spelled (digits (b ∷ []))) (writer (now (store .entry)) (now (table .entry)) cursor) ⌝ }
+    ensures { λ r. ⌜ writer (now (store .exit)) (now (table .exit)) r
+        ≡ emitAll (spelled (digits (b ∷ []))) (writer (now (store .entry)) (now (table .entry)) cursor) ⌝ }
 {
     if b < b'0' {
         return cursor;
@@ -33,7 +34,8 @@ fn say_digit(b: u8, store: &mut [u8], table: &mut [u8], cursor: Cursor) -> Curso
 
 // Says one word per digit of s.
 pub fn say_digits(s: &[u8], store: &mut [u8], table: &mut [u8], cursor: Cursor) -> Cursor
-    ensures { λ r. ⌜ writer (now (store .exit)) (now (table .exit)) r ≡ emitAll (spelled (digits (now (s .entry)))) (writer (now (store .entry)) (now (table .entry)) cursor) ⌝ }
+    ensures { λ r. ⌜ writer (now (store .exit)) (now (table .exit)) r
+        ≡ emitAll (spelled (digits (now (s .entry)))) (writer (now (store .entry)) (now (table .entry)) cursor) ⌝ }
 {
     let mut p = cursor;
     let mut i = 0;

@@ -27,7 +27,8 @@ unit-none s h = go (hasUnit s) refl h
     go false e h = refl
 
 -- a unit
-pub unit-found : (s : List ℕ) → (length (unitPart s) ≡ 0 → ⊥) → record { found = true; offset = length s - length (unitPart s); size = length (unitPart s) } ≡ unitFound s
+pub unit-found : (s : List ℕ) → (length (unitPart s) ≡ 0 → ⊥)
+    → record { found = true; offset = length s - length (unitPart s); size = length (unitPart s) } ≡ unitFound s
 unfolding unitFound
 unit-found s h = go (hasUnit s) h
   where

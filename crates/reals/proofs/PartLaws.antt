@@ -58,5 +58,7 @@ module _ (s : List ℕ) (σ : Writer) where
         pub turned-e : n < length s → {υ : Writer} → υ ≡ emit (wordOf 88) τ → Turned υ (n + 1)
         unfolding partWords partBytes spell unfoldVocabulary
         turned-e h c =
-            let l = lt-ltb n (length s) h in
-            (rw (← i, m, ← j, p, ← e, l, ← f) (says-more (pointed t) (other (bytes "e") ∷ []) refl σ d (said-word (other (bytes "e")) τ c)), rw (← i, m, ← j, p, ← e, l))
+            let l = lt-ltb n (length s) h in (
+              rw (← i, m, ← j, p, ← e, l, ← f) (says-more (pointed t) (other (bytes "e") ∷ []) refl σ d (said-word (other (bytes "e")) τ c)),
+              rw (← i, m, ← j, p, ← e, l),
+            )

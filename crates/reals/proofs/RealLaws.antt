@@ -65,7 +65,8 @@ pub real-part : (s : List ℕ) → real s ≡ partWords s ++ real (drop (partByt
 unfolding realStep partWords partBytes
 real-part s = real-eq s ∙ go (startsWith (code "-") s) (startsWith (code "+") s) (ltb (eAt s) (length s)) refl refl refl
   where
-    go : (m p e : Bool) → startsWith (code "-") s ≡ m → startsWith (code "+") s ≡ p → ltb (eAt s) (length s) ≡ e → realStep real s ≡ partWords s ++ real (drop (partBytes s) s)
+    go : (m p e : Bool) → startsWith (code "-") s ≡ m → startsWith (code "+") s ≡ p → ltb (eAt s) (length s) ≡ e
+        → realStep real s ≡ partWords s ++ real (drop (partBytes s) s)
     go true p e m q r = rw m
     go false true e m q r = rw (m, q)
     go false false true m q r =
@@ -81,7 +82,8 @@ part-bytes : (s : List ℕ) → 0 < length s → (0 < partBytes s) × (partBytes
 unfolding partBytes
 part-bytes s h = go (startsWithSign s) (ltb (eAt s) (length s)) refl (span-le notE s)
   where
-    go : (m e : Bool) → ltb (eAt s) (length s) ≡ e → eAt s ≤ length s → (0 < cond m 1 (cond e (eAt s + 1) (eAt s))) × (cond m 1 (cond e (eAt s + 1) (eAt s)) ≤ length s)
+    go : (m e : Bool) → ltb (eAt s) (length s) ≡ e → eAt s ≤ length s → (0 < cond m 1 (cond e (eAt s + 1) (eAt s)))
+        × (cond m 1 (cond e (eAt s + 1) (eAt s)) ≤ length s)
     go true e r l = (omega arith, omega arith)
     go false true r l = (omega arith, omega (arith, ltb-true (eAt s) (length s) r))
     go false false r l = (omega (arith, ltb-false (eAt s) (length s) r), omega arith)

@@ -41,7 +41,12 @@ realStep-room f (b ∷ s) h =
     cond-elim P (startsWith (code "+") t) (λ e. omega arith) (λ e.
     cond-elim P (ltb n (length t)) (λ e.
     let l = around t n e in
-    omega (arith, together (f (take n t)) (other (bytes "e") ∷ f (drop (n + 1) t)), h (take n t) (omega arith), h (drop (n + 1) t) (omega arith))) (λ e. pointed-room t)))
+    omega (
+      arith,
+      together (f (take n t)) (other (bytes "e") ∷ f (drop (n + 1) t)),
+      h (take n t) (omega arith),
+      h (drop (n + 1) t) (omega arith),
+    )) (λ e. pointed-room t)))
 
 pub real-room : (s : List ℕ) → RoomFor (length s) (real s)
 unfolding real

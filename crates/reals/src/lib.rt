@@ -22,7 +22,8 @@ ghost use Rattle.reals.specs.Walk.{partWords, partBytes};
 
 // Says a number without sign and "e".
 fn say_pointed(s: &[u8], store: &mut [u8], table: &mut [u8], cursor: Cursor) -> Cursor
-    ensures { λ r. ⌜ writer (now (store .exit)) (now (table .exit)) r ≡ emitAll (spelled (pointed (now (s .entry)))) (writer (now (store .entry)) (now (table .entry)) cursor) ⌝ }
+    ensures { λ r. ⌜ writer (now (store .exit)) (now (table .exit)) r
+        ≡ emitAll (spelled (pointed (now (s .entry)))) (writer (now (store .entry)) (now (table .entry)) cursor) ⌝ }
 {
     let at = span_of(NOT, b'.', s);
     if s.len() <= at {
@@ -63,7 +64,8 @@ fn say_part(s: &[u8], store: &mut [u8], table: &mut [u8], cursor: Cursor) -> Pro
 
 // Says a real number, sign by sign and part by part.
 pub fn say_real(s: &[u8], store: &mut [u8], table: &mut [u8], cursor: Cursor) -> Cursor
-    ensures { λ r. ⌜ writer (now (store .exit)) (now (table .exit)) r ≡ emitAll (spelled (real (now (s .entry)))) (writer (now (store .entry)) (now (table .entry)) cursor) ⌝ }
+    ensures { λ r. ⌜ writer (now (store .exit)) (now (table .exit)) r
+        ≡ emitAll (spelled (real (now (s .entry)))) (writer (now (store .entry)) (now (table .entry)) cursor) ⌝ }
 {
     let mut p = cursor;
     let mut i = 0;

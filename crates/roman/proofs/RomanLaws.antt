@@ -26,7 +26,8 @@ Neither b (p ∷ ps) = Neither b ps × ((b ≡ getD (bytes p) 0 0) ⊎ (b ≡ ge
 
 pub no-letter : (b : ℕ) → Neither b ("Mm" ∷ "Dd" ∷ "Cc" ∷ "Ll" ∷ "Xx" ∷ "Vv" ∷ "Ii" ∷ []) → 0 ≡ romanLetterValue b
 unfolding romanLetterValue
-no-letter b (((((((u, i), v), x), l), c), d), m) = rw (neither b _ _ i, neither b _ _ v, neither b _ _ x, neither b _ _ l, neither b _ _ c, neither b _ _ d, neither b _ _ m)
+no-letter b (((((((u, i), v), x), l), c), d), m) = rw
+    (neither b _ _ i, neither b _ _ v, neither b _ _ x, neither b _ _ l, neither b _ _ c, neither b _ _ d, neither b _ _ m)
 
 -- the largest of the values
 unfoldable pub maximum : List ℕ → ℕ
@@ -79,7 +80,8 @@ module _ (s : List ℕ) (i v : ℕ) (z : 0 < i) (h : i ≤ length s) (e : v ≡ 
       let n : suc (i - 1) ≡ i = omega arith in
       ap (map romanLetterValue) (drop-cons s (i - 1) 0 (omega arith)) ∙ ap₂ (λ (x k : ℕ). x ∷ map romanLetterValue (drop k s)) (sym e) n
 
-  pub summed-more : {a u m t n : ℕ} → Summed s i a u m → (v ≡ 0 → ⊥) → v ≤ 1000 → (t ≡ cond (ltb v m) v 0) × (t ≤ v) → n ≡ max v m → Summed s (i - 1) (a + (v - t)) (u + t) n
+  pub summed-more : {a u m t n : ℕ} → Summed s i a u m → (v ≡ 0 → ⊥) → v ≤ 1000 → (t ≡ cond (ltb v m) v 0) × (t ≤ v) → n ≡ max v m
+      → Summed s (i - 1) (a + (v - t)) (u + t) n
   unfolding any sumAdded sumSubtracted maximum
   summed-more {a} {u} {m} {t} {n} r k b q en =
       let l : anyLarger v (map romanLetterValue (drop i s)) ≡ ltb v m = anyLarger-max v (map romanLetterValue (drop i s)) ∙ ap (ltb v) (sym (r .most)) in

@@ -29,7 +29,8 @@ anyLarger-append : (v : ℕ) (x y : List ℕ) → Every (λ w. w ≤ v) y → an
 anyLarger-append v x y h = any-append (ltb v) x y ∙ rw (none-larger v y h) (or-false (anyLarger v x))
 
 -- values of at least m before others of at most m: the sums are those of the parts
-sums-append : (m : ℕ) (x y : List ℕ) → Every (λ v. m ≤ v) x → Every (λ w. w ≤ m) y → (sumAdded (x ++ y) ≡ sumAdded x + sumAdded y) × (sumSubtracted (x ++ y) ≡ sumSubtracted x + sumSubtracted y)
+sums-append : (m : ℕ) (x y : List ℕ) → Every (λ v. m ≤ v) x → Every (λ w. w ≤ m) y → (sumAdded (x ++ y) ≡ sumAdded x + sumAdded y)
+    × (sumSubtracted (x ++ y) ≡ sumSubtracted x + sumSubtracted y)
 unfolding sumAdded sumSubtracted
 sums-append m [] y h k = omega arith
 sums-append m (v ∷ x) y h k =
@@ -54,7 +55,8 @@ comes-to-append {l} {m} {h} {a} {b} {x} {y} o r q =
 module _ (lo hi unit : ℕ) (table : List String) where
   digitTest : ℕ → Bool
   digitTest d =
-      all (inRange lo hi) (map romanLetterValue (romanDigit table d)) && eqb (sumAdded (map romanLetterValue (romanDigit table d))) (sumSubtracted (map romanLetterValue (romanDigit table d)) + d * unit)
+      all (inRange lo hi) (map romanLetterValue (romanDigit table d)) && eqb (sumAdded (map romanLetterValue (romanDigit table d)))
+      (sumSubtracted (map romanLetterValue (romanDigit table d)) + d * unit)
 
   digit-reads : (n : ℕ) → upto digitTest n ≡ true → (d : ℕ) → d < n → ComesTo lo hi (d * unit) (map romanLetterValue (romanDigit table d))
   unfolding digitTest
@@ -80,7 +82,8 @@ standard-value n h =
     (rw e at
     (comes-to-append (omega arith)
     (comes-to-append (omega arith)
-    (comes-to-append (omega arith) (digit-reads 1000 1000 1000 romanThousands 4 refl (n / 1000) (omega arith)) (digit-reads 100 1000 100 romanHundreds 10 refl (n / 100 % 10) (omega arith)))
+    (comes-to-append (omega arith) (digit-reads 1000 1000 1000 romanThousands 4 refl (n / 1000) (omega arith))
+    (digit-reads 100 1000 100 romanHundreds 10 refl (n / 100 % 10) (omega arith)))
     (digit-reads 10 100 10 romanTens 10 refl (n / 10 % 10) (omega arith)))
     (digit-reads 1 10 1 romanOnes 10 refl (n % 10) (omega arith)))))
   where
@@ -125,7 +128,8 @@ letter-value-lower b = go (leb 65 b) (leb b 90) refl refl
     go : (t u : Bool) → leb 65 b ≡ t → leb b 90 ≡ u → romanLetterValue (cond (t && u) (b + 32) b) ≡ romanLetterValue b
     go true true p q =
         let e : b - 65 + 65 ≡ b = omega (arith, leb-true 65 b p) in
-        let k = eqb-true (romanLetterValue (toLower (b - 65 + 65))) (romanLetterValue (b - 65 + 65)) (below sameValueLowered 26 refl (b - 65) (omega (arith, leb-true 65 b p, leb-true b 90 q))) in
+        let k = eqb-true (romanLetterValue (toLower (b - 65 + 65))) (romanLetterValue (b - 65 + 65))
+        (below sameValueLowered 26 refl (b - 65) (omega (arith, leb-true 65 b p, leb-true b 90 q))) in
         rw (p, q) at (rw e at k)
     go true false p q = refl
     go false u p q = refl

@@ -49,4 +49,5 @@ romanDigit letters d = bytes (getD letters d "")
 
 -- the numeral of a number below 4,000, digit by digit
 abbrev pub standardNumeral : ℕ → List ℕ
-standardNumeral n = romanDigit romanThousands (n / 1000) ++ romanDigit romanHundreds (n / 100 % 10) ++ romanDigit romanTens (n / 10 % 10) ++ romanDigit romanOnes (n % 10)
+standardNumeral n = romanDigit romanThousands (n / 1000) ++ romanDigit romanHundreds (n / 100 % 10) ++ romanDigit romanTens
+    (n / 10 % 10) ++ romanDigit romanOnes (n % 10)

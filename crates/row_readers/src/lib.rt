@@ -75,7 +75,8 @@ fn say_clock(
     table: &mut [u8],
     cursor: Cursor,
 ) -> Cursor
-    ensures { λ r. ⌜ writer (now (store .exit)) (now (table .exit)) r ≡ emitAll (spelled (clock (now (hour .entry)) (now (minute .entry)))) (writer (now (store .entry)) (now (table .entry)) cursor) ⌝ }
+    ensures { λ r. ⌜ writer (now (store .exit)) (now (table .exit)) r
+        ≡ emitAll (spelled (clock (now (hour .entry)) (now (minute .entry)))) (writer (now (store .entry)) (now (table .entry)) cursor) ⌝ }
 {
     let p = say_cardinal(hour, store, table, cursor);
     if same(EXACT, minute, b"00") {
@@ -86,7 +87,8 @@ fn say_clock(
 
 // Says the letter b, and nothing of a point.
 fn say_initial(b: u8, store: &mut [u8], table: &mut [u8], cursor: Cursor) -> Cursor
-    ensures { λ r. ⌜ writer (now (store .exit)) (now (table .exit)) r ≡ emitAll (spelled (initials (b ∷ []))) (writer (now (store .entry)) (now (table .entry)) cursor) ⌝ }
+    ensures { λ r. ⌜ writer (now (store .exit)) (now (table .exit)) r
+        ≡ emitAll (spelled (initials (b ∷ []))) (writer (now (store .entry)) (now (table .entry)) cursor) ⌝ }
 {
     if b == b'.' {
         return cursor;
@@ -97,7 +99,8 @@ fn say_initial(b: u8, store: &mut [u8], table: &mut [u8], cursor: Cursor) -> Cur
 
 // Says one word for each byte that is no point.
 fn say_initials(name: &[u8], store: &mut [u8], table: &mut [u8], cursor: Cursor) -> Cursor
-    ensures { λ r. ⌜ writer (now (store .exit)) (now (table .exit)) r ≡ emitAll (spelled (initials (now (name .entry)))) (writer (now (store .entry)) (now (table .entry)) cursor) ⌝ }
+    ensures { λ r. ⌜ writer (now (store .exit)) (now (table .exit)) r
+        ≡ emitAll (spelled (initials (now (name .entry)))) (writer (now (store .entry)) (now (table .entry)) cursor) ⌝ }
 {
     let mut p = cursor;
     let mut i = 0;
@@ -110,7 +113,9 @@ fn say_initials(name: &[u8], store: &mut [u8], table: &mut [u8], cursor: Cursor)
 
 // Rows 11 and 12.
 fn from_unit(name: &[u8], store: &mut [u8], table: &mut [u8], cursor: Cursor) -> NameRead
-    ensures { λ r. ⌜ Says (rowsAfter 10 (now (name .entry))) (writer (now (store .entry)) (now (table .entry)) cursor) (writer (now (store .exit)) (now (table .exit)) (r .cursor)) (r .entry .row) ⌝ }
+    ensures { λ r. ⌜ Says (rowsAfter 10 (now (name .entry)))
+        (writer (now (store .entry)) (now (table .entry)) cursor)
+        (writer (now (store .exit)) (now (table .exit)) (r .cursor)) (r .entry .row) ⌝ }
 {
     let unit = split_unit(name);
     if unit.len() == 0 {
@@ -125,7 +130,9 @@ fn from_unit(name: &[u8], store: &mut [u8], table: &mut [u8], cursor: Cursor) ->
 // The rows from 6 on, of a name that row 10 does not take.
 fn from_leading_zero(name: &[u8], store: &mut [u8], table: &mut [u8], cursor: Cursor) -> NameRead
     requires { ⌜ isPercent (now name) ≡ false ⌝ }
-    ensures { λ r. ⌜ Says (rowsAfter 5 (now (name .entry))) (writer (now (store .entry)) (now (table .entry)) cursor) (writer (now (store .exit)) (now (table .exit)) (r .cursor)) (r .entry .row) ⌝ }
+    ensures { λ r. ⌜ Says (rowsAfter 5 (now (name .entry)))
+        (writer (now (store .entry)) (now (table .entry)) cursor)
+        (writer (now (store .exit)) (now (table .exit)) (r .cursor)) (r .entry .row) ⌝ }
 {
     if is_leading_zero_digits(name) {
         return name_read(Row::LeadingZero, say_digits(name, store, table, cursor));
@@ -147,7 +154,9 @@ fn from_leading_zero(name: &[u8], store: &mut [u8], table: &mut [u8], cursor: Cu
 // The rows from 5 on, of such a name.
 fn from_meridiem(name: &[u8], store: &mut [u8], table: &mut [u8], cursor: Cursor) -> NameRead
     requires { ⌜ isPercent (now name) ≡ false ⌝ }
-    ensures { λ r. ⌜ Says (rowsAfter 4 (now (name .entry))) (writer (now (store .entry)) (now (table .entry)) cursor) (writer (now (store .exit)) (now (table .exit)) (r .cursor)) (r .entry .row) ⌝ }
+    ensures { λ r. ⌜ Says (rowsAfter 4 (now (name .entry)))
+        (writer (now (store .entry)) (now (table .entry)) cursor)
+        (writer (now (store .exit)) (now (table .exit)) (r .cursor)) (r .entry .row) ⌝ }
 {
     let split = split_time_meridiem(name);
     let TimeSplit::At {
@@ -172,7 +181,9 @@ fn from_meridiem(name: &[u8], store: &mut [u8], table: &mut [u8], cursor: Cursor
 // All rows, of such a name.
 pub fn read_by_row(name: &[u8], store: &mut [u8], table: &mut [u8], cursor: Cursor) -> NameRead
     requires { ⌜ isPercent (now name) ≡ false ⌝ }
-    ensures { λ r. ⌜ Says (read (now (name .entry))) (writer (now (store .entry)) (now (table .entry)) cursor) (writer (now (store .exit)) (now (table .exit)) (r .cursor)) (r .entry .row) ⌝ }
+    ensures { λ r. ⌜ Says (read (now (name .entry)))
+        (writer (now (store .entry)) (now (table .entry)) cursor)
+        (writer (now (store .exit)) (now (table .exit)) (r .cursor)) (r .entry .row) ⌝ }
 {
     if name.len() == 0 {
         return name_read(Row::Empty, cursor);

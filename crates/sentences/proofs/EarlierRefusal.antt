@@ -43,7 +43,13 @@ earlier-first : (n m : ℕ) → 0 < n → LaterRefusal n m → (earlierRefusal n
 earlier-first n zero h l = rw (ne-eqb n 0 (λ e. omega arith), le-leb n n (omega arith)) (refl, refl, refl)
 earlier-first n (suc m) h l =
     let k : n < suc m = l (λ z. omega arith) in
-    rw (ne-eqb n 0 (λ e. omega arith), ne-eqb (suc m) 0 (λ e. omega arith), le-leb n (suc m) (omega arith), lt-leb (suc m) n k, le-leb n n (omega arith)) (refl, refl, refl)
+    rw (
+      ne-eqb n 0 (λ e. omega arith),
+      ne-eqb (suc m) 0 (λ e. omega arith),
+      le-leb n (suc m) (omega arith),
+      lt-leb (suc m) n k,
+      le-leb n n (omega arith),
+    ) (refl, refl, refl)
 
 either-refusal : (n : ℕ) (a b : List Test) → SameTests n a b → earlierRefusal (firstRefusal a) (firstRefusal b) ≡ firstRefusal (eitherHolds a b)
 either-refusal n (r when h ∷ a) (q when k ∷ b) e =
@@ -62,11 +68,13 @@ either-refusal n (r when h ∷ a) [] e = absurd e
 either-refusal n [] (q when k ∷ b) e = absurd e
 either-refusal n [] [] e = refl
 
-texts-refusal : (limit : ℕ) (ss ts : List (List ℕ)) → earlierRefusal (firstRefusal (textTests limit ss)) (firstRefusal (textTests limit ts)) ≡ firstRefusal (textTests limit (ss ++ ts))
+texts-refusal : (limit : ℕ) (ss ts : List (List ℕ))
+    → earlierRefusal (firstRefusal (textTests limit ss)) (firstRefusal (textTests limit ts)) ≡ firstRefusal (textTests limit (ss ++ ts))
 unfolding textTests
 texts-refusal limit ss ts = either-refusal 0 (textTests limit ss) (textTests limit ts) (omega arith, refl, (omega arith, refl, tt)) ∙ simp any-append
 
-pub three-texts-refusal : (w n p : List ℕ) → earlierRefusal (earlierRefusal (textRefusal textLimit w) (textRefusal textLimit n)) (textRefusal textLimit p) ≡ firstRefusal (stepTests w n p)
+pub three-texts-refusal : (w n p : List ℕ)
+    → earlierRefusal (earlierRefusal (textRefusal textLimit w) (textRefusal textLimit n)) (textRefusal textLimit p) ≡ firstRefusal (stepTests w n p)
 three-texts-refusal w n p =
     ap (λ (k : ℕ). earlierRefusal k (textRefusal textLimit p)) (texts-refusal textLimit (w ∷ []) (n ∷ [])) ∙ texts-refusal textLimit (w ∷ n ∷ []) (p ∷ [])
 

@@ -21,7 +21,8 @@ use Rattle.sentences.proofs.Starts.{starts-each}
 pub startsFrom-next : {s : List ℕ} {at : ℕ} {p : Places} → Next s at p → (st : State) {st′ : State} {w m q : List ℕ}
     → w ≡ take (p .prepunctuation - at) (drop at s) → m ≡ take (p .punctuation - p .name) (drop (p .name) s)
     → q ≡ take (p .end - p .punctuation) (drop (p .punctuation) s)
-    → st′ ≡ kept m q → sentenceStartsFrom st (tokens (drop at s)) ≡ (isSet (st .fresh) || breakAfter (stateContext st) w m) ∷ sentenceStartsFrom st′ (tokens (drop (p .end) s))
+    → st′ ≡ kept m q → sentenceStartsFrom st (tokens (drop at s))
+    ≡ (isSet (st .fresh) || breakAfter (stateContext st) w m) ∷ sentenceStartsFrom st′ (tokens (drop (p .end) s))
 unfolding sentenceStartsFrom
 startsFrom-next next st ew em eq es =
     ap (sentenceStartsFrom st) (next .token) ∙ rw (es, ew ∙ next .white, em ∙ next .name, eq ∙ next .punctuation)
@@ -39,7 +40,8 @@ starts-end l n st us u k = ap (λ (vs : List Token). sets l n (flags (sentenceSt
 
 -- at the start all is left
 pub starts-whole : (l s : List ℕ) (st : State) → st ≡ fresh → sets l 0 (flags (sentenceStartsFrom st (tokens s))) ≡ sets l 0 (startBytes s)
-starts-whole l s st e = ap (λ (r : State). sets l 0 (flags (sentenceStartsFrom r (tokens s)))) e ∙ ap (λ (bs : List Bool). sets l 0 (flags bs)) (startsFrom-fresh (tokens s))
+starts-whole l s st e = ap (λ (r : State). sets l 0 (flags (sentenceStartsFrom r (tokens s)))) e
+    ∙ ap (λ (bs : List Bool). sets l 0 (flags bs)) (startsFrom-fresh (tokens s))
 
 -- a byte for each token
 flags-length : (bs : List Bool) → length (flags bs) ≡ length bs

@@ -19,7 +19,8 @@ cornerHolds (rejects shape s) = not (shape (bytes s))
 -- "1,,th". `is_digits_dash_digits` drops empty parts, so "-5-6" passes."; and, from the Rust, corners of the shapes that no form tells
 unfoldable pub verdictCorners : List VerdictCorner
 verdictCorners =
-    accepts isDouble "-1" ∷ rejects isDouble "--1" ∷ rejects isDouble "+1" ∷ accepts isDouble "1." ∷ accepts isDouble ".5" ∷ rejects isDouble "." ∷ rejects isDouble "1e"
+    accepts isDouble "-1" ∷ rejects isDouble "--1" ∷ rejects isDouble "+1" ∷ accepts isDouble "1." ∷ accepts isDouble ".5" ∷ rejects isDouble "."
+    ∷ rejects isDouble "1e"
     ∷ accepts isDouble "1e+5" ∷ accepts isDouble "1.5E-5" ∷ rejects isDouble "1e5.5" ∷ accepts isUsMoney "$," ∷ accepts isOrdinal "1,,th" ∷ accepts isOrdinal "1TH"
     ∷ accepts isDigitsDashDigits "-5-6" ∷ accepts isDigitsDashDigits "5--6" ∷ rejects isDigitsDashDigits "5-" ∷ rejects isDigitsDashDigits "56"
     ∷ accepts isRoman "IX" ∷ rejects isRoman "IIX" ∷ accepts isRoman "XVI" ∷ accepts isRoman "X" ∷ rejects isRoman "XL" ∷ rejects isRoman "ix"

@@ -248,7 +248,8 @@ suffix-bytes : (s : List ℕ) → isOrdinalSuffix s ≡ true → (length s ≡ 2
 suffix-bytes s =
     or-true-elim (sameBy toLower s (bytes "th") || sameBy toLower s (bytes "st") || sameBy toLower s (bytes "nd")) (sameBy toLower s (bytes "rd"))
     (or-true-elim (sameBy toLower s (bytes "th") || sameBy toLower s (bytes "st")) (sameBy toLower s (bytes "nd"))
-    (or-true-elim (sameBy toLower s (bytes "th")) (sameBy toLower s (bytes "st")) (two-bytes s (code "t") (code "h") (omega arith)) (two-bytes s (code "s") (code "t") (omega arith)))
+    (or-true-elim (sameBy toLower s (bytes "th")) (sameBy toLower s (bytes "st")) (two-bytes s (code "t") (code "h") (omega arith))
+    (two-bytes s (code "s") (code "t") (omega arith)))
     (two-bytes s (code "n") (code "d") (omega arith))) (two-bytes s (code "r") (code "d") (omega arith))
 
 -- the hour's digits are no separators

@@ -59,7 +59,8 @@ suffixes = map bytes ("th" ∷ "st" ∷ "nd" ∷ "rd" ∷ [])
 
 -- digits and commas, a digit first, and a suffix in any case
 pub data OrdinalForm : List ℕ → Type 0 where
-  ordinal-number : (num suf : List ℕ) → digit (getD num 0 0) ≡ true → all digitOrComma num ≡ true → listed (map toLower suf) suffixes ≡ true → OrdinalForm (num ++ suf)
+  ordinal-number : (num suf : List ℕ) → digit (getD num 0 0) ≡ true → all digitOrComma num ≡ true → listed (map toLower suf) suffixes ≡ true
+      → OrdinalForm (num ++ suf)
 
 -- a dollar sign, digits and commas, and where there is a point, digits after it: "passes "$,""
 pub data MoneyForm : List ℕ → Type 0 where

@@ -24,7 +24,8 @@ unfolding runStarts span
 runs-white [] = refl
 runs-white (b ∷ s) = go (whitespace b) refl (runs-white s)
   where
-    go : (t : Bool) → whitespace b ≡ t → runStarts true s ≡ runStarts true (afterWhitespace s) → runStarts true (b ∷ s) ≡ runStarts true (drop (cond t (suc (span whitespace s)) 0) (b ∷ s))
+    go : (t : Bool) → whitespace b ≡ t → runStarts true s ≡ runStarts true (afterWhitespace s)
+        → runStarts true (b ∷ s) ≡ runStarts true (drop (cond t (suc (span whitespace s)) 0) (b ∷ s))
     go true e i = rw e (omega (arith, i))
     go false e i = refl
 

@@ -71,7 +71,8 @@ cut-places at w run ends n p c =
     let en : length (t .prepunctuation) ≡ n = ap (λ (u : Token). length (u .prepunctuation)) q ∙ sym (c .name) in
     let ep : n + length (t .name) ≡ p = ap (λ (u : Token). n + length (u .name)) q ∙ sym (c .punctuation) in
     let sum : length (flatten (tokenParts t)) ≡ length w + length run = ap length (cut-joined w run ends) ∙ length-append w run in
-    let all : length (flatten (tokenParts t)) ≡ length (t .whitespace) + (length (t .prepunctuation) + (length (t .name) + length (t .punctuation))) = size-parts t in
+    let all : length (flatten (tokenParts t))
+    ≡ length (t .whitespace) + (length (t .prepunctuation) + (length (t .name) + length (t .punctuation))) = size-parts t in
     let e1 : at + length w ≡ at + length (t .whitespace) = omega arith in
     let e2 : at + length w + n ≡ at + length (t .whitespace) + length (t .prepunctuation) = omega arith in
     let e3 : at + length w + p ≡ at + length (t .whitespace) + length (t .prepunctuation) + length (t .name) = omega arith in
@@ -85,13 +86,15 @@ marks-nonWhitespace = oneOf-all nonWhitespace prepunctuationMarks refl
 
 -- the first token of what follows the first `at` bytes, as the code finds it: q bytes of whitespace, m leading marks, and r bytes
 -- more of the run
-module _ (s : List ℕ) (at q m r : ℕ) (eq : q ≡ span whitespace (drop at s)) (em : m ≡ span prepunctuationMark (drop (at + q) s)) (er : r ≡ span nonWhitespace (drop (at + q + m) s)) where
+module _ (s : List ℕ) (at q m r : ℕ) (eq : q ≡ span whitespace (drop at s)) (em : m ≡ span prepunctuationMark (drop (at + q) s))
+    (er : r ≡ span nonWhitespace (drop (at + q + m) s)) where
   run-white : drop (at + q) s ≡ afterWhitespace (drop at s)
   run-white = ap (λ (k : ℕ). drop (at + k) s) eq ∙ sym (drop-drop (span whitespace (drop at s)) at s)
 
   run-size : m + r ≡ span nonWhitespace (drop (at + q) s)
   run-size =
-      let d : drop (at + q + m) s ≡ drop (span prepunctuationMark (drop (at + q) s)) (drop (at + q) s) = sym (drop-drop m (at + q) s) ∙ ap (λ (k : ℕ). drop k (drop (at + q) s)) em in
+      let d : drop (at + q + m) s ≡ drop (span prepunctuationMark (drop (at + q) s)) (drop (at + q) s) = sym (drop-drop m (at + q) s)
+      ∙ ap (λ (k : ℕ). drop k (drop (at + q) s)) em in
       ap₂ (λ (i j : ℕ). i + j) em (er ∙ ap (span nonWhitespace) d) ∙ sym (span-within prepunctuationMark nonWhitespace marks-nonWhitespace (drop (at + q) s))
 
   -- where the run ends, and the run as the code takes it

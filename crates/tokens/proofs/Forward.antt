@@ -20,7 +20,8 @@ use Rattle.tokens.specs.Table.{tokenSize}
 pub run-some : (s : List ℕ) → all whitespace s ≡ false → 0 < span nonWhitespace (afterWhitespace s)
 run-some s h =
     let n : span whitespace s < length s = span-short whitespace s h in
-    let g : getD (afterWhitespace s) 0 0 ≡ getD s (span whitespace s) 0 = getD-drop (span whitespace s) s 0 0 ∙ ap (λ (k : ℕ). getD s k 0) (add-zero (span whitespace s)) in
+    let g : getD (afterWhitespace s) 0 0 ≡ getD s (span whitespace s) 0 = getD-drop (span whitespace s) s 0 0
+    ∙ ap (λ (k : ℕ). getD s k 0) (add-zero (span whitespace s)) in
     let f : whitespace (getD (afterWhitespace s) 0 0) ≡ false = ap whitespace g ∙ span-fails whitespace s n in
     span-some nonWhitespace (afterWhitespace s) (simp length-drop (omega arith)) (rw f)
 
@@ -68,7 +69,8 @@ cut-joined white run ends = go (ends && all prepunctuationMark run)
     rest : List ℕ
     rest = dropWhile prepunctuationMark run
 
-    go : (t : Bool) → flatten (tokenParts (cond t (record { whitespace = white; prepunctuation = []; name = run; punctuation = [] }) (peel white run))) ≡ white ++ run
+    go : (t : Bool) → flatten (tokenParts
+        (cond t (record { whitespace = white; prepunctuation = []; name = run; punctuation = [] }) (peel white run))) ≡ white ++ run
     go true = ap (λ (r : List ℕ). white ++ r) (append-nil run)
     go false =
         ap (λ (r : List ℕ). white ++ (takeWhile prepunctuationMark run ++ (take (nameSize rest) rest ++ r))) (append-nil (drop (nameSize rest) rest))
@@ -116,7 +118,8 @@ cut-white w run ends = go (ends && all prepunctuationMark run)
     go false = refl
 
 -- induction along the tokens
-pub tokens-induct : (P : List ℕ → Type 0) → ((s : List ℕ) → all whitespace s ≡ true → P s) → ((s : List ℕ) → all whitespace s ≡ false → P (afterRun s) → P s) → (s : List ℕ) → P s
+pub tokens-induct : (P : List ℕ → Type 0) → ((s : List ℕ) → all whitespace s ≡ true → P s)
+    → ((s : List ℕ) → all whitespace s ≡ false → P (afterRun s) → P s) → (s : List ℕ) → P s
 tokens-induct P none more s = at (suc (length s)) s (omega arith)
   where
     go : (n : ℕ) (s : List ℕ) → length s < suc n → ((r : List ℕ) → length r < n → P r) → (t : Bool) → all whitespace s ≡ t → P s

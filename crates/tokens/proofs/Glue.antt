@@ -88,7 +88,8 @@ tokens-front a c y w h =
     tokens-more (a ++ z) (all-append whitespace a z ∙ rw h) ∙ rw (l, d, r, f, g)
 
 -- what follows the last byte that passes p, with the first token taken off
-tail-alike : (p : ℕ → Bool) (s : List ℕ) → afterLast p s ≡ firstSize s + afterLast p (afterRun s) → drop (afterLast p s) s ≡ drop (afterLast p (afterRun s)) (afterRun s)
+tail-alike : (p : ℕ → Bool) (s : List ℕ) → afterLast p s ≡ firstSize s + afterLast p (afterRun s)
+    → drop (afterLast p s) s ≡ drop (afterLast p (afterRun s)) (afterRun s)
 tail-alike p s e = rw e (sym (drop-drop (afterLast p (afterRun s)) (firstSize s) s) ∙ ap (drop (afterLast p (afterRun s))) (sym (afterRun-drop s)))
 
 -- whitespace behind whitespace
@@ -98,7 +99,8 @@ none-behind a c w h = tokens-none (a ++ c ∷ []) (all-append whitespace a (c �
 
 -- a text behind another, with whitespace between: the first one's tokens as they are cut where whitespace follows, and the
 -- second one's with the first one's trailing whitespace before them
-pub tokens-glue : (a : List ℕ) (c : ℕ) (y : List ℕ) → whitespace c ≡ true → tokens (a ++ c ∷ y) ≡ tokens (a ++ c ∷ []) ++ widen (trailingWhitespace a) (tokens (c ∷ y))
+pub tokens-glue : (a : List ℕ) (c : ℕ) (y : List ℕ) → whitespace c ≡ true
+    → tokens (a ++ c ∷ y) ≡ tokens (a ++ c ∷ []) ++ widen (trailingWhitespace a) (tokens (c ∷ y))
 tokens-glue a c y w =
     tokens-induct (λ a. tokens (a ++ c ∷ y) ≡ tokens (a ++ c ∷ []) ++ widen (trailingWhitespace a) (tokens (c ∷ y)))
     (λ a h. rw (last-white a h, none-behind a c w h) (tokens-white a (c ∷ y) h))
@@ -133,7 +135,8 @@ tokens-closed a c w =
     (λ a h i o. tokens-front a c [] w h ∙ go a h i o (eqb (length (afterRun a)) 0) refl ∙ sym (tokens-more a h))
     a
   where
-    go : (a : List ℕ) → all whitespace a ≡ false → (endsInPrepunctuation (afterRun a) ≡ false → tokens (afterRun a ++ c ∷ []) ≡ tokens (afterRun a)) → endsInPrepunctuation a ≡ false
+    go : (a : List ℕ) → all whitespace a ≡ false
+        → (endsInPrepunctuation (afterRun a) ≡ false → tokens (afterRun a ++ c ∷ []) ≡ tokens (afterRun a)) → endsInPrepunctuation a ≡ false
         → (e : Bool) → eqb (length (afterRun a)) 0 ≡ e
         → cut (takeWhile whitespace a) (takeWhile nonWhitespace (afterWhitespace a)) false ∷ tokens (afterRun a ++ c ∷ []) ≡ firstToken a ∷ tokens
         (afterRun a)

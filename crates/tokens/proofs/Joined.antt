@@ -128,7 +128,8 @@ module _ (s old : List ℕ) (accepted : tableCall s old .refusal ≡ 0) where
   whole = ap (λ (x : List ℕ). x ++ rest) (tokens-joined s) ∙ take-append-drop (afterLast nonWhitespace s) s
 
   short : length (flatten ws) < 256 ^ 4
-  short = let a = text-valid textLimit s (tokensCall-accepted s _ old accepted .0) .within-limit in omega (arith, sym (length-append (flatten ws) rest) ∙ ap length whole)
+  short = let a = text-valid textLimit s (tokensCall-accepted s _ old accepted .0) .within-limit in omega
+      (arith, sym (length-append (flatten ws) rest) ∙ ap length whole)
 
   -- four pairs a token are the table of all parts
   count-is : 4 * count ≡ length ws
@@ -168,4 +169,5 @@ module _ (s old : List ℕ) (accepted : tableCall s old .refusal ≡ 0) where
   pub pairs-sorted : (i j : ℕ) → i ≤ j → j < 4 * count → offsetAt i table ≤ offsetAt j table
   pairs-sorted i zero h l = let e : i ≡ 0 = omega arith in rw e (omega arith)
   pairs-sorted i (suc j) h l =
-      ⊎-elim (λ (k : i ≤ j). omega (arith, next-pair j l, pairs-sorted i j k (omega arith))) (λ (k : j < i). let e : i ≡ suc j = omega arith in rw e (omega arith)) (le-or-lt i j)
+      ⊎-elim (λ (k : i ≤ j). omega (arith, next-pair j l, pairs-sorted i j k (omega arith)))
+      (λ (k : j < i). let e : i ≡ suc j = omega arith in rw e (omega arith)) (le-or-lt i j)

@@ -19,7 +19,8 @@ use Rattle.tokens.proofs.Joined.{last-white, last-first}
 
 module _ (white : List ℕ) (w : all whitespace white ≡ true) where
   -- a run that is not wholly leading marks: the marks before its first other byte b, and what follows that
-  named-peeled : (ends : Bool) (pre : List ℕ) (b : ℕ) (r : List ℕ) → all prepunctuationMark pre ≡ true → prepunctuationMark b ≡ false → all nonWhitespace (pre ++ b ∷ r) ≡ true
+  named-peeled : (ends : Bool) (pre : List ℕ) (b : ℕ) (r : List ℕ) → all prepunctuationMark pre ≡ true → prepunctuationMark b ≡ false
+      → all nonWhitespace (pre ++ b ∷ r) ≡ true
       → Peeled ends (record { whitespace = white; prepunctuation = pre; name = take (nameSize (b ∷ r)) (b ∷ r); punctuation = drop (nameSize (b ∷ r)) (b ∷ r) })
   unfolding all
   named-peeled ends pre b r m f n =
@@ -80,14 +81,16 @@ module _ (white : List ℕ) (w : all whitespace white ≡ true) where
           let h : k < length run = span-short prepunctuationMark run e in
           let d : drop k run ≡ getD run k 0 ∷ drop (suc k) run = drop-cons run k 0 h in
           let j : take k run ++ getD run k 0 ∷ drop (suc k) run ≡ run = ap (λ (r : List ℕ). take k run ++ r) (sym d) ∙ take-append-drop k run in
-          rw (and-false, d) (named-peeled ends (take k run) (getD run k 0) (drop (suc k) run) (span-all prepunctuationMark run) (span-fails prepunctuationMark run h) (ap (all nonWhitespace) j ∙ n))
+          rw (and-false, d) (named-peeled ends (take k run) (getD run k 0) (drop (suc k) run) (span-all prepunctuationMark run)
+          (span-fails prepunctuationMark run h) (ap (all nonWhitespace) j ∙ n))
 
 -- the first token of a text
 first-peeled : (s : List ℕ) → all whitespace s ≡ false → Peeled (eqb (length (afterRun s)) 0) (firstToken s)
 first-peeled s h =
     let x : List ℕ = afterWhitespace s in
     let l : length (takeWhile nonWhitespace x) ≡ span nonWhitespace x = length-take-le (span nonWhitespace x) x (span-le nonWhitespace x) in
-    cut-peeled (takeWhile whitespace s) (span-all whitespace s) (takeWhile nonWhitespace x) (eqb (length (afterRun s)) 0) (omega (arith, run-some s h)) (span-all nonWhitespace x)
+    cut-peeled (takeWhile whitespace s) (span-all whitespace s) (takeWhile nonWhitespace x) (eqb (length (afterRun s)) 0)
+    (omega (arith, run-some s h)) (span-all nonWhitespace x)
 
 -- a token before those of the text r
 before-peeled : (t : Token) (r : List ℕ) → Peeled (eqb (length r) 0) t → (0 < length r → 0 < span whitespace r) → AllPeeled (endsInRun r) (tokens r)

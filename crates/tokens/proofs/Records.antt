@@ -63,7 +63,8 @@ records-step l n at t ts us p e u k =
     let h : recordBytes * n + length (recordOf at t) ≡ recordBytes * (n + 1) = omega (arith, record-length at t) in
     ap₂ (λ (r : List ℕ) (i : ℕ). sets (sets l (recordBytes * n) r) (recordBytes * (n + 1)) (records i ts)) g f
     ∙ ap (λ (i : ℕ). sets (sets l (recordBytes * n) (recordOf at t)) i (records (at + tokenSize t) ts)) (sym h)
-    ∙ sym (sets-append l (recordBytes * n) (recordOf at t) (records (at + tokenSize t) ts)) ∙ ap (λ (vs : List Token). sets l (recordBytes * n) (records at vs)) (sym u) ∙ k
+    ∙ sym (sets-append l (recordBytes * n) (recordOf at t) (records (at + tokenSize t) ts))
+    ∙ ap (λ (vs : List Token). sets l (recordBytes * n) (records at vs)) (sym u) ∙ k
 
 -- nothing is left
 pub records-end : (l : List ℕ) (n at : ℕ) (us : List Token) → us ≡ [] → {z : List ℕ} → sets l (recordBytes * n) (records at us) ≡ z → l ≡ z

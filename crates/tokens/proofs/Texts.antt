@@ -41,7 +41,8 @@ utf8-both : (x y : List ℕ) → ascii (getD y 0 0) ≡ true → utf8 (x ++ y) �
 utf8-both x y a h = and-eq-true-iff (utf8 x) (utf8 y) .0 (sym (utf8-append x y a) ∙ h)
 
 -- what follows bytes of an ASCII class at the front
-dropWhile-utf8 : (p : ℕ → Bool) → ((b : ℕ) → p b ≡ true → ascii b ≡ true) → (s : List ℕ) → utf8 s ≡ true → (utf8 (takeWhile p s) ≡ true) × (utf8 (dropWhile p s) ≡ true)
+dropWhile-utf8 : (p : ℕ → Bool) → ((b : ℕ) → p b ≡ true → ascii b ≡ true) → (s : List ℕ) → utf8 s ≡ true → (utf8 (takeWhile p s) ≡ true)
+    × (utf8 (dropWhile p s) ≡ true)
 dropWhile-utf8 p f s h =
     let a = all-within p ascii f (takeWhile p s) (span-all p s) in
     (utf8-all (takeWhile p s) a, sym (utf8-run (span p s) s a) ∙ h)

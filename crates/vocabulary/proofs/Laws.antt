@@ -46,7 +46,8 @@ hasLength k = eqb (packedLastByte k) (length (wordOf k))
 -- a row's last byte is the word's length
 pub high-size : (k : ℕ) → packedLastByte k ≡ length (wordOf k)
 unfolding hasLength unfoldVocabulary
-high-size k = ⊎-elim (λ (h : 91 ≤ k). rw (no-word k h)) (λ (h : k < 91). eqb-true (packedLastByte k) (length (wordOf k)) (below hasLength 91 refl k h)) (le-or-lt 91 k)
+high-size k = ⊎-elim (λ (h : 91 ≤ k). rw (no-word k h))
+    (λ (h : k < 91). eqb-true (packedLastByte k) (length (wordOf k)) (below hasLength 91 refl k h)) (le-or-lt 91 k)
 
 isShortWord : ℕ → Bool
 isShortWord k = leb (length (wordOf k)) 11

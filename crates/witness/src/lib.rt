@@ -1,1 +1,1 @@
-// Demand 3 of document 01 speaks of something: a sheet with a clear name of each kind. A theorem, no code.
+// Worked examples: a sheet with a clear name of each kind, names at the edges, whole call sheets. Theorems, no code.

@@ -79,7 +79,8 @@ writtenWords ws s =
       spaced = s .spaced;
     }
 
-pub emitAll-is : (ws : List (List ℕ)) (s : Writer) → s .at + length (storeBy (s .spaced) ws) ≤ usizeMax → s .words + length ws ≤ usizeMax → emitAll ws s ≡ writtenWords ws s
+pub emitAll-is : (ws : List (List ℕ)) (s : Writer) → s .at + length (storeBy (s .spaced) ws) ≤ usizeMax → s .words + length ws ≤ usizeMax
+    → emitAll ws s ≡ writtenWords ws s
 unfolding emitAll emit storeBy tableBy pairOf leBytes
 emitAll-is [] s h k = λ j. record { store = s .store; table = s .table; at = sym (add-zero (s .at)) j; words = sym (add-zero (s .words)) j; spaced = s .spaced }
 emitAll-is (w ∷ ws) s h k =
@@ -114,7 +115,8 @@ ltb-same a b l f g =
     (le-or-lt a l)
 
 -- the cursor after the words ws, on any buffers, tells whether buffers of a and b bytes are too short for them
-pub measured : (ws : List (List ℕ)) (a b : ℕ) → a < usizeMax → b < usizeMax → (x y x₀ y₀ : List ℕ) {m p₀ : Cursor} → p₀ ≡ startCursor → writer x y m ≡ emitAll ws (writer x₀ y₀ p₀)
+pub measured : (ws : List (List ℕ)) (a b : ℕ) → a < usizeMax → b < usizeMax → (x y x₀ y₀ : List ℕ) {m p₀ : Cursor} → p₀ ≡ startCursor
+    → writer x y m ≡ emitAll ws (writer x₀ y₀ p₀)
     → tooShortFor (m .at) (m .words) a b ≡ tooShortFor (length (flatten ws)) (length ws) a b
 measured ws a b ha hb x y x₀ y₀ {m} {p₀} e₀ e =
     let s₀ = writer x₀ y₀ p₀ in

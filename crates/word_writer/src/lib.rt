@@ -108,7 +108,8 @@ fn after_gap(cursor: Cursor) -> usize
 
 // Stores the pair of a word of so many bytes, and moves the cursor past it.
 fn advance(table: &mut [u8], cursor: Cursor, size: usize) -> Cursor
-    ensures { λ r. ⌜ (r ≡ advanced size cursor) × (now (table .exit) ≡ sets (now (table .entry)) (pairBytes * cursor .words) (pairOf (afterGap (cursor .spaced) (cursor .at)) size)) ⌝ }
+    ensures { λ r. ⌜ (r ≡ advanced size cursor)
+        × (now (table .exit) ≡ sets (now (table .entry)) (pairBytes * cursor .words) (pairOf (afterGap (cursor .spaced) (cursor .at)) size)) ⌝ }
 {
     let at = after_gap(cursor);
     put_pair(table, cursor.words, at, size);
@@ -130,7 +131,8 @@ pub fn put_word(store: &mut [u8], table: &mut [u8], cursor: Cursor, w: &[u8]) ->
 
 // Stores one word, A to Z lowered, and its pair.
 pub fn put_word_lowered(store: &mut [u8], table: &mut [u8], cursor: Cursor, w: &[u8]) -> Cursor
-    ensures { λ r. ⌜ writer (now (store .exit)) (now (table .exit)) r ≡ emit (map toLower (now (w .entry))) (writer (now (store .entry)) (now (table .entry)) cursor) ⌝ }
+    ensures { λ r. ⌜ writer (now (store .exit)) (now (table .exit)) r
+        ≡ emit (map toLower (now (w .entry))) (writer (now (store .entry)) (now (table .entry)) cursor) ⌝ }
 {
     put_gap(store, cursor);
     put_lowered(store, after_gap(cursor), w);

@@ -55,7 +55,8 @@ unfolding digitValues filterb countb
 digitValues-count [] = refl
 digitValues-count (b ∷ s) = go (digit b) (digitValues-count s)
   where
-    go : (t : Bool) → length (digitValues s) ≡ countb digit s → length (map digitValue (cond t (b ∷ filterb digit s) (filterb digit s))) ≡ cond t (suc (countb digit s)) (countb digit s)
+    go : (t : Bool) → length (digitValues s) ≡ countb digit s
+        → length (map digitValue (cond t (b ∷ filterb digit s) (filterb digit s))) ≡ cond t (suc (countb digit s)) (countb digit s)
     go true e = ap suc e
     go false e = e
 
@@ -115,7 +116,8 @@ year-four (a ∷ b ∷ []) h p q r = absurd (omega arith)
 year-four (a ∷ b ∷ c ∷ []) h p q r = absurd (omega arith)
 year-four (a ∷ b ∷ c ∷ d ∷ e ∷ s) h p q r = absurd (omega arith)
 year-four (a ∷ b ∷ c ∷ d ∷ []) h p q r =
-    rw (p, q, r) (year-eq (a ∷ b ∷ c ∷ d ∷ []) ∙ go (eqb b 0) (eqb c 0) (eqb d 0) (shortCardinal (a ∷ b ∷ c ∷ d ∷ [])) (shortCardinal (a ∷ b ∷ [])) (yearOf (c ∷ d ∷ [])))
+    rw (p, q, r) (year-eq (a ∷ b ∷ c ∷ d ∷ [])
+    ∙ go (eqb b 0) (eqb c 0) (eqb d 0) (shortCardinal (a ∷ b ∷ c ∷ d ∷ [])) (shortCardinal (a ∷ b ∷ [])) (yearOf (c ∷ d ∷ [])))
   where
     go : (t u v : Bool) (ws fs ls : List Word)
         → cond (u && v) (cond t ws (fs ++ hundred ∷ [])) (cond (t && u) ws (fs ++ ls)) ≡ cond (t && u) ws
@@ -182,7 +184,8 @@ picked-two s a b p q =
     (q .digit ∙ rw (p .others, getD-drop), rw (← drop-drop, q .others, p .others, drop-drop), omega (arith, p .within, q .within, length-drop (a .next) s))
 
 -- the loop counts the digits that are left from i on. A step reads the next n bytes, which hold one digit or two
-module _ (s : List ℕ) (i n left : ℕ) (e : left ≡ length (digitValues (drop i s))) (d : digitValues (drop n (drop i s)) ≡ drop (leadCount (eqb (left % 2) 1)) (digitValues (drop i s))) where
+module _ (s : List ℕ) (i n left : ℕ) (e : left ≡ length (digitValues (drop i s)))
+    (d : digitValues (drop n (drop i s)) ≡ drop (leadCount (eqb (left % 2) 1)) (digitValues (drop i s))) where
   digitValues-after : digitValues (drop (i + n) s) ≡ drop (leadCount (eqb (left % 2) 1)) (digitValues (drop i s))
   digitValues-after = ap digitValues (sym (drop-drop n i s)) ∙ d
 

@@ -47,7 +47,8 @@ fn pick(s: &[u8]) -> Picked
 // Says two digits as `cardinal` reads them.
 fn say_pair(a: u8, b: u8, store: &mut [u8], table: &mut [u8], cursor: Cursor) -> Cursor
     requires { ⌜ BelowTen (a ∷ b ∷ []) ⌝ }
-    ensures { λ r. ⌜ writer (now (store .exit)) (now (table .exit)) r ≡ emitAll (spelled (pairWords a b)) (writer (now (store .entry)) (now (table .entry)) cursor) ⌝ }
+    ensures { λ r. ⌜ writer (now (store .exit)) (now (table .exit)) r
+        ≡ emitAll (spelled (pairWords a b)) (writer (now (store .entry)) (now (table .entry)) cursor) ⌝ }
 {
     let ds = [a, b];
     say_short_cardinal(&ds, store, table, cursor)
@@ -78,7 +79,8 @@ fn say_lead(lone: bool, s: &[u8], store: &mut [u8], table: &mut [u8], cursor: Cu
 // Says the last two digits of a year.
 fn say_two(a: u8, b: u8, store: &mut [u8], table: &mut [u8], cursor: Cursor) -> Cursor
     requires { ⌜ BelowTen (a ∷ b ∷ []) ⌝ }
-    ensures { λ r. ⌜ writer (now (store .exit)) (now (table .exit)) r ≡ emitAll (spelled (yearOf (a ∷ b ∷ []))) (writer (now (store .entry)) (now (table .entry)) cursor) ⌝ }
+    ensures { λ r. ⌜ writer (now (store .exit)) (now (table .exit)) r
+        ≡ emitAll (spelled (yearOf (a ∷ b ∷ []))) (writer (now (store .entry)) (now (table .entry)) cursor) ⌝ }
 {
     if a != 0 {
         return say_pair(a, b, store, table, cursor);
@@ -94,7 +96,8 @@ fn say_two(a: u8, b: u8, store: &mut [u8], table: &mut [u8], cursor: Cursor) -> 
 // Says the last three digits of a year.
 fn say_three(a: u8, b: u8, c: u8, store: &mut [u8], table: &mut [u8], cursor: Cursor) -> Cursor
     requires { ⌜ BelowTen (a ∷ b ∷ c ∷ []) ⌝ }
-    ensures { λ r. ⌜ writer (now (store .exit)) (now (table .exit)) r ≡ emitAll (spelled (yearOf (a ∷ b ∷ c ∷ []))) (writer (now (store .entry)) (now (table .entry)) cursor) ⌝ }
+    ensures { λ r. ⌜ writer (now (store .exit)) (now (table .exit)) r
+        ≡ emitAll (spelled (yearOf (a ∷ b ∷ c ∷ []))) (writer (now (store .entry)) (now (table .entry)) cursor) ⌝ }
 {
     let p = say(ONES + a as usize, store, table, cursor);
     if (a != 0) & ((b == 0) & (c == 0)) {
@@ -106,7 +109,8 @@ fn say_three(a: u8, b: u8, c: u8, store: &mut [u8], table: &mut [u8], cursor: Cu
 // Says the last four digits of a year: "2000" and "2005" as cardinal numbers, "1900" as hundreds.
 fn say_four(ds: &[u8], store: &mut [u8], table: &mut [u8], cursor: Cursor) -> Cursor
     requires { ⌜ (length (now ds) ≡ 4) × BelowTen (now ds) ⌝ }
-    ensures { λ r. ⌜ writer (now (store .exit)) (now (table .exit)) r ≡ emitAll (spelled (yearOf (now (ds .entry)))) (writer (now (store .entry)) (now (table .entry)) cursor) ⌝ }
+    ensures { λ r. ⌜ writer (now (store .exit)) (now (table .exit)) r
+        ≡ emitAll (spelled (yearOf (now (ds .entry)))) (writer (now (store .entry)) (now (table .entry)) cursor) ⌝ }
 {
     let b = byte_at(ds, 1);
     let c = byte_at(ds, 2);
@@ -124,7 +128,8 @@ fn say_four(ds: &[u8], store: &mut [u8], table: &mut [u8], cursor: Cursor) -> Cu
 // Says a year of up to four digits, given by their values.
 fn say_last(ds: &[u8], store: &mut [u8], table: &mut [u8], cursor: Cursor) -> Cursor
     requires { ⌜ (length (now ds) ≤ 4) × BelowTen (now ds) ⌝ }
-    ensures { λ r. ⌜ writer (now (store .exit)) (now (table .exit)) r ≡ emitAll (spelled (yearOf (now (ds .entry)))) (writer (now (store .entry)) (now (table .entry)) cursor) ⌝ }
+    ensures { λ r. ⌜ writer (now (store .exit)) (now (table .exit)) r
+        ≡ emitAll (spelled (yearOf (now (ds .entry)))) (writer (now (store .entry)) (now (table .entry)) cursor) ⌝ }
 {
     let n = ds.len();
     if n <= 1 {
@@ -148,7 +153,8 @@ fn say_last(ds: &[u8], store: &mut [u8], table: &mut [u8], cursor: Cursor) -> Cu
 
 // Says the year of the digits of s: as long as more than four are left, a lone digit where they are odd, else a pair.
 pub fn say_year(s: &[u8], store: &mut [u8], table: &mut [u8], cursor: Cursor) -> Cursor
-    ensures { λ r. ⌜ writer (now (store .exit)) (now (table .exit)) r ≡ emitAll (spelled (year (now (s .entry)))) (writer (now (store .entry)) (now (table .entry)) cursor) ⌝ }
+    ensures { λ r. ⌜ writer (now (store .exit)) (now (table .exit)) r
+        ≡ emitAll (spelled (year (now (s .entry)))) (writer (now (store .entry)) (now (table .entry)) cursor) ⌝ }
 {
     let mut p = cursor;
     let mut i = 0;

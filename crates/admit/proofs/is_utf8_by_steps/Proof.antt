@@ -32,7 +32,11 @@ is-utf8-by-steps-spec =
     ∙ (utf8-on (at-loop .before .before .args .s .now) (at-loop .loop .i) (at-step-len .step-len .result) (omega arith)
     (rw (at-step-len .before .tail .ensures) at (at-step-len .step-len .ensures))
     ∙ rw (eq-eqb _ _ (c .if1 .taken)))))
-    (λ c. omega (arith, c .before .step-len .ensures .bounded, simp length-drop at (rw (c .before .before .tail .ensures) at (c .before .step-len .ensures .bounded))))
+    (λ c. omega (
+      arith,
+      c .before .step-len .ensures .bounded,
+      simp length-drop at (rw (c .before .before .tail .ensures) at (c .before .step-len .ensures .bounded)),
+    ))
     (λ c. search needs)
     (λ c.
     let at-step-len = c .before in

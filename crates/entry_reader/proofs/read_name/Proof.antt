@@ -15,8 +15,11 @@ read-name-spec =
     (λ c κs. search needs)
     (λ c κs. search needs)
     (λ c κs.
-    let at-if1 = c .before .before .before in
-    (search needs, ends-some (code "%") (at-if1 .before .before .before .before .before .before .args .name .now) (sym (at-if1 .before .is-percent .ensures) ∙ at-if1 .if1 .taken)))
+    let at-if1 = c .before .before .before in (
+      search needs,
+      ends-some (code "%") (at-if1 .before .before .before .before .before .before .args .name .now)
+          (sym (at-if1 .before .is-percent .ensures) ∙ at-if1 .if1 .taken),
+    ))
     (λ c κs. search needs)
     (λ c κs. search needs)
     (λ c. search needs)

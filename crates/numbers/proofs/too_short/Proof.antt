@@ -15,7 +15,8 @@ too-short-spec =
     (λ c κs. search needs)
     (λ c.
     let start = c .before .before .before in
-    sym (ample-room-fits (start .args .style) (start .args .s .now) (start .args .store) (start .args .table) (sym (c .before .has-ample-room .ensures) ∙ c .if1 .taken)))
+    sym (ample-room-fits (start .args .style) (start .args .s .now) (start .args .store) (start .args .table)
+    (sym (c .before .has-ample-room .ensures) ∙ c .if1 .taken)))
     (λ c. search needs)
     (λ c. search needs)
     (λ c κs. search needs)

@@ -24,7 +24,8 @@ roman-value-spec =
     (λ c κs. search needs)
     (λ c.
     let at-loop = c .before .before .before .before in
-    foreign (at-loop .before .before .args .s .now) (at-loop .loop .i) (c .before .letter-value .result) (omega arith) (omega arith) (c .before .letter-value .ensures .0) (c .if1 .taken))
+    foreign (at-loop .before .before .args .s .now) (at-loop .loop .i) (c .before .letter-value .result) (omega arith) (omega arith)
+    (c .before .letter-value .ensures .0) (c .if1 .taken))
     (λ c κs. search needs)
     (λ c. search needs)
     (λ c. search needs)
@@ -40,8 +41,10 @@ roman-value-spec =
     (c .before .subtracted .ensures) (c .larger-of .ensures))
     (λ c.
     let at-loop = c .before .before in
-    summed-all (at-loop .before .before .args .s .now) (at-loop .loop .i) (at-loop .loop .add) (at-loop .loop .sub) (at-loop .loop .most) (at-loop .loop .inv) (omega arith))
+    summed-all (at-loop .before .before .args .s .now) (at-loop .loop .i) (at-loop .loop .add) (at-loop .loop .sub) (at-loop .loop .most)
+    (at-loop .loop .inv) (omega arith))
     (λ c.
     let at-loop = c .before .before in
     let z : 0 ≡ at-loop .loop .add - at-loop .loop .sub = omega arith in
-    z ∙ summed-all (at-loop .before .before .args .s .now) (at-loop .loop .i) (at-loop .loop .add) (at-loop .loop .sub) (at-loop .loop .most) (at-loop .loop .inv) (omega arith)))
+    z ∙ summed-all (at-loop .before .before .args .s .now) (at-loop .loop .i) (at-loop .loop .add) (at-loop .loop .sub) (at-loop .loop .most)
+    (at-loop .loop .inv) (omega arith)))

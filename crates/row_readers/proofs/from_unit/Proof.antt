@@ -36,7 +36,8 @@ returns-2 c =
     let s = at-split-unit .before .before .before .before .args .name .now in
     let n = take (unitAt s) s in
     let u = other (unitWord (unitPart s)) in
-    let w = unit-word s (at-split-unit .split-unit .ensures) (at-if1 .if1 .left) (at-word-number .before .unit-index .ensures) (at-word-number .word-number .ensures) in
+    let w = unit-word s (at-split-unit .split-unit .ensures) (at-if1 .if1 .left) (at-word-number .before .unit-index .ensures)
+    (at-word-number .word-number .ensures) in
     says-row _ Unit (cardinal n ++ u ∷ []) (rw (unit-there s (at-split-unit .split-unit .ensures) (at-if1 .if1 .left))) _
     (c .name-read2 .ensures .0)
     (rw (c .name-read2 .ensures .1)

@@ -22,7 +22,8 @@ use Rattle.row_readers.proofs.read_by_row.Tie as tie
 
 returns : tie.Need-returns
 unfolding readStep
-returns c = says-row _ Empty [] (read-eq _ ∙ rw (eq-eqb _ _ (c .before .if1 .taken))) _ (c .name-read .ensures .0) (rw (c .name-read .ensures .1) (unfold spelled emitAll in refl))
+returns c = says-row _ Empty [] (read-eq _ ∙ rw (eq-eqb _ _ (c .before .if1 .taken))) _ (c .name-read .ensures .0)
+    (rw (c .name-read .ensures .1) (unfold spelled emitAll in refl))
 
 returns-2 : tie.Need-returns-2
 unfolding readStep

@@ -10,7 +10,8 @@ use Rattle.sentences.proofs.is_sentence_break.Tie as tie
 
 returns : tie.Need-returns
 unfolding breakAfter
-returns c = rw (lt-ltb 1 (countb (only (code "\n")) (c .before .before .before .before .args .whitespace .now)) (rw (c .before .count-of .ensures) at (c .if1 .taken)))
+returns c = rw (lt-ltb 1 (countb (only (code "\n")) (c .before .before .before .before .args .whitespace .now))
+    (rw (c .before .count-of .ensures) at (c .if1 .taken)))
 
 returns-2 : tie.Need-returns-2
 unfolding breakAfter

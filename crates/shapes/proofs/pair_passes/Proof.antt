@@ -21,4 +21,5 @@ pair-passes-spec =
     (λ c. rw (c .before .before .match .keys3, c .before .is-digits .ensures, c .is-digits2 .ensures))
     (λ c.
     let start = c .before .before .before in
-    rw (List·getD-eq-default (isPhoneParts ∷ isHourMinute ∷ areDigits ∷ []) (λ a b. false) {n = start .args .test} (none-of (start .args .test) 3 (c .match .rest)))))
+    rw (List·getD-eq-default (isPhoneParts ∷ isHourMinute ∷ areDigits ∷ []) (λ a b. false) {n = start .args .test}
+    (none-of (start .args .test) 3 (c .match .rest)))))

@@ -12,7 +12,13 @@ returns-2 : tie.Need-returns-2
 unfolding splitOnce
 returns-2 c =
     let at-front = c .before .before in
-    rw (← at-front .before .before .span-of .ensures, lt-ltb _ _ (at-front .before .if1 .left), c .pair-passes .ensures, at-front .front .ensures, c .before .tail .ensures)
+    rw (
+      ← at-front .before .before .span-of .ensures,
+      lt-ltb _ _ (at-front .before .if1 .left),
+      c .pair-passes .ensures,
+      at-front .front .ensures,
+      c .before .tail .ensures,
+    )
 
 pub split-once-spec : {M : Type 1} → statement M
 split-once-spec =

@@ -9,8 +9,11 @@ returns c =
     let at-say = c .before .before .before .before in
     let at-if1 = at-say .before .before .before .before in
     let p = at-if1 .before .pick in
-    let t = at-if1 .if1 .taken in
-    (rw (t, ← p .ensures .digit) (said-digit (p .result .value) (picked-small _ (p .result) (p .ensures)) _ (at-say .say .ensures)), rw t (p .ensures .others), p .ensures .within)
+    let t = at-if1 .if1 .taken in (
+      rw (t, ← p .ensures .digit) (said-digit (p .result .value) (picked-small _ (p .result) (p .ensures)) _ (at-say .say .ensures)),
+      rw t (p .ensures .others),
+      p .ensures .within,
+    )
 
 pub say-lead-spec : {M : Type 1} → statement M
 say-lead-spec =

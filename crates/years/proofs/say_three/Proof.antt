@@ -23,7 +23,8 @@ returns-2 c =
     let at-if1 = at-say-two .before .before .before in
     let at-say = at-if1 .before .before .before .before .before in
     let start = at-say .before .before .before .before .before in
-    says-more (one (start .args .a) ∷ []) (yearOf (start .args .b ∷ start .args .c ∷ [])) (year-three (start .args .a) (start .args .b) (start .args .c) ∙ rw (at-if1 .if1 .left))
+    says-more (one (start .args .a) ∷ []) (yearOf (start .args .b ∷ start .args .c ∷ []))
+    (year-three (start .args .a) (start .args .b) (start .args .c) ∙ rw (at-if1 .if1 .left))
     _ (said-digit (start .args .a) (start .pre .0) _ (at-say .say .ensures)) (at-say-two .say-two .ensures)
 
 pub say-three-spec : {M : Type 1} → statement M

@@ -7,7 +7,13 @@ returns : tie.Need-returns
 unfolding isFigureClear
 returns c =
     let at-is-plain = c .before .before in
-    rw (at-is-plain .is-plain .ensures, c .is-fraction-clear .ensures, at-is-plain .before .front .ensures, c .before .tail .ensures, at-is-plain .before .before .span-of .ensures)
+    rw (
+      at-is-plain .is-plain .ensures,
+      c .is-fraction-clear .ensures,
+      at-is-plain .before .front .ensures,
+      c .before .tail .ensures,
+      at-is-plain .before .before .span-of .ensures,
+    )
 
 pub is-figure-clear-spec : {M : Type 1} → statement M
 is-figure-clear-spec =

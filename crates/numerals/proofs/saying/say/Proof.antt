@@ -16,4 +16,5 @@ say-spec =
     (λ c.
     let at-put-word = c .before .before .before .before in
     let at-packed = at-put-word .before .before .before .before .before in
-    rw (at-put-word .before .unpacked .ensures, at-packed .packed .ensures, word-packed (at-packed .before .before .before .args .k)) at (at-put-word .put-word .ensures)))
+    rw (at-put-word .before .unpacked .ensures, at-packed .packed .ensures, word-packed (at-packed .before .before .before .args .k)) at
+    (at-put-word .put-word .ensures)))
