@@ -1,4 +1,5 @@
--- That call sheets distinguish their sheets is no empty claim: a sheet with a name of each kind is accepted and made only of clear entries. Assumes nothing.
+-- That call sheets distinguish their sheets is no empty claim: a sheet with a name of each kind is accepted and made only of
+-- clear entries. Assumes nothing.
 use mathlib.Core.Path.{_≡_, refl}
 use mathlib.Core.Bool.{true}
 use mathlib.Core.List.{List}
