@@ -17,7 +17,7 @@ use Rattle.lists.proofs.Table.{same-true}
 use Rattle.lists.proofs.Bools.{or-true-elim}
 use Rattle.shapes.specs.Shapes.{isDigits, isNDigits, splitOnce, isHourMinute, isTime}
 use Rattle.shapes.proofs.Laws.{digits-all, digits-some}
-use Rattle.clear.specs.Clear.{plain, isHour, isMinute, HalfDay, am, pm, Clear, is-time, is-meridiem}
+use Rattle.clear.specs.Clear.{plain, isHour, isMinute, AmPm, am, pm, Clear, is-time, is-meridiem}
 use Rattle.clear.specs.Test.{isPlainTime, isTimeClear, isMeridiemClear, butLastTwo, lastTwo}
 use Rattle.clear.proofs.Cuts.{same-self, same-false, cut-front, cut-back}
 use Rattle.clear.proofs.Figures.{plain-digits}
@@ -110,8 +110,8 @@ time-test h m p q n = rw (plain-test h m p q, minute-of h m p q, same-false m (b
 
 -- ---- with "am" or "pm"
 
-half-day : (s : List ℕ) → (same s (bytes "am") || same s (bytes "pm")) ≡ true → HalfDay s
-half-day s =
+am-pm : (s : List ℕ) → (same s (bytes "am") || same s (bytes "pm")) ≡ true → AmPm s
+am-pm s =
     or-true-elim (same s (bytes "am")) (same s (bytes "pm"))
     (λ k. rw (← same-true s (bytes "am") k) at am)
     (λ k. rw (← same-true s (bytes "pm") k) at pm)
@@ -125,16 +125,16 @@ test-meridiem s h =
     let e : hour n ++ (bytes ":" ++ (minute n ++ lastTwo s)) ≡ s =
     sym (append-assoc (hour n) (bytes ":" ++ minute n) (lastTwo s)) ∙ ap (λ (r : List ℕ). r ++ lastTwo s) (t .whole)
     ∙ take-append-drop (length s - 2) s in
-    rw e at (is-meridiem (hour n) (minute n) (lastTwo s) (t .hours) (t .minutes) (half-day (lastTwo s) (p .0)))
+    rw e at (is-meridiem (hour n) (minute n) (lastTwo s) (t .hours) (t .minutes) (am-pm (lastTwo s) (p .0)))
 
-half-test : (x : List ℕ) → HalfDay x → (length x ≡ 2) × ((same x (bytes "am") || same x (bytes "pm")) ≡ true)
+am-pm-test : (x : List ℕ) → AmPm x → (length x ≡ 2) × ((same x (bytes "am") || same x (bytes "pm")) ≡ true)
 unfolding sameBy
-half-test x am = (refl, refl)
-half-test x pm = (refl, refl)
+am-pm-test x am = (refl, refl)
+am-pm-test x pm = (refl, refl)
 
 -- a time with am or pm passes the test
-pub meridiem-test : (h m x : List ℕ) → isHour h ≡ true → isMinute m ≡ true → HalfDay x → isMeridiemClear (h ++ (bytes ":" ++ (m ++ x))) ≡ true
+pub meridiem-test : (h m x : List ℕ) → isHour h ≡ true → isMinute m ≡ true → AmPm x → isMeridiemClear (h ++ (bytes ":" ++ (m ++ x))) ≡ true
 meridiem-test h m x p q r =
     let t = h ++ (bytes ":" ++ m) in
-    let y = half-test x r in
+    let y = am-pm-test x r in
     rw (← append-assoc h (bytes ":" ++ m) x, cut-front t x 2 (y .0), cut-back t x 2 (y .0), y .1) (plain-test h m p q)

@@ -53,9 +53,9 @@ abbrev pub isMinute : List ℕ → Bool
 isMinute m = isNDigits 2 m && leb (getD m 0 0) (code "5")
 
 -- `"am" or "pm"`
-pub data HalfDay : List ℕ → Type 0 where
-  am : HalfDay (bytes "am")
-  pm : HalfDay (bytes "pm")
+pub data AmPm : List ℕ → Type 0 where
+  am : AmPm (bytes "am")
+  pm : AmPm (bytes "pm")
 
 -- "the right suffix (th after a tens digit 1, else st, nd, rd for 1, 2, 3, else th)"
 abbrev pub suffixFor : ℕ → List ℕ
@@ -89,7 +89,7 @@ pub data Clear : List ℕ → Type 0 where
   -- "plain hour of 1 or 2 digits, colon, minute 01 to 59"
   is-time : (h m : List ℕ) → isHour h ≡ true → isMinute m ≡ true → (m ≡ bytes "00" → ⊥) → Clear (h ++ (bytes ":" ++ m))
   -- `such an hour, colon, minute 00 to 59, then "am" or "pm"`
-  is-meridiem : (h m x : List ℕ) → isHour h ≡ true → isMinute m ≡ true → HalfDay x → Clear (h ++ (bytes ":" ++ (m ++ x)))
+  is-meridiem : (h m x : List ℕ) → isHour h ≡ true → isMinute m ≡ true → AmPm x → Clear (h ++ (bytes ":" ++ (m ++ x)))
   -- "plain digits with the right suffix"
   is-ordinal : (s : List ℕ) → plain s ≡ true → Clear (s ++ suffix s)
   -- "plain digits with the first abbreviation of a unit word in table order": row k is the first with its word

@@ -19,7 +19,7 @@ use Rattle.rows.specs.Rows.{by, clock, clockLetters, readStep, readWith}
 use Rattle.rows.specs.declared.Row.the-variants.{Time, Meridiem}
 use Rattle.rows.proofs.Laws.{step-eq}
 use Rattle.rows.proofs.Taken.{outside, dottedByte, timeByte, dotted-bytes, comma-bytes, time-bytes}
-use Rattle.clear.specs.Clear.{isHour, isMinute, HalfDay, am, pm}
+use Rattle.clear.specs.Clear.{isHour, isMinute, AmPm, am, pm}
 use Rattle.decoder.proofs.Decoded.{DecodedWith}
 use Rattle.clear.proofs.Times.{digit-colon, hour-minute, colon-at}
 use Rattle.decoder.proofs.Dispatch.{decoded}
@@ -77,13 +77,13 @@ time-row word h m p q =
     )
 
 -- am and pm are lowered already, and end in "m"
-half-day-letters : (x : List ℕ) → HalfDay x
+am-pm-lowered : (x : List ℕ) → AmPm x
     → (length x ≡ 2) × ((sameBy toLower x (bytes "am") || sameBy toLower x (bytes "pm")) ≡ true) × (elem (code "m") x ≡ true)
 unfolding sameBy any
-half-day-letters x am = (refl, refl, refl)
-half-day-letters x pm = (refl, refl, refl)
+am-pm-lowered x am = (refl, refl, refl)
+am-pm-lowered x pm = (refl, refl, refl)
 
-module _ (h m x : List ℕ) (p : isHour h ≡ true) (q : isMinute m ≡ true) (d : HalfDay x) where
+module _ (h m x : List ℕ) (p : isHour h ≡ true) (q : isMinute m ≡ true) (d : AmPm x) where
   abbrev time : List ℕ
   time = h ++ (bytes ":" ++ m)
 
@@ -94,7 +94,7 @@ module _ (h m x : List ℕ) (p : isHour h ≡ true) (q : isMinute m ≡ true) (d
   parted = append-assoc h (bytes ":" ++ m) x
 
   whole-length : length whole ≡ length time + 2
-  whole-length = ap length (sym parted) ∙ length-append time x ∙ ap (λ n. length time + n) (half-day-letters x d .0)
+  whole-length = ap length (sym parted) ∙ length-append time x ∙ ap (λ n. length time + n) (am-pm-lowered x d .0)
 
   front : timeOf whole ≡ time
   front = ap (take (length whole - 2)) (sym parted) ∙ take-at time x (length whole - 2) (omega (arith, whole-length))
@@ -112,7 +112,7 @@ module _ (h m x : List ℕ) (p : isHour h ≡ true) (q : isMinute m ≡ true) (d
         front,
         at,
         le-leb 2 (length whole) (omega (arith, whole-length)),
-        half-day-letters x d .1,
+        am-pm-lowered x d .1,
         take-append-seam h (bytes ":" ++ m),
         past-byte h 58 m,
         hour-minute h m p q,
@@ -125,7 +125,7 @@ module _ (h m x : List ℕ) (p : isHour h ≡ true) (q : isMinute m ≡ true) (d
       let (a, b, c) = first-rows h (m ++ x) p in
       let e =
       outside (isTime whole) timeByte (code "m") whole (time-bytes whole) refl
-      (elem-right (code "m") h (bytes ":" ++ (m ++ x)) (elem-right (code "m") (bytes ":" ++ m) x (half-day-letters x d .2))) in
+      (elem-right (code "m") h (bytes ":" ++ (m ++ x)) (elem-right (code "m") (bytes ":" ++ m) x (am-pm-lowered x d .2))) in
       step-eq word whole ∙ rw (a, b, c, e, is-meridiem, front, back, at, take-append-seam h (bytes ":" ++ m), past-byte h 58 m)
 
 -- ---- what is decoded
@@ -136,7 +136,7 @@ time-decoded {word} h m p q n =
     decoded (h ++ (bytes ":" ++ m)) (clock h m) (ap (λ r. r .words) (time-row word h m p q)) (time-read h m q p n)
 
 -- so is every time with am or pm
-pub meridiem-decoded : {word : List ℕ → List ℕ} (h m x : List ℕ) → isHour h ≡ true → isMinute m ≡ true → HalfDay x
+pub meridiem-decoded : {word : List ℕ → List ℕ} (h m x : List ℕ) → isHour h ≡ true → isMinute m ≡ true → AmPm x
     → DecodedWith word (h ++ (bytes ":" ++ (m ++ x)))
 meridiem-decoded {word} h m x p q d =
     decoded (h ++ (bytes ":" ++ (m ++ x))) (clock h m ++ letters x) (ap (λ r. r .words) (meridiem-row h m x p q d word)) (meridiem-read h m q p x d)

@@ -24,7 +24,7 @@ use Rattle.years.specs.Year.{yearOf, year}
 use Rattle.letters.specs.Letters.{chars, letterWord, letters}
 use Rattle.years.proofs.YearLaws.{year-two}
 use Rattle.rows.specs.Rows.{clock}
-use Rattle.clear.specs.Clear.{isHour, isMinute, HalfDay, am, pm}
+use Rattle.clear.specs.Clear.{isHour, isMinute, AmPm, am, pm}
 use Rattle.clear.proofs.Times.{hour-parts}
 use Rattle.decoder.specs.Decode.{parseWord, parseWordIn, parseWords, firstWord, lastWord, isLetterWord, timeLike, decodeTime, decode, isBelowHundred}
 use Rattle.decoder.proofs.DecimalDigits.{digitValues-length}
@@ -86,10 +86,10 @@ module _ (ws : List (List ℕ)) (y : List ℕ) where
   more-length : length more ≡ length ws + 2
   more-length = length-append ws (y ∷ bytes "m" ∷ [])
 
-  decode-half : 1 ≤ length ws → isLetterWord (firstWord ws) ≡ false
+  decode-am-pm : 1 ≤ length ws → isLetterWord (firstWord ws) ≡ false
       → decode more ≡ decodeTime (parseWords ws) ++ ((cond (same y (bytes "p")) (code "p") (code "a") ∷ []) ++ bytes "m")
   unfolding decode sameBy
-  decode-half l f =
+  decode-am-pm l f =
       let first : firstWord more ≡ firstWord ws = List·getD-append ws (y ∷ bytes "m" ∷ []) [] 0 l in
       let last : lastWord more ≡ bytes "m" = ap (λ k. getD more k []) (let e = more-length in omega arith) ∙ getD-append-add ws (y ∷ bytes "m" ∷ []) 1 [] in
       let next : getD more (length more - 2) [] ≡ y =
@@ -97,11 +97,11 @@ module _ (ws : List (List ℕ)) (y : List ℕ) where
       rw (not-single more (let e = more-length in omega arith), first, f, last, next, but-last ws (y ∷ bytes "m" ∷ []))
 
 -- what "am" and "pm" are read as
-half-letters : (x : List ℕ) → HalfDay x
+am-pm-letters : (x : List ℕ) → AmPm x
     → (y : List ℕ) × (spelled (letters x) ≡ y ∷ bytes "m" ∷ []) × ((cond (same y (bytes "p")) (code "p") (code "a") ∷ []) ++ bytes "m" ≡ x)
 unfolding letters letterWord chars spelled spell sameBy
-half-letters x am = (bytes "_a", refl, refl)
-half-letters x pm = (bytes "p", refl, refl)
+am-pm-letters x am = (bytes "_a", refl, refl)
+am-pm-letters x pm = (bytes "p", refl, refl)
 
 module _ (h m : List ℕ) (q : isMinute m ≡ true) where
   clock-words : Every TimeWord (clock h m)
@@ -153,12 +153,12 @@ module _ (h m : List ℕ) (q : isMinute m ≡ true) where
         ) (time-words-decoded h m p q)
 
   -- and before "_a" or "p" and "m" with or without one
-  pub meridiem-read : isHour h ≡ true → (x : List ℕ) → HalfDay x → decode (spelled (clock h m ++ letters x)) ≡ h ++ (bytes ":" ++ (m ++ x))
+  pub meridiem-read : isHour h ≡ true → (x : List ℕ) → AmPm x → decode (spelled (clock h m ++ letters x)) ≡ h ++ (bytes ":" ++ (m ++ x))
   unfolding numberWords consecutiveWords spell unfoldVocabulary all
   meridiem-read p x d =
       let ws = spelled (clock h m) in
       let l : 1 ≤ length (clock h m) = some-clock h m p in
-      let (y, e, f) = half-letters x d in
+      let (y, e, f) = am-pm-letters x d in
       ap decode (spelled-append (clock h m) (letters x) ∙ ap (λ (v : List (List ℕ)). ws ++ v) e)
-      ∙ decode-half ws y (rw (spelled-length (clock h m)) l) (clock-fails isLetterWord refl refl 0 l)
+      ∙ decode-am-pm ws y (rw (spelled-length (clock h m)) l) (clock-fails isLetterWord refl refl 0 l)
       ∙ rw (clock-parsed, time-words-decoded h m p q, f) (append-assoc h (bytes ":" ++ m) x)

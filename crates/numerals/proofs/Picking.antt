@@ -11,7 +11,7 @@ use borrow.Author.Tests.{le-leb, lt-leb}
 use Rattle.lists.proofs.Sets.{le-or-lt}
 use Rattle.numerals.specs.Cardinal.{digitValues, digitValue}
 use Rattle.numerals.specs.Walk.{padded, firstDigits}
-use Rattle.numerals.specs.declared.digits.FirstDigits.{FirstDigits}
+use Rattle.numerals.specs.declared.pick.FirstDigits.{FirstDigits}
 use Rattle.numerals.proofs.Digits.{digitValues-append, digitValues-at, digitValues-digit}
 
 -- up to k values stand in front
@@ -68,7 +68,7 @@ module _ (s d : List ℕ) (n i : ℕ) (h : i < length s) (p : PickedDigits s d n
         }
 
     -- where twelve are picked, there are more
-    pub pick-beyond : n ≡ 12 → record { d = d; n = 13 } ≡ firstDigits s
+    pub pick-beyond : n ≡ 12 → record { values = d; count = 13 } ≡ firstDigits s
     unfolding firstDigits
     pick-beyond k =
         let ds = digitValues (take i s) in
@@ -79,7 +79,7 @@ module _ (s d : List ℕ) (n i : ℕ) (h : i < length s) (p : PickedDigits s d n
         rw (lt-leb (length (digitValues s)) 12 l, e, padded-full 12 ds (b ∷ r) (omega (arith, p .count)), p .values)
 
 -- at the end all are picked
-pub pick-end : (s d : List ℕ) (n i : ℕ) → length s ≤ i → PickedDigits s d n i → record { d = d; n = n } ≡ firstDigits s
+pub pick-end : (s d : List ℕ) (n i : ℕ) → length s ≤ i → PickedDigits s d n i → record { values = d; count = n } ≡ firstDigits s
 unfolding firstDigits
 pick-end s d n i h p =
     let t : take i s ≡ s = take-all i s h in
@@ -90,19 +90,19 @@ pick-end s d n i h p =
 
 module _ (s : List ℕ) (f : FirstDigits) (e : f ≡ firstDigits s) where
   -- up to twelve digits are all there
-  pub firstDigits-digits : length (digitValues s) ≤ 12 → take (f .n) (f .d) ≡ digitValues s
+  pub firstDigits-digits : length (digitValues s) ≤ 12 → take (f .count) (f .values) ≡ digitValues s
   unfolding firstDigits
   firstDigits-digits h = rw (e, le-leb (length (digitValues s)) 12 h) (padded-front 12 (digitValues s) h)
 
   -- the number tells whether there are more
-  pub firstDigits-more : 12 < f .n → 12 < length (digitValues s)
+  pub firstDigits-more : 12 < f .count → 12 < length (digitValues s)
   unfolding firstDigits
   firstDigits-more h =
       ⊎-elim (λ (l : length (digitValues s) ≤ 12). absurd (omega (arith, rw (e, le-leb (length (digitValues s)) 12 l) at h)))
       (λ (l : 12 < length (digitValues s)). l)
       (le-or-lt (length (digitValues s)) 12)
 
-  pub firstDigits-all : f .n ≤ 12 → length (digitValues s) ≤ 12
+  pub firstDigits-all : f .count ≤ 12 → length (digitValues s) ≤ 12
   unfolding firstDigits
   firstDigits-all h =
       ⊎-elim (λ (l : length (digitValues s) ≤ 12). l)

@@ -9,7 +9,7 @@ use Rattle.vocabulary.specs.Vocabulary.{wordOf, onesAt, teensAt, tensAt, scales
 use Rattle.word_writer.specs.Writer.{Writer, writer, emit}
 use Rattle.numerals.specs.Words.{Word, one, teen, ten, hundred, scale, other}
 use Rattle.numerals.specs.Cardinal.{digitValues}
-use Rattle.numerals.specs.declared.digits.FirstDigits.{FirstDigits}
+use Rattle.numerals.specs.declared.pick.FirstDigits.{FirstDigits}
 use Rattle.numerals.specs.declared.held.Held.{Held}
 
 -- values of digits: each is below ten
@@ -24,7 +24,7 @@ padded (suc k) (d ∷ ds) = d ∷ padded k ds
 
 -- the values of a text's first twelve digits, and how many digits it has, 13 where they are more
 unfoldable pub firstDigits : List ℕ → FirstDigits
-firstDigits s = record { d = padded 12 (digitValues s); n = cond (leb (length (digitValues s)) 12) (length (digitValues s)) 13 }
+firstDigits s = record { values = padded 12 (digitValues s); count = cond (leb (length (digitValues s)) 12) (length (digitValues s)) 13 }
 
 -- a word's number in the vocabulary
 unfoldable pub numberOf : Word → ℕ

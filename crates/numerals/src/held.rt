@@ -74,11 +74,11 @@ pub fn hold_hundreds(d: u8, store: &mut [u8], table: &mut [u8], h: Held) -> Held
 }
 
 // The word of scale k, nothing where what stands before it has no words.
-pub fn hold_scale(no_words: bool, k: u8, store: &mut [u8], table: &mut [u8], h: Held) -> Held
+pub fn hold_scale(wordless: bool, k: u8, store: &mut [u8], table: &mut [u8], h: Held) -> Held
     ensures { λ r. ⌜ held (now (store .exit)) (now (table .exit)) r
-        ≡ holdWords (map numberOf (cond no_words [] (scale k ∷ []))) (held (now (store .entry)) (now (table .entry)) h) ⌝ }
+        ≡ holdWords (map numberOf (cond wordless [] (scale k ∷ []))) (held (now (store .entry)) (now (table .entry)) h) ⌝ }
 {
-    if no_words {
+    if wordless {
         return h;
     }
     hold(HUNDRED + k as usize, store, table, h)

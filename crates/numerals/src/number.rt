@@ -1,6 +1,4 @@
 // Cardinal and ordinal numbers.
-use crate::digits::MAX_CARDINAL_DIGITS;
-use crate::digits::first_digits;
 use crate::held::Held;
 use crate::held::NONE;
 use crate::held::flush;
@@ -9,6 +7,8 @@ use crate::held::hold_hundreds;
 use crate::held::hold_pair;
 use crate::held::hold_scale;
 use crate::held::ordinal_number;
+use crate::pick::MAX_CARDINAL_DIGITS;
+use crate::pick::first_digits;
 use crate::saying::digit_value;
 use crate::saying::say;
 use crate::saying::say_digits;

@@ -18,7 +18,7 @@ use Rattle.vocabulary.proofs.Laws.{unfoldVocabulary}
 use Rattle.numerals.specs.Words.{Word, one, hundred, other, spelled}
 use Rattle.numerals.specs.Cardinal.{digitValue, digitValues, pairWords, shortCardinal, cardinalOf}
 use Rattle.numerals.specs.Walk.{BelowTen, firstDigits}
-use Rattle.numerals.specs.declared.digits.FirstDigits.{FirstDigits}
+use Rattle.numerals.specs.declared.pick.FirstDigits.{FirstDigits}
 use Rattle.numerals.proofs.Digits.{spelled-append}
 use Rattle.numerals.proofs.Cardinal.{cardinal-2}
 use Rattle.numerals.proofs.NumberWords.{digitValues-below-ten, digit-at}
@@ -197,7 +197,7 @@ module _ (s : List ℕ) (i n left : ℕ) (e : left ≡ length (digitValues (drop
   year-at h = ap spelled (year-long (digitValues (drop i s)) left e h) ∙ rw (spelled-append, digitValues-after)
 
 -- the last digits, at most four
-pub year-last : (s : List ℕ) (left : ℕ) → left ≡ length (digitValues s) → left ≤ 4 → (f : FirstDigits) → f ≡ firstDigits s → {t : List ℕ} → t ≡ take (f .n) (f .d)
+pub year-last : (s : List ℕ) (left : ℕ) → left ≡ length (digitValues s) → left ≤ 4 → (f : FirstDigits) → f ≡ firstDigits s → {t : List ℕ} → t ≡ take (f .count) (f .values)
     → (length t ≤ 4) × BelowTen t × (yearOf t ≡ year s)
 unfolding year
 year-last s left e h f q u =

@@ -43,6 +43,6 @@ say-ordinal-spec =
     let f = at-first-digits .first-digits in
     let n = firstDigits-all s (f .result) (f .ensures) (at-if1 .if1 .left) in
     let σ = writer (start .args .store .now) (start .args .table .now) (start .args .cursor) in
-    ordinal-said s (take (f .result .n) (f .result .d)) σ (firstDigits-digits s (f .result) (f .ensures) n) n
+    ordinal-said s (take (f .result .count) (f .result .values)) σ (firstDigits-digits s (f .result) (f .ensures) n) n
     (rw (at-front .front .ensures) at (at-hold-cardinal .hold-cardinal .ensures)) _ (at-ordinal-number .ordinal-number .ensures)
     (at-say .say .ensures)))

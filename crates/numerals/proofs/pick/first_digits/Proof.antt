@@ -9,8 +9,8 @@ use Rattle.numerals.specs.Walk.{padded}
 use Rattle.numerals.proofs.Digits.{digitValues-low, digitValues-high}
 use Rattle.numerals.proofs.Picking.{PickedDigits, pick-none, pick-digit, pick-beyond, pick-end}
 use borrow.Author.Needs.{needs}
-use Rattle.numerals.proofs.digits.first_digits.Statement.{statement}
-use Rattle.numerals.proofs.digits.first_digits.Tie as tie
+use Rattle.numerals.proofs.pick.first_digits.Statement.{statement}
+use Rattle.numerals.proofs.pick.first_digits.Tie as tie
 
 abbrev Inv-loop : tie.InvT-loop
 Inv-loop s values₀ count₀ i₀ values count i = PickedDigits s values count i
