@@ -27,7 +27,7 @@ module _ (r : SayAs) (s store table : List ℕ) (accepted : wordsCall s (spelled
   short-store : length (flatten words) < 256 ^ 4
   short-store =
       let k = both-passed (textTests textLimit (s ∷ [])) (BufferTooShort when tooShort words store table ∷ []) (none-held s words store table accepted) .0 in
-      omega (arith, room-counts (words-room r s), text-valid textLimit s k .short)
+      omega (arith, room-counts (words-room r s), text-valid textLimit s k .within-limit)
 
   -- its counts are those of the words and of their bytes
   pub count-read : (given .words ≡ length words) × (given .bytes ≡ length (flatten words))

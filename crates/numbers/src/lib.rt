@@ -7,7 +7,6 @@ use numerals::number::say_cardinal;
 use numerals::number::say_ordinal;
 use numerals::saying::say_digits;
 use reals::say_real;
-use roman::roman_value;
 use word_writer::Cursor;
 use word_writer::WordCounts;
 use years::say_year;
@@ -152,6 +151,6 @@ pub fn roman_value(s: &[u8]) -> RomanValue
     }
     RomanValue {
         refusal: 0,
-        value: roman_value(s),
+        value: roman::roman_value(s),
     }
 }

@@ -9,5 +9,5 @@ pub roman-value-spec : {M : Type 1} → statement M
 roman-value-spec =
     tie.close
     (tie.spec (λ c κs. search needs) (λ c. call-refused _ _ _ _ (c .if1 .taken) (c .before .refusal-of .ensures))
-    (λ c κs. text-valid textLimit (c .before .before .before .args .s .now) (sym (c .before .refusal-of .ensures) ∙ c .if1 .left) .short)
+    (λ c κs. text-valid textLimit (c .before .before .before .args .s .now) (sym (c .before .refusal-of .ensures) ∙ c .if1 .left) .within-limit)
     (λ c. call-accepted _ _ _ _ (rw (c .before .if1 .left) at (c .before .before .refusal-of .ensures)) (c .roman-value .ensures)))
