@@ -44,13 +44,13 @@ static const char some_sheet[] =
     "\n"
     "then yahoo! once more ? \" and ended. Rest (";
 
-typedef hwk_words reader(const uint8_t *s, size_t s_len, uint8_t *store, size_t store_len, uint8_t *table, size_t table_len);
+typedef hwk_words reading(const uint8_t *s, size_t s_len, uint8_t *store, size_t store_len, uint8_t *table, size_t table_len);
 
 /* How a name of a shape is read aloud. A name may have several shapes, and then has several readings. */
 static const struct {
     hwk_verdict (*shape)(const uint8_t *s, size_t s_len);
     const char *name;
-    reader *read;
+    reading *read;
 } readings[] = {
     {hwk_is_digits, "as a cardinal", hwk_cardinal},
     {hwk_is_comma_int, "as a cardinal", hwk_cardinal},
@@ -87,7 +87,7 @@ static void print_part(const char *label, const uint8_t *start, size_t len)
 }
 
 /* The words are parts of the store; the table tells where each starts and how long it is. */
-static void print_words(const char *label, reader *read, const uint8_t *text, size_t len)
+static void print_words(const char *label, reading *read, const uint8_t *text, size_t len)
 {
     uint8_t store[HWK_WORDS_STORE_MOST(CALLED_MOST)], table[HWK_WORDS_TABLE_MOST(CALLED_MOST)];
     hwk_words words = read(text, len, store, sizeof store, table, sizeof table);

@@ -86,9 +86,9 @@ static void check_words(void)
     assert(most == HWK_UNIT_WORD_MOST);
 }
 
-typedef hwk_words reader(const uint8_t *s, size_t s_len, uint8_t *store, size_t store_len, uint8_t *table, size_t table_len);
+typedef hwk_words reading(const uint8_t *s, size_t s_len, uint8_t *store, size_t store_len, uint8_t *table, size_t table_len);
 
-static reader *const readers[] = {hwk_cardinal, hwk_ordinal, hwk_year, hwk_digits, hwk_real, hwk_letters};
+static reading *const readings[] = {hwk_cardinal, hwk_ordinal, hwk_year, hwk_digits, hwk_real, hwk_letters};
 
 /* Texts with as many words, or as many bytes of them, as texts of their length can have. */
 static const char *const longest[] = {"", "7", "77", "777", "7777", "7777777", "7777777777", "-777777777777", "aaaa", "-----",
@@ -99,9 +99,9 @@ static void check_room(void)
 {
     static uint8_t store[HWK_WORDS_STORE_MOST(64)], table[HWK_WORDS_TABLE_MOST(64)];
     for (size_t i = 0; i < sizeof longest / sizeof longest[0]; i++) {
-        for (size_t k = 0; k < sizeof readers / sizeof readers[0]; k++) {
+        for (size_t k = 0; k < sizeof readings / sizeof readings[0]; k++) {
             size_t len = strlen(longest[i]), end = 0;
-            hwk_words read = readers[k]((const uint8_t *)longest[i], len, store, HWK_WORDS_STORE_MOST(len), table,
+            hwk_words read = readings[k]((const uint8_t *)longest[i], len, store, HWK_WORDS_STORE_MOST(len), table,
                                         HWK_WORDS_TABLE_MOST(len));
             assert(read.refusal == HWK_ACCEPTED);
             for (size_t w = 0; w < read.words; w++) {

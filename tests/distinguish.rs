@@ -28,12 +28,12 @@ const WORDS: &[&str] = &[
 /// Every clear name of a few pieces: no two have the same line.
 pub fn names(comparison: &mut Comparison) {
     comparison.begin("clear names, no two called alike");
-    let mut heard: HashMap<Vec<u8>, Vec<u8>> = HashMap::new();
+    let mut names_by_line: HashMap<Vec<u8>, Vec<u8>> = HashMap::new();
     let mut visit = |text: &[u8]| {
         if std::str::from_utf8(text).is_ok_and(clear::is_clear) {
             comparison.with(text, 0, |comparison, lent| {
                 let line = comparison.sheet_of(lent);
-                let first = heard.entry(line).or_insert_with(|| text.to_vec());
+                let first = names_by_line.entry(line).or_insert_with(|| text.to_vec());
                 comparison.settle(lent, format_args!("the name of this line"), text, &first[..]);
             });
         }

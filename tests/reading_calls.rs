@@ -7,7 +7,7 @@ use crate::howhakiru;
 use crate::readings::{self, Reading};
 use crate::shape_calls::SHAPES;
 
-/// How many there are: the readers with words, which come first, and roman_value.
+/// How many there are: the readings with words, which come first, and roman_value.
 pub const READING_CALLS: usize = howhakiru::READINGS.len() + 1;
 
 /// Three of them, as `one_call` numbers the calls.

@@ -22,7 +22,7 @@ pub struct Number {
 
 pub type Read = fn(&str) -> Vec<String>;
 
-/// The readers, in the order of the header.
+/// The readings, in the order of the header.
 pub const READINGS: [(&str, Read); 6] = [
     ("cardinal", numbers::cardinal),
     ("ordinal", numbers::ordinal),

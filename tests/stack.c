@@ -14,7 +14,7 @@
 #define PERCENT_MOST (512 << 10) /* and on all sheets */
 
 typedef hwk_verdict verdict(const uint8_t *s, size_t s_len);
-typedef hwk_words reader(const uint8_t *s, size_t s_len, uint8_t *store, size_t store_len, uint8_t *table, size_t table_len);
+typedef hwk_words reading(const uint8_t *s, size_t s_len, uint8_t *store, size_t store_len, uint8_t *table, size_t table_len);
 
 static verdict *const verdicts[] = {
     hwk_is_digits, hwk_is_alpha, hwk_is_double, hwk_is_comma_int, hwk_is_ordinal, hwk_is_us_money, hwk_is_illion,
@@ -22,7 +22,7 @@ static verdict *const verdicts[] = {
     hwk_is_dotted_abbrev, hwk_is_digits_slash_digits, hwk_is_digits_dash_digits,
 };
 
-static reader *const readers[] = {hwk_cardinal, hwk_ordinal, hwk_year, hwk_digits, hwk_real, hwk_letters};
+static reading *const readings[] = {hwk_cardinal, hwk_ordinal, hwk_year, hwk_digits, hwk_real, hwk_letters};
 
 static const char *const names[] = {
     "", "9:30am", "5kg", "kg", "mm", "-1.5e+10", "1,234,567", "U.S.A.", "1998-1999", "caf\xc3\xa9", "\xed\xa0\x80", "XIV",
@@ -45,8 +45,8 @@ static void n_digits(void) { hwk_is_n_digits(text, text_len, 4); }
 static void split_time(void) { hwk_split_time_meridiem(text, text_len); }
 static void split_unit(void) { hwk_split_unit(text, text_len); }
 static void unit_word(void) { hwk_unit_word(text, text_len, store, sizeof store); }
-static void one_reader(void) { readers[which](text, text_len, store, sizeof store, table, sizeof table); }
-static void measured(void) { readers[which](text, text_len, store, 0, table, 0); } /* before it is refused */
+static void one_reading(void) { readings[which](text, text_len, store, sizeof store, table, sizeof table); }
+static void measured(void) { readings[which](text, text_len, store, 0, table, 0); } /* before it is refused */
 static void roman_value(void) { hwk_roman_value(text, text_len); }
 static void tokenize(void) { hwk_tokenize(text, text_len, store, sizeof store); }
 static void sentences(void) { hwk_sentences(text, text_len, table, sizeof table); }
@@ -88,8 +88,8 @@ static size_t most_of_calls(void)
     size_t most = 0;
 
     for (which = 0; which < sizeof verdicts / sizeof verdicts[0]; which++) most = larger(most, touched(one_verdict));
-    for (which = 0; which < sizeof readers / sizeof readers[0]; which++) most = larger(most, touched(one_reader));
-    for (which = 0; which < sizeof readers / sizeof readers[0]; which++) most = larger(most, touched(measured));
+    for (which = 0; which < sizeof readings / sizeof readings[0]; which++) most = larger(most, touched(one_reading));
+    for (which = 0; which < sizeof readings / sizeof readings[0]; which++) most = larger(most, touched(measured));
     most = larger(most, touched(roman_value));
     most = larger(most, touched(tokenize));
     most = larger(most, touched(sentences));
