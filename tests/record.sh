@@ -13,7 +13,7 @@ rustc --edition 2021 -C opt-level=1 -o target/compare/record tests/record.rs \
 target/compare/record "$folder"
 
 if [ $# -eq 0 ]; then
-    cp "$folder/patterns.txt" crates/replay/data/
+    cp "$folder/patterns.txt" crates/replay_patterns/data/
     cp "$folder/numbers.txt" crates/replay_numbers/data/
     cp "$folder/tokens.txt" crates/replay_tokens/data/
     cp "$folder/calls.txt" crates/replay_calls/data/

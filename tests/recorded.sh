@@ -14,7 +14,7 @@ elif [ "$status" -ne 0 ]; then
     exit "$status"
 fi
 
-for recorded in crates/replay/data/patterns.txt crates/replay_numbers/data/numbers.txt crates/replay_tokens/data/tokens.txt \
+for recorded in crates/replay_patterns/data/patterns.txt crates/replay_numbers/data/numbers.txt crates/replay_tokens/data/tokens.txt \
     crates/replay_calls/data/calls.txt; do
     if ! cmp "$recorded" "$anew/${recorded##*/}"; then
         echo "recorded: $recorded is not what the Rust answers; tests/record.sh writes it anew"
