@@ -38,11 +38,11 @@ module _ (e : SheetEntry) (old : List ℕ) where
     unfolding nameCall
     line-short t q = rw (q, le-ltb nameLimit (length (e .name)) h, t)
 
-    pub line-given : ltb (length old) (length (lineOf e)) ≡ false → length old < usizeMax → (t t₀ : List ℕ) {new : List ℕ} {p p₀ : Cursor} {r : Row}
+    pub line-result : ltb (length old) (length (lineOf e)) ≡ false → length old < usizeMax → (t t₀ : List ℕ) {new : List ℕ} {p p₀ : Cursor} {r : Row}
         → p₀ ≡ spacedCursor → writer new t p ≡ lineTo e (writer old t₀ p₀) → r ≡ read (e .name) .row
         → asEntry (record { refusal = 0; entry = record { row = r }; words = p .words; bytes = p .at }) new ≡ nameCall e old
     unfolding nameCall
-    line-given f small t t₀ {new} {p} start q d =
+    line-result f small t t₀ {new} {p} start q d =
         let g = written-lines (wrote-line e) (line-words e) new t old t₀ start q f small in
         rw (le-ltb nameLimit (length (e .name)) h, f)
         (λ j.
@@ -76,11 +76,11 @@ module _ (s old : List ℕ) {n : ℕ} (refusal-eq : n ≡ textRefusal textLimit 
   unfolding sheetCall
   sheet-short z l t q = rw (q, passed-first text later refusal-eq z, l, t)
 
-  pub sheet-given : n ≡ 0 → anyLong (entries s) ≡ false → isShort ≡ false → length old < usizeMax → (t t₀ : List ℕ) {new : List ℕ} {p : Cursor} {k : ℕ}
+  pub sheet-result : n ≡ 0 → anyLong (entries s) ≡ false → isShort ≡ false → length old < usizeMax → (t t₀ : List ℕ) {new : List ℕ} {p : Cursor} {k : ℕ}
       → k ≡ length (tokens s) → writer new t p ≡ linesTo (entries s) (writer old t₀ spacedCursor)
       → asSheet (record { refusal = 0; tokens = k; words = p .words; bytes = p .at }) new ≡ sheetCall s old
   unfolding sheetCall
-  sheet-given z l f small t t₀ {new} {p} c q =
+  sheet-result z l f small t t₀ {new} {p} c q =
       let g = written-lines (wrote-lines (entries s)) (lines-words (entries s)) new t old t₀ refl q f small in
       rw (passed-first text later refusal-eq z, l, f) (λ j. record { refusal = 0; value = record { tokens = c j; words = g .1 j; bytes = g .0 j; buffer = g .2 j } })
 

@@ -12,10 +12,10 @@ use lib.Seq.{sets}
 use borrow.Author.Tests.{ltb-false, le-ltb, lt-ltb}
 use Rattle.lists.specs.Bytes.{bytes, overwrite}
 use Rattle.lists.proofs.Sets.{sets-append, sets-front, le-or-lt}
-use Rattle.word_writer.specs.Writer.{usizeMax, Writer, writer, putByte, emit, emitAll}
+use Rattle.word_writer.specs.Writer.{usizeMax, Writer, writer, putByte, putWord, putWords}
 use Rattle.word_writer.specs.Words.{spacedCursor}
 use Rattle.word_writer.specs.declared.Cursor.{Cursor}
-use Rattle.word_writer.proofs.Finish.{storeBy, emitAll-at, emitAll-words, emitAll-is}
+use Rattle.word_writer.proofs.Finish.{storeBy, putWords-at, putWords-words, putWords-is}
 use Rattle.call_spec.specs.Sheet.{SheetEntry, wordsOf, mark, spacedWords, lineOf, countWords}
 use Rattle.calls.specs.Walk.{lineTo, linesTo}
 
@@ -65,25 +65,25 @@ unfolding storeBy spacedWords
 store-spaced [] = refl
 store-spaced (w ∷ ws) = ap (λ (r : List ℕ). bytes " " ++ (w ++ r)) (store-spaced ws)
 
-emitAll-spaced : (ws : List (List ℕ)) (s : Writer) → emitAll ws s .spaced ≡ s .spaced
-unfolding emitAll emit
-emitAll-spaced [] s = refl
-emitAll-spaced (w ∷ ws) s = emitAll-spaced ws (emit w s)
+putWords-spaced : (ws : List (List ℕ)) (s : Writer) → putWords ws s .spaced ≡ s .spaced
+unfolding putWords putWord
+putWords-spaced [] s = refl
+putWords-spaced (w ∷ ws) s = putWords-spaced ws (putWord w s)
 
-wrote-words : (ws : List (List ℕ)) {s : Writer} → LineWriter s → Wrote (spacedWords ws) (length ws) s (emitAll ws s)
+wrote-words : (ws : List (List ℕ)) {s : Writer} → LineWriter s → Wrote (spacedWords ws) (length ws) s (putWords ws s)
 wrote-words ws {s} l =
     let e : storeBy (s .spaced) ws ≡ spacedWords ws = ap (λ (g : Bool). storeBy g ws) (l .spaced) ∙ store-spaced ws in
-    let a : emitAll ws s .at ≡ min (s .at + length (spacedWords ws)) usizeMax = rw e at (emitAll-at ws s (l .at)) in
-    let w : emitAll ws s .words ≡ min (s .words + length ws) usizeMax = emitAll-words ws s (l .words) in
+    let a : putWords ws s .at ≡ min (s .at + length (spacedWords ws)) usizeMax = rw e at (putWords-at ws s (l .at)) in
+    let w : putWords ws s .words ≡ min (s .words + length ws) usizeMax = putWords-words ws s (l .words) in
     record {
-      line = record { spaced = emitAll-spaced ws s ∙ l .spaced; at = omega arith; words = omega arith };
+      line = record { spaced = putWords-spaced ws s ∙ l .spaced; at = omega arith; words = omega arith };
       at = a;
       words = w;
-      store = λ h h′. ap (λ (q : Writer). q .store) (emitAll-is ws s (rw e h) h′) ∙ ap (sets (s .store) (s .at)) e;
+      store = λ h h′. ap (λ (q : Writer). q .store) (putWords-is ws s (rw e h) h′) ∙ ap (sets (s .store) (s .at)) e;
     }
 
 -- the line in the code's steps
-pub line-said : (e : SheetEntry) {b : ℕ} (σ ρ ς : Writer) {τ : Writer} → b ≡ mark (e .starts) → ρ ≡ putByte b σ → ς ≡ emitAll (wordsOf e) ρ
+pub line-said : (e : SheetEntry) {b : ℕ} (σ ρ ς : Writer) {τ : Writer} → b ≡ mark (e .starts) → ρ ≡ putByte b σ → ς ≡ putWords (wordsOf e) ρ
     → τ ≡ putByte (code "\n") ς → τ ≡ lineTo e σ
 unfolding lineTo
 line-said e σ ρ ς m a w n = rw (n, w, a, m)
@@ -127,7 +127,7 @@ lines-words [] = omega arith
 lines-words (e ∷ es) = omega (arith, line-words e, lines-words es, length-append (lineOf e) (flatten (map lineOf es)))
 
 -- from the start of a buffer on; every word takes a byte at least
-module _ {b : List ℕ} {n : ℕ} {f : Writer → Writer} (w : Writes b n f) (few : n ≤ length b) (x y x₀ y₀ : List ℕ) {p p₀ : Cursor}
+module _ {b : List ℕ} {n : ℕ} {f : Writer → Writer} (w : Writes b n f) (words-fit : n ≤ length b) (x y x₀ y₀ : List ℕ) {p p₀ : Cursor}
     (start : p₀ ≡ spacedCursor) (q : writer x y p ≡ f (writer x₀ y₀ p₀)) where
   all-wrote : Wrote b n (writer x₀ y₀ spacedCursor) (writer x y p)
   all-wrote =

@@ -11,10 +11,10 @@ use lib.Dec.{ltb, eqb}
 use lib.ListN.{length, take, drop, getD, length-append, length-take, length-drop, length-map}
 use lib.Seq.{getD-drop}
 use borrow.Author.Tests.{not-false, le-ltb, ltb-true}
-use Rattle.lists.specs.Bytes.{bytes, filterb, toLower, endsWith, all, any, span, same, sameBy}
+use Rattle.lists.specs.Bytes.{bytes, filterIf, toLower, endsWith, all, any, span, same, sameBy}
 use Rattle.lists.specs.Classes.{whitespace, nonWhitespace, except}
 use Rattle.lists.proofs.Recursion.{recur-induct, cond-elim}
-use Rattle.lists.proofs.Scan.{filterb-le, span-some, span-fails}
+use Rattle.lists.proofs.Scan.{filterIf-le, span-some, span-fails}
 use Rattle.lists.proofs.Sets.{le-or-lt}
 use Rattle.admit.specs.Utf8.{utf8}
 use Rattle.admit.specs.Refusals.{refusalNumber, firstRefusal, textLimit, textTests, Call, call}
@@ -112,7 +112,7 @@ read-room word short = recur-induct (λ s g. RoomFor (length s) (g .words)) (by 
     step f s h =
         let P : Reading → Type 0 = λ g. RoomFor (length s) (g .words) in
         cond-elim P (eqb (length s) 0) (λ e. omega arith) (λ e.
-        cond-elim P (isDottedAbbrev s) (λ e. omega (arith, letters-room (filterb (except (code ".")) s), filterb-le (except (code ".")) s)) (λ e.
+        cond-elim P (isDottedAbbrev s) (λ e. omega (arith, letters-room (filterIf (except (code ".")) s), filterIf-le (except (code ".")) s)) (λ e.
         cond-elim P (isCommaInt s) (λ e. omega (arith, cardinal-room s)) (λ e.
         cond-elim P (isTime s) (λ e. omega (arith, time-room s e)) (λ e.
         cond-elim P (isMeridiemTime s) (meridiem-room s) (λ e.

@@ -8,7 +8,7 @@ use lib.ListN.{length}
 use Rattle.lists.specs.Bytes.{overwrite}
 use Rattle.admit.specs.Refusals.{_when_, firstRefusal, Call, call}
 use Rattle.admit.specs.declared.Refusal.the-variants.{NameTooLong, BufferTooShort}
-use Rattle.word_writer.specs.Writer.{Writer, putByte, emitAll}
+use Rattle.word_writer.specs.Writer.{Writer, putByte, putWords}
 use Rattle.rows.specs.Rows.{rowNumber, rowSign, read}
 use Rattle.rows.specs.declared.Row.{Row}
 use Rattle.rows.specs.declared.Row.the-variants.{NoRow}
@@ -26,7 +26,7 @@ refusedEntry n = record { refusal = n; entry = record { row = NoRow }; words = 0
 
 -- an entry's line, and the lines of several, as a spaced cursor writes them
 unfoldable pub lineTo : SheetEntry → Writer → Writer
-lineTo e s = putByte (code "\n") (emitAll (wordsOf e) (putByte (mark (e .starts)) s))
+lineTo e s = putByte (code "\n") (putWords (wordsOf e) (putByte (mark (e .starts)) s))
 
 unfoldable pub linesTo : List SheetEntry → Writer → Writer
 linesTo [] s = s

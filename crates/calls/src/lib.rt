@@ -1,12 +1,12 @@
 // The call sheet: one entry's line, and the lines of a whole sheet.
 use admit::Refusal;
 use admit::refusal_of;
-use entries::NAME_BYTES;
+use entries::NAME_LIMIT;
 use entries::find_entry;
 use entries::has_long_name;
 use entry_reader::read_name;
 use lists::part;
-use row_readers::NameRead;
+use row_readers::ReadOutcome;
 use rows::Entry;
 use rows::Row;
 use sentences::State;
@@ -60,16 +60,22 @@ fn mark_of(starts: bool) -> u8
 }
 
 // Writes an entry's line.
-fn say_line(starts: bool, name: &[u8], out: &mut [u8], table: &mut [u8], cursor: Cursor) -> NameRead
+fn say_line(
+    starts: bool,
+    name: &[u8],
+    out: &mut [u8],
+    table: &mut [u8],
+    cursor: Cursor,
+) -> ReadOutcome
     ensures { λ r. ⌜ SaysLine (entryNamed starts (now (name .entry)))
         (writer (now (out .entry)) (now (table .entry)) cursor)
         (writer (now (out .exit)) (now (table .exit)) (r .cursor)) (r .entry .row) ⌝ }
 {
     let p = put_byte(out, cursor, mark_of(starts));
-    let said = read_name(name, out, table, p);
-    let entry = said.entry;
-    let last = said.cursor;
-    NameRead {
+    let read = read_name(name, out, table, p);
+    let entry = read.entry;
+    let last = read.cursor;
+    ReadOutcome {
         entry,
         cursor: put_byte(out, last, b'\n'),
     }
@@ -91,8 +97,8 @@ fn say_sheet(s: &[u8], out: &mut [u8], table: &mut [u8]) -> SheetWalk
         }
         let name = part(s, t.name, t.punctuation);
         let starts = starts_sentence(state, part(s, at, t.prepunctuation), name);
-        let said = say_line(starts, name, out, table, cursor);
-        cursor = said.cursor;
+        let read = say_line(starts, name, out, table, cursor);
+        cursor = read.cursor;
         state = State::kept(name, part(s, t.punctuation, t.end));
         tokens += 1;
         at = t.end;
@@ -178,7 +184,7 @@ fn is_line_short(starts: bool, name: &[u8], room: usize) -> bool
 fn call_name(starts: bool, name: &[u8], out: &mut [u8]) -> CalledEntry
     ensures { λ r. ⌜ asEntry r (now (out .exit)) ≡ nameCall (entryNamed starts (now (name .entry))) (now (out .entry)) ⌝ }
 {
-    if NAME_BYTES < name.len() {
+    if NAME_LIMIT < name.len() {
         return entry_refused(Refusal::NameTooLong.number());
     }
     if is_line_short(starts, name, out.len()) {

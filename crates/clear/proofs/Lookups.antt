@@ -24,28 +24,28 @@ agree true b t = sym t
 agree false b t = sym (not-true b t)
 
 -- there is a row k, and it is the first with its word
-abbrev isFirstAbbreviation : ℕ → Bool
-isFirstAbbreviation k = ltb k (length abbreviations) && eqb (indexOf (getD unitWords k []) unitWords) k
+abbrev isFirstAt : ℕ → Bool
+isFirstAt k = ltb k (length abbreviations) && eqb (indexOf (getD unitWords k []) unitWords) k
 
 -- there is a row k, and its word's number is larger than that of the row before
 abbrev newWord : ℕ → Bool
 newWord k = ltb k 22 && ltb (getD wordNumbers (k - 1) 0) (getD wordNumbers k 0)
 
 -- row 0 has a word that no row before it has
-pub first-zero : true ≡ isFirstAbbreviation 0
+pub first-zero : true ≡ isFirstAt 0
 unfolding unfoldVocabulary indexOf unitWords abbreviations unitAbbreviations
 first-zero = refl
 
 firstAgrees : ℕ → Bool
-firstAgrees k = cond (newWord (suc k)) (isFirstAbbreviation (suc k)) (not (isFirstAbbreviation (suc k)))
+firstAgrees k = cond (newWord (suc k)) (isFirstAt (suc k)) (not (isFirstAt (suc k)))
 
 -- rows with one word stand together, and the words in the vocabulary's order
-pub first-abbreviation : (k : ℕ) → (k ≡ 0 → ⊥) → newWord k ≡ isFirstAbbreviation k
+pub first-at : (k : ℕ) → (k ≡ 0 → ⊥) → newWord k ≡ isFirstAt k
 unfolding firstAgrees unfoldVocabulary wordNumbers indexOf unitWords abbreviations unitAbbreviations
-first-abbreviation zero h = absurd (h refl)
-first-abbreviation (suc k) h =
+first-at zero h = absurd (h refl)
+first-at (suc k) h =
     ⊎-elim (λ (g : 21 ≤ k). rw (le-ltb (suc k) 22 (omega arith)))
-    (λ (g : k < 21). agree (newWord (suc k)) (isFirstAbbreviation (suc k)) (below firstAgrees 21 refl k g)) (le-or-lt 21 k)
+    (λ (g : k < 21). agree (newWord (suc k)) (isFirstAt (suc k)) (below firstAgrees 21 refl k g)) (le-or-lt 21 k)
 
 -- where the vocabulary has the words of the tables
 abbrev tableWordNumber : ℕ → ℕ

@@ -20,7 +20,7 @@ use Rattle.units.specs.Units.{unitAbbreviations, abbreviations, unitWords, inde
 use Rattle.shapes.specs.Shapes.{unitAt}
 use Rattle.shapes.proofs.Laws.{digits-all}
 use Rattle.clear.specs.Clear.{plain, suffix, Clear, is-ordinal, is-unit}
-use Rattle.clear.specs.Test.{butLastTwo, lastTwo, isOrdinalClear, isFirstUnit, isUnitClear}
+use Rattle.clear.specs.Test.{butLastTwo, lastTwo, isOrdinalClear, isFirstAbbreviation, isUnitClear}
 use Rattle.clear.proofs.Cuts.{same-self, cut-front, cut-back, span-seam, dropWhile-seam}
 use Rattle.clear.proofs.Figures.{plain-digits}
 
@@ -71,7 +71,7 @@ columns = (refl, refl)
 pub test-unit : (s : List ℕ) → isUnitClear s ≡ true → Clear s
 test-unit s h =
     let u = drop (unitAt s) s in
-    let p = and-eq-true-iff (plain (take (unitAt s) s)) (isFirstUnit u) .0 h in
+    let p = and-eq-true-iff (plain (take (unitAt s) s)) (isFirstAbbreviation u) .0 h in
     let q = and-eq-true-iff (isUnit u) (eqb (indexOf (unitWord u) unitWords) (unitIndex u)) .0 (p .1) in
     let l : unitIndex u < 22 = ltb-true _ _ (sym (unit-in-table u) ∙ q .0) in
     let e : getD abbreviations (unitIndex u) [] ≡ u = indexOf-at u abbreviations (rw (columns .0) l) in

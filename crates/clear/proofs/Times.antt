@@ -43,10 +43,10 @@ test-plain s h =
     let b = and-eq-true-iff (ltb at (length s)) (isHourMinute (hour s) (drop (at + 1) s)) .0 (a .0) in
     let l : at < length s = ltb-true at (length s) (b .0) in
     let m : drop (at + 1) s ≡ minute s = sym (drop-drop 1 at s) in
-    let few = leb 1 (length (hour s)) && leb (length (hour s)) 2 in
-    let c = and-eq-true-iff (few && isDigits (hour s) && isNDigits 2 (minute s)) (leb (getD (minute s) 0 0) (code "5")) .0 (rw m at (b .1)) in
-    let d = and-eq-true-iff (few && isDigits (hour s)) (isNDigits 2 (minute s)) .0 (c .0) in
-    let e = and-eq-true-iff few (isDigits (hour s)) .0 (d .0) in
+    let bound = leb 1 (length (hour s)) && leb (length (hour s)) 2 in
+    let c = and-eq-true-iff (bound && isDigits (hour s) && isNDigits 2 (minute s)) (leb (getD (minute s) 0 0) (code "5")) .0 (rw m at (b .1)) in
+    let d = and-eq-true-iff (bound && isDigits (hour s)) (isNDigits 2 (minute s)) .0 (c .0) in
+    let e = and-eq-true-iff bound (isDigits (hour s)) .0 (d .0) in
     let f = and-eq-true-iff (leb 1 (length (hour s))) (leb (length (hour s)) 2) .0 (e .0) in
     let colon : getD s at 0 ≡ code ":" = eqb-true _ _ (not-false _ (span-fails (except (code ":")) s l)) in
     record {

@@ -8,7 +8,7 @@ use native.Mathlib.Omega.{arith}
 use lib.Dec.{leb}
 use lib.ListN.{length}
 use borrow.Author.Tests.{leb-true, le-leb, not-true}
-use Rattle.lists.specs.Bytes.{all, lowercase, filterb, listed, any}
+use Rattle.lists.specs.Bytes.{all, lowercase, filterIf, listed, any}
 use Rattle.lists.specs.Classes.{except}
 use Rattle.lists.proofs.Table.{below}
 use Rattle.vocabulary.proofs.Laws.{unfoldVocabulary}
@@ -121,7 +121,7 @@ cardinal-alone w a = single-listed w (cardinal (a .0)) (single-imply (cardinal (
 -- or of `ordinal`
 pub ordinal-alone : (w : List ℕ) → SingleAnswer ordinal w → listed w tableWords ≡ true
 unfolding ordinal
-ordinal-alone w a = let c = filterb (except (code ",")) (a .0) in single-listed w (onLast (orZero (cardinal c)))
+ordinal-alone w a = let c = filterIf (except (code ",")) (a .0) in single-listed w (onLast (orZero (cardinal c)))
     (last-single (cardinal c) (cardinal-single c)) (a .1)
 
 -- ---- the kind

@@ -54,11 +54,11 @@ abbrev pub isOrdinalClear : List ℕ → Bool
 isOrdinalClear s = plain (butLastTwo s) && same (lastTwo s) (suffix (butLastTwo s))
 
 -- u is the first abbreviation of its word
-abbrev pub isFirstUnit : List ℕ → Bool
-isFirstUnit u = isUnit u && eqb (indexOf (unitWord u) unitWords) (unitIndex u)
+abbrev pub isFirstAbbreviation : List ℕ → Bool
+isFirstAbbreviation u = isUnit u && eqb (indexOf (unitWord u) unitWords) (unitIndex u)
 
 abbrev pub isUnitClear : List ℕ → Bool
-isUnitClear s = plain (take (unitAt s) s) && isFirstUnit (drop (unitAt s) s)
+isUnitClear s = plain (take (unitAt s) s) && isFirstAbbreviation (drop (unitAt s) s)
 
 abbrev pub uppercaseOrPoint : ℕ → Bool
 uppercaseOrPoint b = uppercase b || eqb b (code ".")

@@ -114,8 +114,9 @@ pub fn is_time_clear(s: &[u8]) -> bool
 pub fn is_meridiem_clear(s: &[u8]) -> bool
     ensures { λ r. ⌜ r ≡ isMeridiemClear (now (s .entry)) ⌝ }
 {
-    let half = back(s, 2);
-    (same(EXACT, half, b"am") | same(EXACT, half, b"pm")) & is_plain_time(without_back(s, 2))
+    let meridiem = back(s, 2);
+    (same(EXACT, meridiem, b"am") | same(EXACT, meridiem, b"pm"))
+        & is_plain_time(without_back(s, 2))
 }
 
 // Whether t is the suffix for a last digit b that no tens digit 1 precedes.
@@ -153,7 +154,7 @@ pub fn is_ordinal_clear(s: &[u8]) -> bool
 }
 
 // Whether row k of the units is the first with its word. Rows with one word stand together.
-fn is_first_abbreviation(k: u8) -> bool
+fn is_first_at(k: u8) -> bool
     ensures { λ r. ⌜ r ≡ (ltb k (length abbreviations) && eqb (indexOf (getD unitWords k []) unitWords) k) ⌝ }
 {
     if k == 0 {
@@ -166,7 +167,7 @@ pub fn is_unit_clear(s: &[u8]) -> bool
     ensures { λ r. ⌜ r ≡ isUnitClear (now (s .entry)) ⌝ }
 {
     let at = after_last(DIGIT, 0, s);
-    is_plain(front(s, at)) & is_first_abbreviation(unit_index(tail(s, at)))
+    is_plain(front(s, at)) & is_first_at(unit_index(tail(s, at)))
 }
 
 fn of_class(class: bool, b: u8) -> bool
@@ -216,7 +217,7 @@ fn table_word(i: usize) -> usize
 }
 
 // Whether s is the word of a number in the vocabulary.
-fn is_vocabulary_word(k: usize, s: &[u8]) -> bool
+fn is_word_number(k: usize, s: &[u8]) -> bool
     ensures { λ r. ⌜ r ≡ sameText (wordOf k) (now (s .entry)) ⌝ }
 {
     if vocabulary::word_len(k) != s.len() {
@@ -231,7 +232,7 @@ fn is_table_word(s: &[u8]) -> bool
 {
     let mut i = 0;
     while i < TABLE_WORDS {
-        if is_vocabulary_word(table_word(i), s) {
+        if is_word_number(table_word(i), s) {
             return true;
         }
         i += 1;

@@ -9,7 +9,7 @@ use native.Mathlib.Omega.{arith}
 use lib.Dec.{leb}
 use lib.ListN.{length, getD, length-map}
 use borrow.Author.Tests.{lt-ltb, le-ltb, eq-eqb, ne-eqb, leb-true, not-true}
-use Rattle.lists.specs.Bytes.{all, filterb}
+use Rattle.lists.specs.Bytes.{all, filterIf}
 use Rattle.lists.specs.Classes.{digit}
 use Rattle.shapes.specs.Shapes.{isDigits, isLeadingZeroDigits}
 use Rattle.shapes.proofs.Laws.{digits-all, digits-some}
@@ -24,7 +24,7 @@ use Rattle.decoder.specs.Decode.{digitBytes, decimalDigits}
 
 -- the values of a text that is all digits
 pub digitValues-all : (s : List ℕ) → all digit s ≡ true → digitValues s ≡ map digitValue s
-unfolding digitValues filterb all
+unfolding digitValues filterIf all
 digitValues-all [] h = refl
 digitValues-all (b ∷ s) h =
     let k = and-eq-true-iff (digit b) (all digit s) .0 h in

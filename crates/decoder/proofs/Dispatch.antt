@@ -17,7 +17,7 @@ use Rattle.numerals.specs.Cardinal.{cardinal}
 use Rattle.numerals.proofs.Digits.{spelled-append}
 use Rattle.rows.specs.Rows.{readWith}
 use Rattle.clear.specs.Clear.{plain}
-use Rattle.decoder.specs.Decode.{parseWord, parseWords, firstWord, lastWord, butLast, decodeDigits, isLetterWord, isSingleWord, cardinalWord, withSuffix, decode}
+use Rattle.decoder.specs.Decode.{parseWord, parseWords, firstWord, lastWord, butLast, decodeDigits, isLetterWord, isOneWordName, cardinalWord, withSuffix, decode}
 use Rattle.decoder.proofs.Decoded.{DecodedWith}
 use Rattle.decoder.proofs.NumberWords.{number-word-parsed, every-parsed, plain-some}
 use Rattle.numerals.proofs.NumberWords.{NumberWord, number-word-test}
@@ -33,8 +33,8 @@ pub but-last : (ws vs : List (List ℕ)) → butLast (length vs) (ws ++ vs) ≡ 
 but-last ws vs = take-at ws vs (length (ws ++ vs) - length vs) (omega (arith, length-append ws vs))
 
 -- two words are not one word alone
-pub not-single : (ws : List (List ℕ)) → 2 ≤ length ws → isSingleWord ws ≡ false
-not-single ws h = rw (ne-eqb (length ws) 1 (omega arith))
+pub not-one-word : (ws : List (List ℕ)) → 2 ≤ length ws → isOneWordName ws ≡ false
+not-one-word ws h = rw (ne-eqb (length ws) 1 (omega arith))
 
 -- ---- the words of numbers
 
@@ -48,11 +48,11 @@ unfolding numberWords consecutiveWords spell unfoldVocabulary all
 number-word-no-letter w n = not-true (isLetterWord (spell w)) (number-word-test (λ w. not (isLetterWord (spell w))) refl w n)
 
 -- a line that starts with plain digits and goes on
-pub plain-not-single : (s : List ℕ) → plain s ≡ true → (x : List ℕ) (vs : List (List ℕ)) → isSingleWord (spelled (cardinal s) ++ x ∷ vs) ≡ false
+pub plain-not-one-word : (s : List ℕ) → plain s ≡ true → (x : List ℕ) (vs : List (List ℕ)) → isOneWordName (spelled (cardinal s) ++ x ∷ vs) ≡ false
 unfolding spelled
-plain-not-single s h x vs =
+plain-not-one-word s h x vs =
     let k = plain-some s h in
-    rw (k .2) (not-single (spell (k .0) ∷ (map spell (k .1) ++ x ∷ vs)) (omega (arith, length-append (map spell (k .1)) (x ∷ vs))))
+    rw (k .2) (not-one-word (spell (k .0) ∷ (map spell (k .1) ++ x ∷ vs)) (omega (arith, length-append (map spell (k .1)) (x ∷ vs))))
 
 -- a name by its words
 pub decoded : {word : List ℕ → List ℕ} (n : List ℕ) (ws : List Word) → readWith word n .words ≡ ws → decode (spelled ws) ≡ n → DecodedWith word n
@@ -64,7 +64,7 @@ decoded n ws e h = record { decoded = rw e h }
 abbrev pub isOrdinaryEnd : List ℕ → Bool
 isOrdinaryEnd x = not (isLetterWord x) && (not (same x (bytes "cent")) && not (same x (bytes "m")))
 
-module _ (ns : List Word) (x : List ℕ) (e : Every NumberWord ns) (q : isOrdinaryEnd x ≡ true) (l : isSingleWord (spelled ns ++ x ∷ []) ≡ false) where
+module _ (ns : List Word) (x : List ℕ) (e : Every NumberWord ns) (q : isOrdinaryEnd x ≡ true) (l : isOneWordName (spelled ns ++ x ∷ []) ≡ false) where
   abbrev line : List (List ℕ)
   line = spelled ns ++ x ∷ []
 

@@ -16,7 +16,7 @@ use Rattle.sentences.proofs.Marking.{starts-length}
 use Rattle.call_spec.specs.Sheet.{SheetEntry, entriesOf, entries, lineOf, callSheet, countWords}
 use Rattle.admit.specs.Refusals.{firstRefusal, Call, call}
 use Rattle.call_spec.specs.Calls.{sheetTests, SheetResult, sheetCall, AcceptedSheet}
-use Rattle.decoder.specs.Sheets.{names, AllClear, SameEntries, linesWritten, linesIn, wordsIn, decodeSheet}
+use Rattle.decoder.specs.Sheets.{names, AllClear, SameEntries, writtenCallSheet, linesIn, wordsIn, decodeSheet}
 use Rattle.decoder.proofs.Decoded.{Decoded}
 use Rattle.decoder.proofs.Lines.{sheet-decoded}
 use Rattle.decoder.proofs.SplitSheet.{entries-separatorFree, sheet-counted}
@@ -117,13 +117,13 @@ unfolding sheetCall
 call-written s old a h = rw (le-ltb (length old) (length (callSheet s)) h, a)
 
 -- the lines that it writes are the call sheet
-written-sheet : (s old : List ℕ) → AcceptedSheet s → length (callSheet s) ≤ length old → linesWritten (sheetCall s old) ≡ callSheet s
+written-sheet : (s old : List ℕ) → AcceptedSheet s → length (callSheet s) ≤ length old → writtenCallSheet (sheetCall s old) ≡ callSheet s
 written-sheet s old a h = rw (call-written s old a h) (take-at (callSheet s) (drop (length (callSheet s)) old) (length (callSheet s)) refl)
 
 -- the counts that the call answers are those of the lines that it writes, and of their words
 pub call-counted : (s old : List ℕ) → AcceptedSheet s → length (callSheet s) ≤ length old
-    → (sheetCall s old .value .tokens ≡ length (linesIn (linesWritten (sheetCall s old))))
-    × (sheetCall s old .value .words ≡ length (flatten (map wordsIn (linesIn (linesWritten (sheetCall s old))))))
+    → (sheetCall s old .value .tokens ≡ length (linesIn (writtenCallSheet (sheetCall s old))))
+    × (sheetCall s old .value .words ≡ length (flatten (map wordsIn (linesIn (writtenCallSheet (sheetCall s old))))))
 call-counted s old a h =
     let c = call-written s old a h in
     let w = ap (λ (t : List ℕ). length (linesIn t)) (written-sheet s old a h) in
@@ -133,5 +133,5 @@ call-counted s old a h =
 
 -- so the two calls distinguish the sheets
 pub calls-distinguish-sheets : (s t old new : List ℕ) → AcceptedSheet s → AcceptedSheet t → length (callSheet s) ≤ length old → length (callSheet t) ≤ length new
-    → AllClear (names s) → AllClear (names t) → (linesWritten (sheetCall s old) ≡ linesWritten (sheetCall t new)) ↔ SameEntries s t
+    → AllClear (names s) → AllClear (names t) → (writtenCallSheet (sheetCall s old) ≡ writtenCallSheet (sheetCall t new)) ↔ SameEntries s t
 calls-distinguish-sheets s t old new a b h k p q = rw (written-sheet s old a h, written-sheet t new b k) (call-sheets-distinguish-sheets s t a b p q)

@@ -14,7 +14,7 @@ use Rattle.shapes.specs.Shapes.{isDigits}
 use Rattle.numerals.specs.Words.{Word, other, spell, consecutiveWords, numberWords}
 use Rattle.numerals.specs.Cardinal.{digitValues, cardinal, digits}
 use Rattle.clear.specs.Clear.{plain, tableWords, Fraction, no-point, a-point, no-sign, plus-sign, minus-sign, Exponent, no-exponent, an-exponent}
-use Rattle.decoder.specs.Decode.{parseWordIn, parseWord, digitBytes, digitOf, signByte, valueBelowHundred, decodeAfterSign, decodeFromRight, decodeFigure}
+use Rattle.decoder.specs.Decode.{parseWordIn, parseWord, digitBytes, digitOf, symbolByte, valueBelowHundred, decodeAfterSymbol, decodeFromRight, decodeFigure}
 use Rattle.decoder.proofs.DecimalDigits.{digitBytes-digitValues}
 use Rattle.numerals.proofs.NumberWords.{NumberWord, number-word-test, cardinal-number-words, digits-number-words}
 use Rattle.decoder.proofs.NumberWords.{number-word-parsed, digits-back, plain-some, decode-plain}
@@ -33,7 +33,7 @@ pub record FigureWord (w : Word) : Type 0 where
 
 -- to compute what words pass
 unfoldable pub unfoldDecoder : Unit {0}
-unfolding unfoldVocabulary spell numberWords consecutiveWords parseWord parseWordIn all indexOf any unitWords unitAbbreviations tableWords digitOf valueBelowHundred signByte
+unfolding unfoldVocabulary spell numberWords consecutiveWords parseWord parseWordIn all indexOf any unitWords unitAbbreviations tableWords digitOf valueBelowHundred symbolByte
 unfoldDecoder = tt
 
 -- the words of numbers are such
@@ -46,91 +46,91 @@ number-word-figure w n =
     }
 
 -- a word between digits, and its byte
-pub record SignWord (w : Word) (c : ℕ) : Type 0 where
+pub record SymbolWord (w : Word) (c : ℕ) : Type 0 where
   pub figure : FigureWord w
-  pub byte : signByte w ≡ c
+  pub byte : symbolByte w ≡ c
   pub some : eqb c 0 ≡ false
   pub large : ltb (valueBelowHundred w) 100 ≡ false
 
 -- the words between digits and their bytes
-pub minus-is : SignWord (other (bytes "minus")) (code "-")
+pub minus-is : SymbolWord (other (bytes "minus")) (code "-")
 unfolding unfoldDecoder
 minus-is = record { figure = record { parsed = refl; ending = refl }; byte = refl; some = refl; large = refl }
 
-plus-is : SignWord (other (bytes "plus")) (code "+")
+plus-is : SymbolWord (other (bytes "plus")) (code "+")
 unfolding unfoldDecoder
 plus-is = record { figure = record { parsed = refl; ending = refl }; byte = refl; some = refl; large = refl }
 
-point-is : SignWord (other (bytes "point")) (code ".")
+point-is : SymbolWord (other (bytes "point")) (code ".")
 unfolding unfoldDecoder
 point-is = record { figure = record { parsed = refl; ending = refl }; byte = refl; some = refl; large = refl }
 
-e-is : SignWord (other (bytes "e")) (code "e")
+e-is : SymbolWord (other (bytes "e")) (code "e")
 unfolding unfoldDecoder
 e-is = record { figure = record { parsed = refl; ending = refl }; byte = refl; some = refl; large = refl }
 
 -- ---- signs, each with the digits after it
 
 -- a text that a sign leads, if it is not empty, and its words
-pub data SignedTail : List ℕ → List Word → Type 0 where
-  no-tail : SignedTail [] []
-  sign-part : (w : Word) (c : ℕ) (a : List Word) (d : List ℕ) {t : List ℕ} {r : List Word} → SignWord w c → Every NumberWord a → decodeAfterSign c a ≡ d
-      → SignedTail t r → SignedTail (c ∷ (d ++ t)) (w ∷ (a ++ r))
+pub data SymbolTail : List ℕ → List Word → Type 0 where
+  no-tail : SymbolTail [] []
+  symbol-part : (w : Word) (c : ℕ) (a : List Word) (d : List ℕ) {t : List ℕ} {r : List Word} → SymbolWord w c → Every NumberWord a → decodeAfterSymbol c a ≡ d
+      → SymbolTail t r → SymbolTail (c ∷ (d ++ t)) (w ∷ (a ++ r))
 
 number-words-pending : (a r : List Word) → Every NumberWord a
     → decodeFromRight (a ++ r) ≡ record { pending = a ++ decodeFromRight r .pending; bytes = decodeFromRight r .bytes }
 unfolding decodeFromRight unfoldDecoder
 number-words-pending [] r h = refl
-number-words-pending (w ∷ a) r h = rw (number-word-test (λ v. eqb (signByte v) 0) refl w (h .0), number-words-pending a r (h .1))
+number-words-pending (w ∷ a) r h = rw (number-word-test (λ v. eqb (symbolByte v) 0) refl w (h .0), number-words-pending a r (h .1))
 
-tail-decoded : {t : List ℕ} {r : List Word} → SignedTail t r → decodeFromRight r ≡ record { pending = []; bytes = t }
+tail-decoded : {t : List ℕ} {r : List Word} → SymbolTail t r → decodeFromRight r ≡ record { pending = []; bytes = t }
 unfolding decodeFromRight
 tail-decoded no-tail = refl
-tail-decoded (sign-part w c a d {t} {r} s n h k) = rw (s .byte, s .some, number-words-pending a r n, tail-decoded k, append-nil a, h)
+tail-decoded (symbol-part w c a d {t} {r} s n h k) = rw (s .byte, s .some, number-words-pending a r n, tail-decoded k, append-nil a, h)
 
 -- digits before the signs
-pub front-decoded : (a : List Word) {t : List ℕ} {r : List Word} → Every NumberWord a → SignedTail t r → decodeFigure (a ++ r) ≡ decodeAfterSign 0 a ++ t
+pub front-decoded : (a : List Word) {t : List ℕ} {r : List Word} → Every NumberWord a → SymbolTail t r → decodeFigure (a ++ r) ≡ decodeAfterSymbol 0 a ++ t
 unfolding decodeFigure
 front-decoded a {t} {r} n k = rw (number-words-pending a r n, tail-decoded k, append-nil a)
 
 -- the words of signs and digits are such
-pub tail-figure-words : {t : List ℕ} {r : List Word} → SignedTail t r → Every FigureWord r
+pub tail-figure-words : {t : List ℕ} {r : List Word} → SymbolTail t r → Every FigureWord r
 tail-figure-words no-tail = tt
-tail-figure-words (sign-part w c a d {t} {r} s n h k) =
+tail-figure-words (symbol-part w c a d {t} {r} s n h k) =
     (s .figure, every-append FigureWord a r (every-imply NumberWord FigureWord number-word-figure a n) (tail-figure-words k))
 
 -- ---- digits after a sign
 
-plain-after : (c : ℕ) (s : List ℕ) → eqb c (code ".") ≡ false → plain s ≡ true → decodeAfterSign c (cardinal s) ≡ s
-unfolding decodeAfterSign
+plain-after : (c : ℕ) (s : List ℕ) → eqb c (code ".") ≡ false → plain s ≡ true → decodeAfterSymbol c (cardinal s) ≡ s
+unfolding decodeAfterSymbol
 plain-after c s n h = let p = plain-some s h in rw (p .2) (rw (n, ← p .2) (decode-plain s h))
 
 -- a sign and plain digits, before others
-pub plain-part : {w : Word} {c : ℕ} → SignWord w c → eqb c (code ".") ≡ false → (x : List ℕ) → plain x ≡ true → {t : List ℕ} {r : List Word}
-    → SignedTail t r → SignedTail (c ∷ (x ++ t)) (w ∷ (cardinal x ++ r))
-plain-part {w} {c} s n x h k = sign-part w c (cardinal x) x s (cardinal-number-words x) (plain-after c x n h) k
+pub plain-part : {w : Word} {c : ℕ} → SymbolWord w c → eqb c (code ".") ≡ false → (x : List ℕ) → plain x ≡ true → {t : List ℕ} {r : List Word}
+    → SymbolTail t r → SymbolTail (c ∷ (x ++ t)) (w ∷ (cardinal x ++ r))
+plain-part {w} {c} s n x h k = symbol-part w c (cardinal x) x s (cardinal-number-words x) (plain-after c x n h) k
 
-point-after : (s : List ℕ) → isDigits s ≡ true → decodeAfterSign (code ".") (digits s) ≡ s
-unfolding decodeAfterSign digitBytes digits
+point-after : (s : List ℕ) → isDigits s ≡ true → decodeAfterSymbol (code ".") (digits s) ≡ s
+unfolding decodeAfterSymbol digitBytes digits
 point-after s h = go (digits s) (ap digitBytes (digits-back (digitValues s)) ∙ digitBytes-digitValues s h)
   where
-    go : (ws : List Word) → digitBytes (map digitOf ws) ≡ s → decodeAfterSign (code ".") ws ≡ s
+    go : (ws : List Word) → digitBytes (map digitOf ws) ≡ s → decodeAfterSymbol (code ".") ws ≡ s
     go [] e = e
     go (w ∷ ws) e = e
 
 -- ---- the signs of a figure
 
-exponent-tail : {x t : List ℕ} {r : List Word} (e : Exponent x) → SignedTail t r → SignedTail (x ++ t) (exponentWords e ++ r)
-unfolding decodeAfterSign
+exponent-tail : {x t : List ℕ} {r : List Word} (e : Exponent x) → SymbolTail t r → SymbolTail (x ++ t) (exponentWords e ++ r)
+unfolding decodeAfterSymbol
 exponent-tail no-exponent k = k
 exponent-tail (an-exponent g x no-sign h) k = plain-part e-is refl x h k
-exponent-tail (an-exponent g x plus-sign h) k = sign-part (other (bytes "e")) (code "e") [] [] e-is tt refl (plain-part plus-is refl x h k)
-exponent-tail (an-exponent g x minus-sign h) k = sign-part (other (bytes "e")) (code "e") [] [] e-is tt refl (plain-part minus-is refl x h k)
+exponent-tail (an-exponent g x plus-sign h) k = symbol-part (other (bytes "e")) (code "e") [] [] e-is tt refl (plain-part plus-is refl x h k)
+exponent-tail (an-exponent g x minus-sign h) k = symbol-part (other (bytes "e")) (code "e") [] [] e-is tt refl (plain-part minus-is refl x h k)
 
-fraction-tail : {f t : List ℕ} {r : List Word} (d : Fraction f) → SignedTail t r → SignedTail (f ++ t) (fractionWords d ++ r)
+fraction-tail : {f t : List ℕ} {r : List Word} (d : Fraction f) → SymbolTail t r → SymbolTail (f ++ t) (fractionWords d ++ r)
 fraction-tail no-point k = k
-fraction-tail (a-point f h) k = sign-part (other (bytes "point")) (code ".") (digits f) f point-is (digits-number-words f) (point-after f h) k
+fraction-tail (a-point f h) k = symbol-part (other (bytes "point")) (code ".") (digits f) f point-is (digits-number-words f) (point-after f h) k
 
 -- a fraction and an exponent, as their words are decoded
-pub figure-tail : {f x : List ℕ} (d : Fraction f) (e : Exponent x) → SignedTail (f ++ x) (fractionWords d ++ exponentWords e)
+pub figure-tail : {f x : List ℕ} (d : Fraction f) (e : Exponent x) → SymbolTail (f ++ x) (fractionWords d ++ exponentWords e)
 figure-tail {f} {x} d e = rw (append-nil x, append-nil (exponentWords e)) at (fraction-tail d (exponent-tail e no-tail))

@@ -8,7 +8,7 @@ use native.Mathlib.Omega.{arith}
 use lib.Dec.{eqb, leb}
 use lib.ListN.{length}
 use borrow.Author.Tests.{leb-true, eqb-true, ne-eqb}
-use Rattle.lists.specs.Bytes.{all, filterb, sameBy, uppercase, endsWith}
+use Rattle.lists.specs.Bytes.{all, filterIf, sameBy, uppercase, endsWith}
 use Rattle.lists.specs.Classes.{letter, except}
 use Rattle.lists.proofs.Scan.{all-within, class-apart}
 use Rattle.lists.proofs.Table.{below}
@@ -22,9 +22,9 @@ use Rattle.rows.proofs.Dotted.{letter-chars}
 use Rattle.clear.specs.Test.{uppercaseOrPoint}
 use Rattle.clear.proofs.Initials.{initials-test}
 use Rattle.clear.specs.Clear.{dottedInitials}
-use Rattle.decoder.specs.Decode.{isLetterWord, uppercaseOf, decodeInitials, decode}
+use Rattle.decoder.specs.Decode.{isLetterWord, letterOfWord, decodeInitials, decode}
 use Rattle.decoder.proofs.Decoded.{DecodedWith}
-use Rattle.decoder.proofs.Dispatch.{not-single, decoded}
+use Rattle.decoder.proofs.Dispatch.{not-one-word, decoded}
 
 -- ---- capitals
 
@@ -33,7 +33,7 @@ abbrev initial : ℕ → List ℕ
 initial b = letterWord (b ∷ [])
 
 isReadBack : ℕ → Bool
-isReadBack b = isLetterWord (initial b) && eqb (uppercaseOf (initial b)) b
+isReadBack b = isLetterWord (initial b) && eqb (letterOfWord (initial b)) b
 
 uppercase-range : (b : ℕ) → uppercase b ≡ true → (65 ≤ b) × (b ≤ 90)
 uppercase-range b h = (leb-true 65 b (and-eq-true-iff (leb 65 b) (leb b 90) .0 h .0), leb-true b 90 (and-eq-true-iff (leb 65 b) (leb b 90) .0 h .1))
@@ -54,7 +54,7 @@ module _ (b : ℕ) (h : uppercase b ≡ true) where
   unfolding isReadBack
   is-letter = and-eq-true-iff (isLetterWord (initial b)) _ .0 (uppercase-read-back b h) .0
 
-  same-uppercase : uppercaseOf (initial b) ≡ b
+  same-uppercase : letterOfWord (initial b) ≡ b
   unfolding isReadBack
   same-uppercase = eqb-true _ b (and-eq-true-iff (isLetterWord (initial b)) _ .0 (uppercase-read-back b h) .1)
 
@@ -65,12 +65,12 @@ unfolding dottedInitials
 dottedInitials-some c [] = omega arith
 dottedInitials-some c (d ∷ cs) = omega arith
 
-dottedInitials-filterb : (c : ℕ) (cs : List ℕ) → all uppercase (c ∷ cs) ≡ true → filterb (except (code ".")) (dottedInitials c cs) ≡ c ∷ cs
-unfolding dottedInitials filterb all
-dottedInitials-filterb c [] h = rw (class-apart uppercase (code ".") c refl (and-eq-true-iff (uppercase c) true .0 h .0))
-dottedInitials-filterb c (d ∷ cs) h =
+dottedInitials-filterIf : (c : ℕ) (cs : List ℕ) → all uppercase (c ∷ cs) ≡ true → filterIf (except (code ".")) (dottedInitials c cs) ≡ c ∷ cs
+unfolding dottedInitials filterIf all
+dottedInitials-filterIf c [] h = rw (class-apart uppercase (code ".") c refl (and-eq-true-iff (uppercase c) true .0 h .0))
+dottedInitials-filterIf c (d ∷ cs) h =
     rw (class-apart uppercase (code ".") c refl (and-eq-true-iff (uppercase c) (all uppercase (d ∷ cs)) .0 h .0))
-    (ap (λ (s : List ℕ). c ∷ s) (dottedInitials-filterb d cs (and-eq-true-iff (uppercase c) (all uppercase (d ∷ cs)) .0 h .1)))
+    (ap (λ (s : List ℕ). c ∷ s) (dottedInitials-filterIf d cs (and-eq-true-iff (uppercase c) (all uppercase (d ∷ cs)) .0 h .1)))
 
 -- ---- its letters
 
@@ -79,7 +79,7 @@ unfolding spelled spell
 spelled-initials [] = refl
 spelled-initials (b ∷ s) = ap (λ (ws : List (List ℕ)). initial b ∷ ws) (spelled-initials s)
 
-initials-read-back : (s : List ℕ) → all uppercase s ≡ true → map uppercaseOf (map initial s) ≡ s
+initials-read-back : (s : List ℕ) → all uppercase s ≡ true → map letterOfWord (map initial s) ≡ s
 unfolding all
 initials-read-back [] h = refl
 initials-read-back (b ∷ s) h =
@@ -106,7 +106,7 @@ module _ (c d : ℕ) (cs : List ℕ) (h : all uppercase (c ∷ d ∷ cs) ≡ tru
       ∙ rw (
         ne-eqb (length name) 0 (λ z. omega (arith, dottedInitials-some c (d ∷ cs))),
         is-dotted,
-        dottedInitials-filterb c (d ∷ cs) h,
+        dottedInitials-filterIf c (d ∷ cs) h,
         letter-chars (c ∷ d ∷ cs) uppercase-letters,
       )
 
@@ -114,7 +114,7 @@ module _ (c d : ℕ) (cs : List ℕ) (h : all uppercase (c ∷ d ∷ cs) ≡ tru
   unfolding decode decodeInitials all
   letters-decoded =
       let p = and-eq-true-iff (uppercase c) (all uppercase (d ∷ cs)) .0 h .0 in
-      rw (not-single (map initial (c ∷ d ∷ cs)) (omega arith), is-letter c p)
+      rw (not-one-word (map initial (c ∷ d ∷ cs)) (omega arith), is-letter c p)
       (ap₂ dottedInitials (same-uppercase c p) (initials-read-back (d ∷ cs) (and-eq-true-iff (uppercase c) (all uppercase (d ∷ cs)) .0 h .1)))
 
 -- capitals with dots between are decoded

@@ -14,7 +14,7 @@ use Rattle.lists.proofs.Scan.{all-append, all-within, all-span}
 use Rattle.lists.proofs.Parts.{split-last}
 use Rattle.call_spec.specs.Sheet.{SheetEntry, wordsOf, mark, spacedWords, lineOf}
 use Rattle.decoder.specs.Decode.{decode}
-use Rattle.decoder.specs.Sheets.{linesIn, isStartIn, wordsIn, decodeSheet}
+use Rattle.decoder.specs.Sheets.{linesIn, startsIn, wordsIn, decodeSheet}
 use Rattle.decoder.proofs.Decoded.{separatorFree, Decoded}
 
 -- a part without the separator, and the parts after it
@@ -91,12 +91,12 @@ lines-whole es h = ap (λ (ls : List (List ℕ)). flatten (map (λ l. l ++ bytes
 
 -- what is read from a line, by its mark and its words, of each entry
 pub lines-read : {A : Type 0} (f : Bool → List (List ℕ) → A) (es : List SheetEntry) → Every SeparatorFreeEntry es
-    → map (λ l. f (isStartIn l) (wordsIn l)) (linesIn (flatten (map lineOf es))) ≡ map (λ (e : SheetEntry). f (e .starts) (wordsOf e)) es
+    → map (λ l. f (startsIn l) (wordsIn l)) (linesIn (flatten (map lineOf es))) ≡ map (λ (e : SheetEntry). f (e .starts) (wordsOf e)) es
 unfolding bare
-lines-read {A} f es h = ap (map (λ l. f (isStartIn l) (wordsIn l))) (lines-in es h) ∙ go es h
+lines-read {A} f es h = ap (map (λ l. f (startsIn l) (wordsIn l))) (lines-in es h) ∙ go es h
   where
     go : (es : List SheetEntry) → Every SeparatorFreeEntry es
-        → map (λ l. f (isStartIn l) (wordsIn l)) (map bare es) ≡ map (λ (e : SheetEntry). f (e .starts) (wordsOf e)) es
+        → map (λ l. f (startsIn l) (wordsIn l)) (map bare es) ≡ map (λ (e : SheetEntry). f (e .starts) (wordsOf e)) es
     go [] h = refl
     go (e ∷ es) h = rw (mark-read (e .starts) .0, words-split-back (wordsOf e) (h .0)) (ap (λ (r : List A). f (e .starts) (wordsOf e) ∷ r) (go es (h .1)))
 

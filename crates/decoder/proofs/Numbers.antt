@@ -22,14 +22,14 @@ use Rattle.rows.specs.Rows.{readWith, perCent}
 use Rattle.rows.proofs.Percent.{percent-with}
 use Rattle.clear.proofs.Cuts.{cut-front, snoc-endsWith}
 use Rattle.clear.specs.Clear.{plain, tableWords, OptionalMinus, no-minus, a-minus, Fraction, no-point, Exponent, no-exponent, Number, is-digits, is-figure}
-use Rattle.decoder.specs.Decode.{parseWord, parseWords, firstWord, lastWord, valueBelowHundred, timeLike, decodeDigits, decodeAfterSign, decodeFigure, isLetterWord, isSingleWord, decode, isBelowHundred}
+use Rattle.decoder.specs.Decode.{parseWord, parseWords, firstWord, lastWord, valueBelowHundred, timeLike, decodeDigits, decodeAfterSymbol, decodeFigure, isLetterWord, isOneWordName, decode, isBelowHundred}
 use Rattle.decoder.proofs.Decoded.{DecodedWith}
 use Rattle.decoder.proofs.DecimalDigits.{digitValues-length}
 use Rattle.numerals.proofs.NumberWords.{NumberWord, number-word-test, cardinal-number-words, digits-number-words}
 use Rattle.decoder.proofs.NumberWords.{every-parsed, plain-some, decode-plain, decode-leading}
-use Rattle.decoder.proofs.Dispatch.{last-word, but-last, not-single, number-word-no-letter, decoded}
+use Rattle.decoder.proofs.Dispatch.{last-word, but-last, not-one-word, number-word-no-letter, decoded}
 use Rattle.decoder.proofs.Real.{minusWords}
-use Rattle.decoder.proofs.FigureWords.{FigureWord, isFigureEnd, unfoldDecoder, number-word-figure, minus-is, SignedTail, no-tail, sign-part, front-decoded, tail-figure-words, plain-part, figure-tail}
+use Rattle.decoder.proofs.FigureWords.{FigureWord, isFigureEnd, unfoldDecoder, number-word-figure, minus-is, SymbolTail, no-tail, symbol-part, front-decoded, tail-figure-words, plain-part, figure-tail}
 use Rattle.decoder.proofs.FigureRows.{figure-read, leading-read}
 use Rattle.decoder.proofs.NotTime.{NotTime, large-not-time, cardinal-not-time, digits-not-time}
 
@@ -40,46 +40,46 @@ record NumberDecoded (s : List ℕ) (ws : List Word) : Type 0 where
   pub some : 0 < length ws
   pub figure : Every FigureWord ws
   pub first : isLetterWord (firstWord (spelled ws)) ≡ false
-  pub not-single : isSingleWord (spelled ws) ≡ false
+  pub not-one-word : isOneWordName (spelled ws) ≡ false
   pub not-time-like : timeLike ws ≡ false
   pub decoded : decodeFigure ws ≡ s
 
 -- signs after words of numbers
-tail-not-time : (a : List Word) {t : List ℕ} {r : List Word} → 0 < length a → NotTime a → SignedTail t r → NotTime (a ++ r)
+tail-not-time : (a : List Word) {t : List ℕ} {r : List Word} → 0 < length a → NotTime a → SymbolTail t r → NotTime (a ++ r)
 tail-not-time a z h no-tail = rw (append-nil a) h
-tail-not-time a z h (sign-part w c b d {t} {r} s n e k) = large-not-time a w (b ++ r) (s .large) (omega arith)
+tail-not-time a z h (symbol-part w c b d {t} {r} s n e k) = large-not-time a w (b ++ r) (s .large) (omega arith)
 
 -- a small word that is alone is one of the tables
-small-word-listed : (w : Word) → NumberWord w → (not (ltb (valueBelowHundred w) 100) || listed (spell w) tableWords) ≡ true
+below-hundred-listed : (w : Word) → NumberWord w → (not (ltb (valueBelowHundred w) 100) || listed (spell w) tableWords) ≡ true
 unfolding unfoldDecoder
-small-word-listed = number-word-test (λ w. not (ltb (valueBelowHundred w) 100) || listed (spell w) tableWords) refl
+below-hundred-listed = number-word-test (λ w. not (ltb (valueBelowHundred w) 100) || listed (spell w) tableWords) refl
 
-not-time-not-single : (w : Word) (v : List Word) → NumberWord w → NotTime (w ∷ v) → isSingleWord (spelled (w ∷ v)) ≡ false
+not-time-not-one-word : (w : Word) (v : List Word) → NumberWord w → NotTime (w ∷ v) → isOneWordName (spelled (w ∷ v)) ≡ false
 unfolding spelled all
-not-time-not-single w [] n o =
+not-time-not-one-word w [] n o =
     let h : ltb (valueBelowHundred w) 100 ≡ true = and-eq-true-iff (ltb (valueBelowHundred w) 100) true .0 (not-false (all isBelowHundred (w ∷ [])) (o .alone)) .0 in
-    let k : listed (spell w) tableWords ≡ true = rw h at (small-word-listed w n) in
+    let k : listed (spell w) tableWords ≡ true = rw h at (below-hundred-listed w n) in
     rw k
-not-time-not-single w (x ∷ v) n o = not-single (spelled (w ∷ x ∷ v)) (omega arith)
+not-time-not-one-word w (x ∷ v) n o = not-one-word (spelled (w ∷ x ∷ v)) (omega arith)
 
 -- words of numbers, and the signs after them
 front-number : (a : List Word) (s : List ℕ) {t : List ℕ} {r : List Word} → 0 < length a → Every NumberWord a → NotTime a → decodeDigits a ≡ s
-    → SignedTail t r → NumberDecoded (s ++ t) (a ++ r)
-unfolding spelled decodeAfterSign
+    → SymbolTail t r → NumberDecoded (s ++ t) (a ++ r)
+unfolding spelled decodeAfterSymbol
 front-number [] s z n o e k = absurd (omega arith)
 front-number (w ∷ a) s {t} {r} z n o e k = record {
   some = omega arith;
   figure = every-append FigureWord (w ∷ a) r (every-imply NumberWord FigureWord number-word-figure (w ∷ a) n) (tail-figure-words k);
   first = number-word-no-letter w (n .0);
-  not-single = not-time-not-single w (a ++ r) (n .0) (tail-not-time (w ∷ a) (omega arith) o k);
+  not-one-word = not-time-not-one-word w (a ++ r) (n .0) (tail-not-time (w ∷ a) (omega arith) o k);
   not-time-like = tail-not-time (w ∷ a) (omega arith) o k .not-time-like;
   decoded = front-decoded (w ∷ a) n k ∙ ap (λ (x : List ℕ). x ++ t) e;
 }
 
 -- plain digits, after a minus or not
-plain-number : {m : List ℕ} (p : OptionalMinus m) (a : List ℕ) → plain a ≡ true → {t : List ℕ} {r : List Word} → SignedTail t r
+plain-number : {m : List ℕ} (p : OptionalMinus m) (a : List ℕ) → plain a ≡ true → {t : List ℕ} {r : List Word} → SymbolTail t r
     → NumberDecoded (m ++ (a ++ t)) (minusWords p ++ (cardinal a ++ r))
-unfolding spelled spell decodeAfterSign sameBy
+unfolding spelled spell decodeAfterSymbol sameBy
 plain-number p a h {t} {r} k = let e = plain-some a h in go p (rw (e .2) (omega arith))
   where
     go : {m : List ℕ} (p : OptionalMinus m) → 0 < length (cardinal a) → NumberDecoded (m ++ (a ++ t)) (minusWords p ++ (cardinal a ++ r))
@@ -87,12 +87,12 @@ plain-number p a h {t} {r} k = let e = plain-some a h in go p (rw (e .2) (omega 
     go a-minus z =
         let w = other (bytes "minus") in
         let l = length-append (cardinal a) r in
-        let j : SignedTail (code "-" ∷ (a ++ t)) (w ∷ (cardinal a ++ r)) = plain-part minus-is refl a h k in
+        let j : SymbolTail (code "-" ∷ (a ++ t)) (w ∷ (cardinal a ++ r)) = plain-part minus-is refl a h k in
         record {
           some = omega arith;
           figure = tail-figure-words j;
           first = refl;
-          not-single = not-single (spelled (w ∷ (cardinal a ++ r))) (omega (arith, length-map (cardinal a ++ r) spell));
+          not-one-word = not-one-word (spelled (w ∷ (cardinal a ++ r))) (omega (arith, length-map (cardinal a ++ r) spell));
           not-time-like = large-not-time [] w (cardinal a ++ r) (minus-is .large) (omega arith) .not-time-like;
           decoded = front-decoded [] tt j;
         }
@@ -140,7 +140,7 @@ module _ {s : List ℕ} {ws : List Word} (o : NumberDecoded s ws) where
       let a = and-eq-true-iff (c && m && u) n .0 figure-word-last .0 in
       let b = and-eq-true-iff (c && m) u .0 a .0 in
       rw (
-        o .not-single,
+        o .not-one-word,
         o .first,
         not-true (same w (bytes "cent")) (and-eq-true-iff c m .0 b .0),
         not-true (same w (bytes "m")) (and-eq-true-iff c m .0 b .1),
@@ -165,7 +165,7 @@ module _ {s : List ℕ} {ws : List Word} (o : NumberDecoded s ws) where
       let f : firstWord (spelled ws ++ v) ≡ firstWord (spelled ws) = List·getD-append (spelled ws) v [] 0 (omega (arith, o .some)) in
       let l : lastWord (spelled ws ++ v) ≡ bytes "cent" =
       rw (← append-snoc (spelled ws) (bytes "per") (bytes "cent" ∷ [])) (last-word (spelled ws ++ bytes "per" ∷ []) (bytes "cent")) in
-      rw (said-percent, not-single (spelled ws ++ v) (omega (arith, o .some)), f, o .first, l, but-last (spelled ws) v, figure-words-parsed, o .decoded)
+      rw (said-percent, not-one-word (spelled ws ++ v) (omega (arith, o .some)), f, o .first, l, but-last (spelled ws) v, figure-words-parsed, o .decoded)
 
 -- a number is decoded
 pub number-decoded : {word : List ℕ → List ℕ} (s : List ℕ) → Number s → DecodedWith word s

@@ -28,7 +28,7 @@ use Rattle.numerals.proofs.Digits.{digitValues-commas, spelled-append}
 use Rattle.numerals.proofs.Flushing.{onLast-snoc}
 use Rattle.rows.specs.Rows.{readWith}
 use Rattle.clear.specs.Clear.{plain, suffix, tableWords}
-use Rattle.decoder.specs.Decode.{isSingleWord, cardinalWord}
+use Rattle.decoder.specs.Decode.{isOneWordName, cardinalWord}
 use Rattle.decoder.proofs.Decoded.{DecodedWith}
 use Rattle.rows.proofs.Taken.{doubleByte}
 use Rattle.clear.proofs.Figures.{plain-digits}
@@ -36,7 +36,7 @@ use Rattle.clear.proofs.Suffixes.{suffix-elim, suffix-two}
 use Rattle.numerals.proofs.NumberWords.{NumberWord, number-word-test, cardinal-number-words}
 use Rattle.decoder.proofs.NumberWords.{plain-some, zero-named, long-length, decode-plain}
 use Rattle.decoder.proofs.Suffixed.{read-ordinal}
-use Rattle.decoder.proofs.Dispatch.{isOrdinaryEnd, not-single, number-words-parsed, decode-ordinal, decoded-ordinary}
+use Rattle.decoder.proofs.Dispatch.{isOrdinaryEnd, not-one-word, number-words-parsed, decode-ordinal, decoded-ordinary}
 
 -- ---- the name
 
@@ -111,8 +111,8 @@ zeroth-in-table = refl
 
 module _ (s : List ℕ) (p : plain s ≡ true) where
   -- a number of one word has its form in the tables
-  single-form : (w : Word) → NumberWord w → cardinal s ≡ w ∷ [] → listed (formOf w) tableWords ≡ true
-  single-form w n e = go (eqb (wordsValue (w ∷ [])) 0) refl (form-in-table w n)
+  one-word-form : (w : Word) → NumberWord w → cardinal s ≡ w ∷ [] → listed (formOf w) tableWords ≡ true
+  one-word-form w n e = go (eqb (wordsValue (w ∷ [])) 0) refl (form-in-table w n)
     where
       short : length (digitValues s) ≤ 12
       short =
@@ -126,10 +126,10 @@ module _ (s : List ℕ) (p : plain s ≡ true) where
           rw g zeroth-in-table
       go false z h = h
 
-  not-single-form : (a : List Word) (w : Word) → NumberWord w → cardinal s ≡ a ++ w ∷ [] → isSingleWord (spelled a ++ formOf w ∷ []) ≡ false
+  not-one-word-form : (a : List Word) (w : Word) → NumberWord w → cardinal s ≡ a ++ w ∷ [] → isOneWordName (spelled a ++ formOf w ∷ []) ≡ false
   unfolding spelled
-  not-single-form [] w n e = rw (single-form w n e)
-  not-single-form (v ∷ a) w n e = not-single (spell v ∷ (map spell a ++ formOf w ∷ [])) (omega (arith, length-append (map spell a) (formOf w ∷ [])))
+  not-one-word-form [] w n e = rw (one-word-form w n e)
+  not-one-word-form (v ∷ a) w n e = not-one-word (spell v ∷ (map spell a ++ formOf w ∷ [])) (omega (arith, length-append (map spell a) (formOf w ∷ [])))
 
   ordinal-words : (a : List Word) (w : Word) → cardinal s ≡ a ++ w ∷ [] → ordinal s ≡ a ++ other (formOf w) ∷ []
   unfolding ordinal cardinal
@@ -139,7 +139,7 @@ module _ (s : List ℕ) (p : plain s ≡ true) where
   unfolding spelled
   by-last {word} a w e es n =
       let q = form-ordinary-end w n in
-      let l = not-single-form a w n e in
+      let l = not-one-word-form a w n e in
       let k : spelled (cardinal s) ≡ spelled a ++ spell w ∷ [] = ap spelled e ∙ spelled-append a (w ∷ []) in
       decoded-ordinary a (formOf w) es q l (s ++ suffix s) (words s p word ∙ ordinal-words a w e)
       (decode-ordinal a (formOf w) es q l (form-no-unit w n) (form-listed w n)

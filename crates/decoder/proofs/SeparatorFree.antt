@@ -9,7 +9,7 @@ use native.Mathlib.Omega.{arith}
 use lib.Dec.{leb, ltb, eqb}
 use lib.ListN.{length, take, drop, getD, length-take, length-drop, List·getD-eq-default}
 use borrow.Author.Tests.{leb-true, ltb-true, ne-eqb}
-use Rattle.lists.specs.Bytes.{bytes, all, filterb, same, span, uppercase, toLower, startsWith, endsWith, Every}
+use Rattle.lists.specs.Bytes.{bytes, all, filterIf, same, span, uppercase, toLower, startsWith, endsWith, Every}
 use Rattle.lists.specs.Classes.{except}
 use Rattle.lists.proofs.Every.{every-append, every-map, every-imply}
 use Rattle.lists.proofs.Recursion.{recur-induct, cond-elim}
@@ -92,7 +92,7 @@ last-separatorFree (w ∷ v ∷ ws) h = (number-word-separatorFree w (h .0), las
 
 ordinal-separatorFree : (s : List ℕ) → Every SeparatorFreeWord (ordinal s)
 unfolding ordinal orZero
-ordinal-separatorFree s = let t = filterb (except (code ",")) s in go (cardinal t) (cardinal-number-words t)
+ordinal-separatorFree s = let t = filterIf (except (code ",")) s in go (cardinal t) (cardinal-number-words t)
   where
     go : (ws : List Word) → Every NumberWord ws → Every SeparatorFreeWord (onLast (orZero ws))
     go [] h = last-separatorFree (one 0 ∷ []) (one-number-word 0 (omega arith), tt)
@@ -171,12 +171,12 @@ lower-separatorFree (b ∷ s) h =
         rw (ne-eqb (b + 32) 32 (λ z. omega arith), ne-eqb (b + 32) 10 (λ z. omega arith))
     go false e h = rw h
 
-filterb-separatorFree : (p : ℕ → Bool) (s : List ℕ) → SeparatorFree s → SeparatorFree (filterb p s)
-unfolding all filterb
-filterb-separatorFree p [] h = refl
-filterb-separatorFree p (b ∷ s) h =
+filterIf-separatorFree : (p : ℕ → Bool) (s : List ℕ) → SeparatorFree s → SeparatorFree (filterIf p s)
+unfolding all filterIf
+filterIf-separatorFree p [] h = refl
+filterIf-separatorFree p (b ∷ s) h =
     let k = and-eq-true-iff (not (eqb b 32) && not (eqb b 10)) (separatorFree s) .0 h in
-    let i = filterb-separatorFree p s (k .1) in
+    let i = filterIf-separatorFree p s (k .1) in
     cond-elim SeparatorFree (p b) (λ e. rw (k .0) i) (λ e. i)
 
 letter-separatorFree : (c : List ℕ) → SeparatorFree c → SeparatorFree (letterWord c)
@@ -225,7 +225,7 @@ read-separatorFree word k s h =
     step f s i h =
         let P : Reading → Type 0 = λ g. Every SeparatorFreeWord (g .words) in
         cond-elim P (eqb (length s) 0) (λ e. tt) (λ e.
-        cond-elim P (isDottedAbbrev s) (λ e. letters-separatorFree (filterb (except (code ".")) s) (filterb-separatorFree (except (code ".")) s h)) (λ e.
+        cond-elim P (isDottedAbbrev s) (λ e. letters-separatorFree (filterIf (except (code ".")) s) (filterIf-separatorFree (except (code ".")) s h)) (λ e.
         cond-elim P (isCommaInt s) (λ e. cardinal-separatorFree s) (λ e.
         cond-elim P (isTime s) (λ e. clock-separatorFree (hourOf s) (minuteOf s)) (λ e.
         cond-elim P (isMeridiemTime s) (λ e. meridiem-separatorFree s h) (λ e.

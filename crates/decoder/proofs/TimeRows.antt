@@ -90,17 +90,17 @@ module _ (h m x : List ℕ) (p : isHour h ≡ true) (q : isMinute m ≡ true) (d
   abbrev whole : List ℕ
   whole = h ++ (bytes ":" ++ (m ++ x))
 
-  parted : time ++ x ≡ whole
-  parted = append-assoc h (bytes ":" ++ m) x
+  time-joined : time ++ x ≡ whole
+  time-joined = append-assoc h (bytes ":" ++ m) x
 
   whole-length : length whole ≡ length time + 2
-  whole-length = ap length (sym parted) ∙ length-append time x ∙ ap (λ n. length time + n) (am-pm-lowered x d .0)
+  whole-length = ap length (sym time-joined) ∙ length-append time x ∙ ap (λ n. length time + n) (am-pm-lowered x d .0)
 
   front : timeOf whole ≡ time
-  front = ap (take (length whole - 2)) (sym parted) ∙ take-at time x (length whole - 2) (omega (arith, whole-length))
+  front = ap (take (length whole - 2)) (sym time-joined) ∙ take-at time x (length whole - 2) (omega (arith, whole-length))
 
   back : drop (length whole - 2) whole ≡ x
-  back = ap (drop (length whole - 2)) (sym parted) ∙ drop-at time x (length whole - 2) (omega (arith, whole-length))
+  back = ap (drop (length whole - 2)) (sym time-joined) ∙ drop-at time x (length whole - 2) (omega (arith, whole-length))
 
   at : separatorAt time ≡ length h
   at = colon-at notColonOrPoint refl digit-no-separator h m p

@@ -30,7 +30,7 @@ use Rattle.decoder.specs.Decode.{parseWord, parseWordIn, parseWords, fir
 use Rattle.decoder.proofs.DecimalDigits.{digitValues-length}
 use Rattle.numerals.proofs.NumberWords.{NumberWord, number-word-test, cardinal-number-words, digits-number-words}
 use Rattle.decoder.proofs.NumberWords.{number-word-parsed, every-parsed, plain-some}
-use Rattle.decoder.proofs.Dispatch.{not-single, but-last}
+use Rattle.decoder.proofs.Dispatch.{not-one-word, but-last}
 use Rattle.decoder.proofs.Times.{minute-parts, time-like, time-words-decoded}
 
 abbrev ohWord : Word
@@ -94,7 +94,7 @@ module _ (ws : List (List ℕ)) (y : List ℕ) where
       let last : lastWord more ≡ bytes "m" = ap (λ k. getD more k []) (let e = more-length in omega arith) ∙ getD-append-add ws (y ∷ bytes "m" ∷ []) 1 [] in
       let next : getD more (length more - 2) [] ≡ y =
       ap (λ k. getD more k []) (let e = more-length in omega arith) ∙ getD-append-seam ws y (bytes "m" ∷ []) [] in
-      rw (not-single more (let e = more-length in omega arith), first, f, last, next, but-last ws (y ∷ bytes "m" ∷ []))
+      rw (not-one-word more (let e = more-length in omega arith), first, f, last, next, but-last ws (y ∷ bytes "m" ∷ []))
 
 -- what "am" and "pm" are read as
 am-pm-letters : (x : List ℕ) → AmPm x
@@ -142,7 +142,7 @@ module _ (h m : List ℕ) (q : isMinute m ≡ true) where
         let i = length ws - 1 in
         let k : i < length (clock h m) = omega arith in
         rw (
-          not-single ws (omega arith),
+          not-one-word ws (omega arith),
           clock-fails isLetterWord refl refl 0 (omega arith),
           clock-fails (λ w. same w (bytes "cent")) refl refl i k,
           clock-fails (λ w. same w (bytes "m")) refl refl i k,

@@ -7,7 +7,7 @@ use native.Mathlib.Omega.{arith}
 use lib.Dec.{ltb, leb, eqb}
 use lib.ListN.{length, getD}
 use borrow.Author.Tests.{leb-true, eqb-true, not-true}
-use Rattle.lists.specs.Bytes.{bytes, same, sameBy, filterb, all, any}
+use Rattle.lists.specs.Bytes.{bytes, same, sameBy, filterIf, all, any}
 use Rattle.lists.specs.Recur.{recur, recurAt}
 use Rattle.lists.proofs.Table.{upto, below}
 use Rattle.lists.proofs.Scan.{all-append, any-append}
@@ -102,11 +102,11 @@ abbrev minuteWords : List ℕ → List Word
 minuteWords m = cond (same m (bytes "00")) [] (year m)
 
 hours : upto (λ k. hourly k (cardinal (hourBytes k))) 100 ≡ true
-unfolding isHourOf digitBytes decimalDigits digitValues filterb pairWords joinAtScale byScale cardinalStep shortCardinal cardinalOf cardinal recur recurAt valueBelowHundred digitOf all
+unfolding isHourOf digitBytes decimalDigits digitValues filterIf pairWords joinAtScale byScale cardinalStep shortCardinal cardinalOf cardinal recur recurAt valueBelowHundred digitOf all
 hours = refl
 
 minutes : upto (λ k. minutely k (minuteWords (minuteBytes k))) 60 ≡ true
-unfolding isMinuteOf sameBy digitBytes digitValues filterb pairWords cardinalStep shortCardinal cardinalOf recur recurAt yearStep yearOf year decodeMinute valueBelowHundred digitOf all
+unfolding isMinuteOf sameBy digitBytes digitValues filterIf pairWords cardinalStep shortCardinal cardinalOf recur recurAt yearStep yearOf year decodeMinute valueBelowHundred digitOf all
 minutes = refl
 
 hour-words : (h : List ℕ) → isHour h ≡ true → (k : ℕ) × (h ≡ hourBytes k) × (hourly k (cardinal h) ≡ true)

@@ -27,7 +27,7 @@ use Rattle.clear.proofs.Suffixes.{unit-facts, unit-at}
 use Rattle.numerals.proofs.NumberWords.{cardinal-number-words}
 use Rattle.decoder.proofs.NumberWords.{decode-plain}
 use Rattle.decoder.proofs.Suffixed.{read-unit}
-use Rattle.decoder.proofs.Dispatch.{isOrdinaryEnd, plain-not-single, decode-unit, decoded-ordinary}
+use Rattle.decoder.proofs.Dispatch.{isOrdinaryEnd, plain-not-one-word, decode-unit, decoded-ordinary}
 
 -- ---- the rows of the table
 
@@ -110,6 +110,6 @@ pub unit-decoded : {word : List ℕ → List ℕ} (s : List ℕ) (k : ℕ) → p
 unit-decoded {word} s k p h b =
     let e = cardinal-number-words s in
     let q = unit-ordinary-end k h in
-    let l = plain-not-single s p (unitWordAt k) [] in
+    let l = plain-not-one-word s p (unitWordAt k) [] in
     decoded-ordinary (cardinal s) (unitWordAt k) e q l (s ++ abbreviationAt k) (words s k p h word)
     (decode-unit (cardinal s) (unitWordAt k) e q l (listed-indexOf (unitWordAt k) unitWords ∙ rw b (lt-ltb k (length unitWords) h)) ∙ rw (b, decode-plain s p))

@@ -72,23 +72,23 @@ decodeDigits ws = digitBytes (cond (twoOnes ws) (map digitOf ws) (decimalDigits 
 -- ---- numbers with sign, point and exponent
 
 -- the byte that a word between digits stands for, 0 where it stands for none
-abbrev pub signIn : List ℕ → ℕ
-signIn w =
+abbrev pub symbolIn : List ℕ → ℕ
+symbolIn w =
     cond (same w (bytes "minus")) (code "-")
     (cond (same w (bytes "plus")) (code "+") (cond (same w (bytes "point")) (code ".") (cond (same w (bytes "e")) (code "e") 0)))
 
-unfoldable pub signByte : Word → ℕ
-signByte (one d) = 0
-signByte (teen d) = 0
-signByte (ten d) = 0
-signByte hundred = 0
-signByte (scale k) = 0
-signByte (other w) = signIn w
+unfoldable pub symbolByte : Word → ℕ
+symbolByte (one d) = 0
+symbolByte (teen d) = 0
+symbolByte (ten d) = 0
+symbolByte hundred = 0
+symbolByte (scale k) = 0
+symbolByte (other w) = symbolIn w
 
 -- the digits after the sign c: after a point one by one
-unfoldable pub decodeAfterSign : ℕ → List Word → List ℕ
-decodeAfterSign c [] = []
-decodeAfterSign c (w ∷ ws) = cond (eqb c (code ".")) (digitBytes (map digitOf (w ∷ ws))) (decodeDigits (w ∷ ws))
+unfoldable pub decodeAfterSymbol : ℕ → List Word → List ℕ
+decodeAfterSymbol c [] = []
+decodeAfterSymbol c (w ∷ ws) = cond (eqb c (code ".")) (digitBytes (map digitOf (w ∷ ws))) (decodeDigits (w ∷ ws))
 
 -- words decoded from the right: those that no sign stands before yet, and what is decoded after them
 pub record Decoding : Type 0 where
@@ -98,12 +98,12 @@ pub record Decoding : Type 0 where
 unfoldable pub decodeFromRight : List Word → Decoding
 decodeFromRight [] = record { pending = []; bytes = [] }
 decodeFromRight (w ∷ ws) =
-    cond (eqb (signByte w) 0)
+    cond (eqb (symbolByte w) 0)
     (record { pending = w ∷ decodeFromRight ws .pending; bytes = decodeFromRight ws .bytes })
-    (record { pending = []; bytes = signByte w ∷ (decodeAfterSign (signByte w) (decodeFromRight ws .pending) ++ decodeFromRight ws .bytes) })
+    (record { pending = []; bytes = symbolByte w ∷ (decodeAfterSymbol (symbolByte w) (decodeFromRight ws .pending) ++ decodeFromRight ws .bytes) })
 
 unfoldable pub decodeFigure : List Word → List ℕ
-decodeFigure ws = decodeAfterSign 0 (decodeFromRight ws .pending) ++ decodeFromRight ws .bytes
+decodeFigure ws = decodeAfterSymbol 0 (decodeFromRight ws .pending) ++ decodeFromRight ws .bytes
 
 -- ---- hour and minute
 
@@ -150,12 +150,12 @@ decodeTime (w ∷ v ∷ ws) =
 abbrev pub isLetterWord : List ℕ → Bool
 isLetterWord w = same w (bytes "_a") || (eqb (length w) 1 && lowercase (getD w 0 0))
 
-abbrev pub uppercaseOf : List ℕ → ℕ
-uppercaseOf w = cond (same w (bytes "_a")) (code "A") (getD w 0 0 - 32)
+abbrev pub letterOfWord : List ℕ → ℕ
+letterOfWord w = cond (same w (bytes "_a")) (code "A") (getD w 0 0 - 32)
 
 unfoldable pub decodeInitials : List (List ℕ) → List ℕ
 decodeInitials [] = []
-decodeInitials (w ∷ ws) = dottedInitials (uppercaseOf w) (map uppercaseOf ws)
+decodeInitials (w ∷ ws) = dottedInitials (letterOfWord w) (map letterOfWord ws)
 
 -- "a" or "p" before the last word, "m"
 abbrev pub decodeMeridiem : List (List ℕ) → List ℕ
@@ -176,13 +176,13 @@ abbrev pub decodeUnit : List (List ℕ) → List ℕ
 decodeUnit ws = decodeDigits (parseWords (butLast 1 ws)) ++ getD abbreviations (indexOf (lastWord ws) unitWords) []
 
 -- a line of one word that no number has
-abbrev pub isSingleWord : List (List ℕ) → Bool
-isSingleWord ws = eqb (length ws) 1 && not (listed (firstWord ws) tableWords)
+abbrev pub isOneWordName : List (List ℕ) → Bool
+isOneWordName ws = eqb (length ws) 1 && not (listed (firstWord ws) tableWords)
 
 -- the clear name that is called with the words ws, if there is one: by what the first word is, then by what the last one is
 unfoldable pub decode : List (List ℕ) → List ℕ
 decode ws =
-    cond (isSingleWord ws) (firstWord ws)
+    cond (isOneWordName ws) (firstWord ws)
     (cond (isLetterWord (firstWord ws)) (decodeInitials ws)
     (cond (same (lastWord ws) (bytes "cent")) (decodeFigure (parseWords (butLast 2 ws)) ++ bytes "%")
     (cond (same (lastWord ws) (bytes "m")) (decodeMeridiem ws)

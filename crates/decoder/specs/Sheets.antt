@@ -25,18 +25,18 @@ abbrev pub AllClear : List (List ℕ) → Type 0
 AllClear = Every Clear
 
 -- "A sentence starts at the entries for which the whole-text form's definition says so.": it says so for entry k, from 0
-abbrev pub SentenceAt : List ℕ → ℕ → Type 0
-SentenceAt s k = getD (sentenceStarts (tokens s)) k false ≡ true
+abbrev pub SentenceStartsAt : List ℕ → ℕ → Type 0
+SentenceStartsAt s k = getD (sentenceStarts (tokens s)) k false ≡ true
 
 -- equally many entries, the same names in the same order, and sentences starting at the same entries
 pub record SameEntries (s t : List ℕ) : Type 0 where
   pub same-count : length (tokens s) ≡ length (tokens t)
   pub same-names : names s ≡ names t
-  pub same-starts : (k : ℕ) → SentenceAt s k ↔ SentenceAt t k
+  pub same-starts : (k : ℕ) → SentenceStartsAt s k ↔ SentenceStartsAt t k
 
 -- "the lines that this call writes, first byte to last"
-abbrev pub linesWritten : Call SheetResult → List ℕ
-linesWritten r = take (r .value .bytes) (r .value .buffer)
+abbrev pub writtenCallSheet : Call SheetResult → List ℕ
+writtenCallSheet r = take (r .value .bytes) (r .value .buffer)
 
 -- ---- a call sheet taken apart
 
@@ -45,29 +45,29 @@ abbrev pub linesIn : List ℕ → List (List ℕ)
 linesIn s = take (length (split (code "\n") s) - 1) (split (code "\n") s)
 
 -- whether a line is marked as a sentence's start
-abbrev pub isStartIn : List ℕ → Bool
-isStartIn l = eqb (getD l 0 0) (code "+")
+abbrev pub startsIn : List ℕ → Bool
+startsIn l = eqb (getD l 0 0) (code "+")
 
 -- the words of a line, which are parted by spaces, after the line's mark
 abbrev pub wordsIn : List ℕ → List (List ℕ)
 wordsIn l = drop 1 (split (code " ") (drop 1 l))
 
 -- what a line says, and what the line of an entry is to say
-pub record Line : Type 0 where
+pub record ParsedLine : Type 0 where
   pub starts : Bool
   pub words : List (List ℕ)
 
-abbrev pub lineIn : List ℕ → Line
-lineIn l = record { starts = isStartIn l; words = wordsIn l }
+abbrev pub lineIn : List ℕ → ParsedLine
+lineIn l = record { starts = startsIn l; words = wordsIn l }
 
-abbrev pub expectedLine : SheetEntry → Line
+abbrev pub expectedLine : SheetEntry → ParsedLine
 expectedLine e = record { starts = e .starts; words = wordsOf e }
 
 -- ---- no public promise is made of these
 
 -- the entry that a line calls, and those that a call sheet does
 abbrev pub decodeLine : List ℕ → SheetEntry
-decodeLine l = record { starts = isStartIn l; name = decode (wordsIn l) }
+decodeLine l = record { starts = startsIn l; name = decode (wordsIn l) }
 
 abbrev pub decodeSheet : List ℕ → List SheetEntry
 decodeSheet s = map decodeLine (linesIn s)

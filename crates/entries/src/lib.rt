@@ -13,10 +13,10 @@ ghost use Rattle.call_spec.specs.Calls.{anyLong};
 ghost use Rattle.entries.specs.Find.{foundEntry, asFoundEntry, notFound};
 
 // The longest name that is called.
-pub const NAME_BYTES: usize = 4096;
+pub const NAME_LIMIT: usize = 4096;
 
 // The shortest run in which a name may be longer.
-const RUN_BYTES: usize = NAME_BYTES + 1;
+const LONG_RUN_SIZE: usize = NAME_LIMIT + 1;
 
 // Where an entry was found, if it was: whether it starts a sentence, and its name's place in the sheet.
 pub struct Found {
@@ -32,8 +32,8 @@ fn has_long_run(s: &[u8]) -> bool
     ensures { λ r. ⌜ (r ≡ false → anyLong (entries (now (s .entry))) ≡ false) ⌝ }
 {
     let mut at = 0;
-    while NAME_BYTES < s.len() - at {
-        let ahead = after_last(WHITESPACE, 0, part(s, at, at + RUN_BYTES));
+    while NAME_LIMIT < s.len() - at {
+        let ahead = after_last(WHITESPACE, 0, part(s, at, at + LONG_RUN_SIZE));
         if ahead == 0 {
             return true;
         }
@@ -55,7 +55,7 @@ pub fn has_long_name(s: &[u8]) -> bool
         if places.none_left(s.len()) {
             return false;
         }
-        if NAME_BYTES < saturating_sub(places.punctuation, places.name) {
+        if NAME_LIMIT < saturating_sub(places.punctuation, places.name) {
             return true;
         }
         at = places.end;

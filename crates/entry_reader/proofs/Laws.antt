@@ -6,7 +6,7 @@ use Prim.Native.Nat.{ℕ, _+_, _-_, _<_}
 use native.Mathlib.Numerals.{add-one}
 use native.Mathlib.Omega.{arith}
 use lib.ListN.{length, take}
-use Rattle.word_writer.specs.Writer.{Writer, writer, emitAll}
+use Rattle.word_writer.specs.Writer.{Writer, writer, putWords}
 use Rattle.word_writer.specs.declared.Cursor.{Cursor}
 use Rattle.numerals.specs.Words.{spelled}
 use Rattle.rows.specs.Rows.{Reading, by, isPercent, perCent, read}
@@ -25,8 +25,8 @@ pub one-less : (n : ℕ) → 0 < n → perCents n ≡ perCent ++ perCents (n - 1
 one-less n h = let e : n ≡ n - 1 + 1 = omega arith in ap perCents e ∙ perCents-suc (n - 1)
 
 -- nothing is left to be said
-pub none-left : (n : ℕ) → n ≡ 0 → (σ : Writer) {z : Writer} → emitAll (spelled (perCents n)) σ ≡ z → σ ≡ z
-unfolding perCents spelled emitAll
+pub none-left : (n : ℕ) → n ≡ 0 → (σ : Writer) {z : Writer} → putWords (spelled (perCents n)) σ ≡ z → σ ≡ z
+unfolding perCents spelled putWords
 none-left n e σ k = rw e at k
 
 pub no-percents : (g : Reading) → g ≡ withPercents g 0

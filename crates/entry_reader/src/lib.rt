@@ -8,8 +8,8 @@
 use lists::ends_with;
 use lists::without_back;
 use numerals::saying::say;
-use row_readers::NameRead;
-use row_readers::name_read;
+use row_readers::ReadOutcome;
+use row_readers::outcome;
 use row_readers::read_by_row;
 use rows::Row;
 use vocabulary::CENT;
@@ -20,7 +20,7 @@ ghost use mathlib.Core.Bool.{false};
 ghost use mathlib.Core.List.{_++_};
 ghost use Prim.Native.Nat.{_+_, _-_, _≤_};
 ghost use lib.ListN.{length, take};
-ghost use Rattle.word_writer.specs.Writer.{usizeMax, writer, emitAll};
+ghost use Rattle.word_writer.specs.Writer.{usizeMax, writer, putWords};
 ghost use Rattle.numerals.specs.Words.{spelled};
 ghost use Rattle.rows.specs.Rows.{isPercent, perCent, by, read};
 ghost use Rattle.row_readers.specs.Walk.{Says};
@@ -35,7 +35,7 @@ fn is_percent(name: &[u8]) -> bool
 
 // Says "per" and "cent".
 fn say_per_cent(store: &mut [u8], table: &mut [u8], cursor: Cursor) -> Cursor
-    ensures { λ r. ⌜ writer (now (store .exit)) (now (table .exit)) r ≡ emitAll (spelled perCent) (writer (now (store .entry)) (now (table .entry)) cursor) ⌝ }
+    ensures { λ r. ⌜ writer (now (store .exit)) (now (table .exit)) r ≡ putWords (spelled perCent) (writer (now (store .entry)) (now (table .entry)) cursor) ⌝ }
 {
     let p = say(PER, store, table, cursor);
     say(CENT, store, table, p)
@@ -44,7 +44,7 @@ fn say_per_cent(store: &mut [u8], table: &mut [u8], cursor: Cursor) -> Cursor
 // Says "per" and "cent" so many times.
 fn say_per_cents(percents: usize, store: &mut [u8], table: &mut [u8], cursor: Cursor) -> Cursor
     ensures { λ r. ⌜ writer (now (store .exit)) (now (table .exit)) r
-        ≡ emitAll (spelled (perCents percents)) (writer (now (store .entry)) (now (table .entry)) cursor) ⌝ }
+        ≡ putWords (spelled (perCents percents)) (writer (now (store .entry)) (now (table .entry)) cursor) ⌝ }
 {
     let mut p = cursor;
     let mut left = percents;
@@ -89,10 +89,10 @@ fn read_before_percents(
         (writer (now (store .entry)) (now (table .entry)) (cursorOf (now (place .entry))))
         (writer (now (store .exit)) (now (table .exit)) (cursorOf (now (place .exit)))) r ⌝ }
 {
-    let said = read_by_row(name, store, table, cursor_of(place));
-    let p = say_per_cents(percents, store, table, said.cursor);
+    let read = read_by_row(name, store, table, cursor_of(place));
+    let p = say_per_cents(percents, store, table, read.cursor);
     *place = place_of(p);
-    let entry = said.entry;
+    let entry = read.entry;
     entry.row
 }
 
@@ -133,7 +133,7 @@ fn read_percent(
 }
 
 // Says the words of a name, and answers the row that took it.
-pub fn read_name(name: &[u8], store: &mut [u8], table: &mut [u8], cursor: Cursor) -> NameRead
+pub fn read_name(name: &[u8], store: &mut [u8], table: &mut [u8], cursor: Cursor) -> ReadOutcome
     ensures { λ r. ⌜ Says (read (now (name .entry)))
         (writer (now (store .entry)) (now (table .entry)) cursor)
         (writer (now (store .exit)) (now (table .exit)) (r .cursor)) (r .entry .row) ⌝ }
@@ -141,8 +141,8 @@ pub fn read_name(name: &[u8], store: &mut [u8], table: &mut [u8], cursor: Cursor
     let mut place = place_of(cursor);
     if is_percent(name) {
         let row = read_percent(name, 0, store, table, &mut place);
-        return name_read(row, cursor_of(&place));
+        return outcome(row, cursor_of(&place));
     }
     let row = read_before_percents(name, 0, store, table, &mut place);
-    name_read(row, cursor_of(&place))
+    outcome(row, cursor_of(&place))
 }

@@ -9,7 +9,7 @@ use word_writer::Cursor;
 use word_writer::put_word;
 ghost use mathlib.Core.Path.{_≡_};
 ghost use lib.ListN.{take};
-ghost use Rattle.word_writer.specs.Writer.{writer, emit, emitAll};
+ghost use Rattle.word_writer.specs.Writer.{writer, putWord, putWords};
 ghost use Rattle.numerals.specs.Words.{spelled};
 ghost use Rattle.letters.specs.Letters.{letterWord, letters};
 ghost use Rattle.letters.specs.Walk.{charSpan};
@@ -24,7 +24,7 @@ fn first_char(s: &[u8]) -> &[u8]
 // Says the word of a character.
 pub fn say_letter(c: &[u8], store: &mut [u8], table: &mut [u8], cursor: Cursor) -> Cursor
     ensures { λ r. ⌜ writer (now (store .exit)) (now (table .exit)) r
-        ≡ emit (letterWord (now (c .entry))) (writer (now (store .entry)) (now (table .entry)) cursor) ⌝ }
+        ≡ putWord (letterWord (now (c .entry))) (writer (now (store .entry)) (now (table .entry)) cursor) ⌝ }
 {
     if c.len() != 1 {
         return put_word(store, table, cursor, c);
@@ -40,7 +40,7 @@ pub fn say_letter(c: &[u8], store: &mut [u8], table: &mut [u8], cursor: Cursor) 
 // Says one word per character of s.
 pub fn say_letters(s: &[u8], store: &mut [u8], table: &mut [u8], cursor: Cursor) -> Cursor
     ensures { λ r. ⌜ writer (now (store .exit)) (now (table .exit)) r
-        ≡ emitAll (spelled (letters (now (s .entry)))) (writer (now (store .entry)) (now (table .entry)) cursor) ⌝ }
+        ≡ putWords (spelled (letters (now (s .entry)))) (writer (now (store .entry)) (now (table .entry)) cursor) ⌝ }
 {
     let mut p = cursor;
     let mut i = 0;

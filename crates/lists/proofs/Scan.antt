@@ -1,4 +1,4 @@
--- Laws of `all`, `span`, `countb`, `filterb`, `afterLast` and `sameBy` along a list, over the test, for loops that count. Assumes nothing.
+-- Laws of `all`, `span`, `countIf`, `filterIf`, `afterLast` and `sameBy` along a list, over the test, for loops that count. Assumes nothing.
 use mathlib.Core.Path.{_≡_, refl, sym, ap, _∙_}
 use mathlib.Core.Bool.{Bool, true, false, cond, _&&_, and-false, and-assoc, and-eq-true-iff, true≢false, _||_, or-assoc, or-false}
 use mathlib.Core.List.{List, [], _∷_, _++_}
@@ -12,7 +12,7 @@ use lib.Seq.{drop-cons, take-all, take-suc, length-take-le}
 use borrow.Author.Tests.{eqb-true, ne-eqb}
 use Rattle.lists.specs.Classes.{oneOf}
 use Rattle.lists.proofs.Bools.{or-true-elim}
-use Rattle.lists.specs.Bytes.{all, any, span, countb, filterb, afterLast, sameBy, startsWith}
+use Rattle.lists.specs.Bytes.{all, any, span, countIf, filterIf, afterLast, sameBy, startsWith}
 
 module _ (p : ℕ → Bool) (s : List ℕ) (i : ℕ) where
   -- what a loop keeps: the bytes before i passed
@@ -56,18 +56,18 @@ span-le p (b ∷ s) = go (p b) (span-le p s)
     go false h = omega arith
 
 -- what a count keeps: what is counted, and the count of what is left
-pub countb-more : (p : ℕ → Bool) (s : List ℕ) (i n : ℕ) → i < length s → countb p s ≡ n + countb p (drop i s)
-    → countb p s ≡ (n + cond (p (getD s i 0)) 1 0) + countb p (drop (i + 1) s)
-unfolding countb
-countb-more p s i n h e = e ∙ rw (add-one, drop-cons s i 0) (go (p (getD s i 0)))
+pub countIf-more : (p : ℕ → Bool) (s : List ℕ) (i n : ℕ) → i < length s → countIf p s ≡ n + countIf p (drop i s)
+    → countIf p s ≡ (n + cond (p (getD s i 0)) 1 0) + countIf p (drop (i + 1) s)
+unfolding countIf
+countIf-more p s i n h e = e ∙ rw (add-one, drop-cons s i 0) (go (p (getD s i 0)))
   where
-    go : (t : Bool) → n + cond t (suc (countb p (drop (suc i) s))) (countb p (drop (suc i) s)) ≡ (n + cond t 1 0) + countb p (drop (suc i) s)
+    go : (t : Bool) → n + cond t (suc (countIf p (drop (suc i) s))) (countIf p (drop (suc i) s)) ≡ (n + cond t 1 0) + countIf p (drop (suc i) s)
     go true = omega arith
     go false = omega arith
 
-pub countb-end : (p : ℕ → Bool) (s : List ℕ) (i n : ℕ) → length s ≤ i → countb p s ≡ n + countb p (drop i s) → n ≡ countb p s
-unfolding countb
-countb-end p s i n h e = sym (e ∙ rw (drop-of-length-le s) (omega arith))
+pub countIf-end : (p : ℕ → Bool) (s : List ℕ) (i n : ℕ) → length s ≤ i → countIf p s ≡ n + countIf p (drop i s) → n ≡ countIf p s
+unfolding countIf
+countIf-end p s i n h e = sym (e ∙ rw (drop-of-length-le s) (omega arith))
 
 -- one byte more at the end
 last-snoc : (p : ℕ → Bool) (s : List ℕ) (x : ℕ) → afterLast p (s ++ (x ∷ [])) ≡ cond (p x) (suc (length s)) (afterLast p s)
@@ -207,22 +207,22 @@ span-again p (b ∷ s) = go (p b) refl (span-again p s)
     go false e h = omega arith
 
 -- the bytes of two texts that pass
-pub filterb-append : (p : ℕ → Bool) (s t : List ℕ) → filterb p (s ++ t) ≡ filterb p s ++ filterb p t
-unfolding filterb
-filterb-append p [] t = refl
-filterb-append p (b ∷ s) t = rw (filterb-append p s t) (go (p b))
+pub filterIf-append : (p : ℕ → Bool) (s t : List ℕ) → filterIf p (s ++ t) ≡ filterIf p s ++ filterIf p t
+unfolding filterIf
+filterIf-append p [] t = refl
+filterIf-append p (b ∷ s) t = rw (filterIf-append p s t) (go (p b))
   where
-    go : (u : Bool) → cond u (b ∷ filterb p s ++ filterb p t) (filterb p s ++ filterb p t) ≡ cond u (b ∷ filterb p s) (filterb p s) ++ filterb p t
+    go : (u : Bool) → cond u (b ∷ filterIf p s ++ filterIf p t) (filterIf p s ++ filterIf p t) ≡ cond u (b ∷ filterIf p s) (filterIf p s) ++ filterIf p t
     go true = refl
     go false = refl
 
 -- the bytes that pass are no more than there are
-pub filterb-le : (p : ℕ → Bool) (s : List ℕ) → length (filterb p s) ≤ length s
-unfolding filterb
-filterb-le p [] = omega arith
-filterb-le p (b ∷ s) = go (p b) (filterb-le p s)
+pub filterIf-le : (p : ℕ → Bool) (s : List ℕ) → length (filterIf p s) ≤ length s
+unfolding filterIf
+filterIf-le p [] = omega arith
+filterIf-le p (b ∷ s) = go (p b) (filterIf-le p s)
   where
-    go : (t : Bool) → length (filterb p s) ≤ length s → length (cond t (b ∷ filterb p s) (filterb p s)) ≤ suc (length s)
+    go : (t : Bool) → length (filterIf p s) ≤ length s → length (cond t (b ∷ filterIf p s) (filterIf p s)) ≤ suc (length s)
     go true h = omega arith
     go false h = omega arith
 

@@ -45,14 +45,14 @@ afterLast p [] = 0
 afterLast p (b ∷ s) = cond (eqb (afterLast p s) 0) (cond (p b) 1 0) (suc (afterLast p s))
 
 -- how many bytes pass p
-unfoldable pub countb : (ℕ → Bool) → List ℕ → ℕ
-countb p [] = 0
-countb p (b ∷ s) = cond (p b) (suc (countb p s)) (countb p s)
+unfoldable pub countIf : (ℕ → Bool) → List ℕ → ℕ
+countIf p [] = 0
+countIf p (b ∷ s) = cond (p b) (suc (countIf p s)) (countIf p s)
 
 -- the bytes that pass p
-unfoldable pub filterb : (ℕ → Bool) → List ℕ → List ℕ
-filterb p [] = []
-filterb p (b ∷ s) = cond (p b) (b ∷ filterb p s) (filterb p s)
+unfoldable pub filterIf : (ℕ → Bool) → List ℕ → List ℕ
+filterIf p [] = []
+filterIf p (b ∷ s) = cond (p b) (b ∷ filterIf p s) (filterIf p s)
 
 -- c is one of the bytes
 abbrev pub elem : ℕ → List ℕ → Bool

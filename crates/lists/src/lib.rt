@@ -6,7 +6,7 @@ ghost use mathlib.Core.List.{map};
 ghost use Prim.Native.Nat.{_-_, _≤_, min};
 ghost use lib.ListN.{length, take, drop, getD};
 ghost use lib.Seq.{sets};
-ghost use Rattle.lists.specs.Bytes.{all, span, countb, afterLast, sameBy, toLower, startsWith, endsWith, stripPrefix, stripSuffix, endsWithBy};
+ghost use Rattle.lists.specs.Bytes.{all, span, countIf, afterLast, sameBy, toLower, startsWith, endsWith, stripPrefix, stripSuffix, endsWithBy};
 ghost use Rattle.lists.specs.Classes.{inClass, folded, prepunctuationMark, postpunctuationMark};
 ghost use Rattle.lists.specs.Packed.{unpack};
 
@@ -233,7 +233,7 @@ pub fn one_if(yes: bool) -> usize
 
 // How many bytes are of the class k.
 pub fn count_of(k: u8, c: u8, s: &[u8]) -> usize
-    ensures { λ r. ⌜ r ≡ countb (inClass k c) (now (s .entry)) ⌝ }
+    ensures { λ r. ⌜ r ≡ countIf (inClass k c) (now (s .entry)) ⌝ }
 {
     let mut n = 0;
     let mut i = 0;

@@ -15,7 +15,7 @@ ghost use mathlib.Core.Bool.{_&&_};
 ghost use Prim.Native.Nat.{_/_, _<_};
 ghost use lib.Dec.{ltb};
 ghost use lib.ListN.{length};
-ghost use Rattle.word_writer.specs.Writer.{usizeMax, writer, emitAll};
+ghost use Rattle.word_writer.specs.Writer.{usizeMax, writer, putWords};
 ghost use mathlib.Core.List.{flatten};
 ghost use Rattle.word_writer.specs.Words.{tooShortFor, wordsCall, asWords};
 ghost use Rattle.numerals.specs.Words.{spelled};
@@ -44,11 +44,17 @@ pub struct RomanValue {
 }
 
 // Says what a reader reads s as.
-fn say_as(style: SayAs, s: &[u8], store: &mut [u8], table: &mut [u8], cursor: Cursor) -> Cursor
+fn say_as(
+    interpretation: SayAs,
+    s: &[u8],
+    store: &mut [u8],
+    table: &mut [u8],
+    cursor: Cursor,
+) -> Cursor
     ensures { λ r. ⌜ writer (now (store .exit)) (now (table .exit)) r
-        ≡ emitAll (spelled (wordsAs style (now (s .entry)))) (writer (now (store .entry)) (now (table .entry)) cursor) ⌝ }
+        ≡ putWords (spelled (wordsAs interpretation (now (s .entry)))) (writer (now (store .entry)) (now (table .entry)) cursor) ⌝ }
 {
-    match style {
+    match interpretation {
         SayAs::Cardinal => say_cardinal(s, store, table, cursor),
         SayAs::Ordinal => say_ordinal(s, store, table, cursor),
         SayAs::Year => say_year(s, store, table, cursor),
@@ -71,33 +77,39 @@ fn has_ample_room(n: usize, store: usize, table: usize) -> bool
 }
 
 // Whether a buffer is too short for the words of s: they are measured by the walk that writes them, on empty buffers.
-fn too_short(style: SayAs, s: &[u8], store: usize, table: usize) -> bool
+fn too_short(interpretation: SayAs, s: &[u8], store: usize, table: usize) -> bool
     requires { ⌜ (store < usizeMax) × (table < usizeMax) ⌝ }
     ensures { λ r. ⌜ r
-        ≡ tooShortFor (length (flatten (spelled (wordsAs style (now (s .entry)))))) (length (spelled (wordsAs style (now (s .entry))))) store table ⌝ }
+        ≡ tooShortFor (length (flatten (spelled (wordsAs interpretation (now (s .entry)))))) (length (spelled (wordsAs interpretation (now (s .entry))))) store table ⌝ }
 {
     if has_ample_room(s.len(), store, table) {
         return false;
     }
     let mut no_store = [0u8; 0];
     let mut no_table = [0u8; 0];
-    let measured = say_as(style, s, &mut no_store, &mut no_table, Cursor::start());
+    let measured = say_as(
+        interpretation,
+        s,
+        &mut no_store,
+        &mut no_table,
+        Cursor::start(),
+    );
     measured.exceeds(store, table)
 }
 
 // The words of s in store and table: measured first, and then written.
-fn write_words(style: SayAs, s: &[u8], store: &mut [u8], table: &mut [u8]) -> WordCounts
+fn write_words(interpretation: SayAs, s: &[u8], store: &mut [u8], table: &mut [u8]) -> WordCounts
     ensures { λ r. ⌜ asWords r (now (store .exit)) (now (table .exit))
-        ≡ wordsCall (now (s .entry)) (spelled (wordsAs style (now (s .entry)))) (now (store .entry)) (now (table .entry)) ⌝ }
+        ≡ wordsCall (now (s .entry)) (spelled (wordsAs interpretation (now (s .entry)))) (now (store .entry)) (now (table .entry)) ⌝ }
 {
     let refusal = refusal_of(s);
     if refusal != 0 {
         return WordCounts::refused(refusal);
     }
-    if too_short(style, s, store.len(), table.len()) {
+    if too_short(interpretation, s, store.len(), table.len()) {
         return WordCounts::refused(Refusal::BufferTooShort.number());
     }
-    say_as(style, s, store, table, Cursor::start()).counts()
+    say_as(interpretation, s, store, table, Cursor::start()).counts()
 }
 
 pub fn cardinal(s: &[u8], store: &mut [u8], table: &mut [u8]) -> WordCounts

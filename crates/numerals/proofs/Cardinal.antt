@@ -16,7 +16,7 @@ use Rattle.lists.proofs.Sets.{le-or-lt}
 use Rattle.lists.proofs.Recursion.{Local, recur-eq, recur-induct, cond-elim}
 use Rattle.numerals.specs.Words.{Word, one, teen, ten, hundred, scale}
 use Rattle.numerals.specs.Cardinal.{pairWords, scaleFor, joinAtScale, splitAt, byScale, cardinalStep, shortCardinal, cardinalOf}
-use Rattle.numerals.specs.Walk.{numberOf, HeldWriter, holdWord, holdWords, hasNoWords}
+use Rattle.numerals.specs.Walk.{numberOf, HeldWriter, holdWord, holdWords, isZeroGroup}
 use Rattle.numerals.proofs.Holding.{holdWords-words, pair-tests}
 
 -- a scale governs some digits of a longer string, and leaves some; up to three where there are at most twelve
@@ -165,17 +165,17 @@ three-nil true u w v ws e = e
 three-nil false u w v ws e = refl
 
 -- up to three digits
-pub no-words-nil : (s : List ℕ) → 0 < length s → length s ≤ 3 → hasNoWords s ≡ nil (shortCardinal s)
-unfolding hasNoWords
-no-words-nil [] z h = absurd (omega arith)
-no-words-nil (a ∷ []) z h = rw (cardinal-1 (a ∷ []) refl)
-no-words-nil (a ∷ b ∷ []) z h = rw (cardinal-2 (a ∷ b ∷ []) refl, pair-nil a b) (or-false (eqb a 0 && eqb b 0))
-no-words-nil (a ∷ b ∷ c ∷ []) z h =
+pub zero-group-nil : (s : List ℕ) → 0 < length s → length s ≤ 3 → isZeroGroup s ≡ nil (shortCardinal s)
+unfolding isZeroGroup
+zero-group-nil [] z h = absurd (omega arith)
+zero-group-nil (a ∷ []) z h = rw (cardinal-1 (a ∷ []) refl)
+zero-group-nil (a ∷ b ∷ []) z h = rw (cardinal-2 (a ∷ b ∷ []) refl, pair-nil a b) (or-false (eqb a 0 && eqb b 0))
+zero-group-nil (a ∷ b ∷ c ∷ []) z h =
     rw (
       cardinal-three a b c,
       three-nil (eqb a 0) _ (one a) hundred (shortCardinal (b ∷ c ∷ [])) (ap nil (cardinal-2 (b ∷ c ∷ []) refl) ∙ pair-nil b c),
     )
-no-words-nil (a ∷ b ∷ c ∷ d ∷ s) z h = absurd (omega arith)
+zero-group-nil (a ∷ b ∷ c ∷ d ∷ s) z h = absurd (omega arith)
 
 cardinal-long-digits : (s : List ℕ) → 3 < length s → shortCardinal s ≡ byScale shortCardinal s
 unfolding cardinalStep
@@ -187,7 +187,7 @@ cardinal-long-digits (a ∷ b ∷ c ∷ d ∷ s) h = cardinal-eq (a ∷ b ∷ c 
 
 -- the scale's word, where the left part has words
 abbrev pub scaleWord : List ℕ → ℕ → List Word
-scaleWord left k = cond (hasNoWords left) [] (scale k ∷ [])
+scaleWord left k = cond (isZeroGroup left) [] (scale k ∷ [])
 
 -- more digits: the left part, the scale, the right part
 pub cardinal-more : (s : List ℕ) → 3 < length s → length s ≤ 12
@@ -199,7 +199,7 @@ cardinal-more s h m =
     let p = scale-split (length s) h in
     let e : length (take n s) ≡ n = length-take-le n s (omega (arith, p .left)) in
     cardinal-long-digits s h ∙ join-parts (shortCardinal (take n s)) (scale (scaleFor (length s))) (shortCardinal (drop n s))
-    ∙ rw (no-words-nil (take n s) (omega (arith, p .whole, p .right)) (omega (arith, p .left-short m)))
+    ∙ rw (zero-group-nil (take n s) (omega (arith, p .whole, p .right)) (omega (arith, p .left-short m)))
 
 -- ---- the same as what is held
 

@@ -7,27 +7,27 @@ use native.Mathlib.Omega.{arith}
 use lib.Dec.{eqb}
 use lib.ListN.{length, getD, take, drop}
 use borrow.Author.Tests.{le-leb, lt-leb, eqb-true, eqb-false}
-use Rattle.lists.specs.Bytes.{bytes, filterb, afterLast}
+use Rattle.lists.specs.Bytes.{bytes, filterIf, afterLast}
 use Rattle.lists.specs.Classes.{digit, except}
-use Rattle.lists.proofs.Scan.{filterb-append, ByParts, next-byte}
+use Rattle.lists.proofs.Scan.{filterIf-append, ByParts, next-byte}
 use Rattle.numerals.specs.Words.{Word, one, spell, spelled}
 use Rattle.numerals.specs.Cardinal.{digitValues, digitValue, digits}
 
 -- a byte at the front
 digitValues-cons : (b : ℕ) (s : List ℕ) → digitValues (b ∷ s) ≡ cond (digit b) (digitValue b ∷ digitValues s) (digitValues s)
-unfolding digitValues filterb
+unfolding digitValues filterIf
 digitValues-cons b s = go (digit b)
   where
     go : (t : Bool)
-        → map digitValue (cond t (b ∷ filterb digit s) (filterb digit s)) ≡ cond t (digitValue b ∷ map digitValue (filterb digit s))
-        (map digitValue (filterb digit s))
+        → map digitValue (cond t (b ∷ filterIf digit s) (filterIf digit s)) ≡ cond t (digitValue b ∷ map digitValue (filterIf digit s))
+        (map digitValue (filterIf digit s))
     go true = refl
     go false = refl
 
 -- the digits of two texts, one after the other
 pub digitValues-append : ByParts digitValues
 unfolding digitValues
-digitValues-append s t = ap (map digitValue) (filterb-append digit s t) ∙ map-append digitValue (filterb digit s) (filterb digit t)
+digitValues-append s t = ap (map digitValue) (filterIf-append digit s t) ∙ map-append digitValue (filterIf digit s) (filterIf digit t)
 
 -- the digits from byte i on are those of this byte and those from the next on
 pub digitValues-at : (s : List ℕ) (i : ℕ) → i < length s → digitValues (drop i s) ≡ digitValues (getD s i 0 ∷ []) ++ digitValues (drop (i + 1) s)
@@ -35,17 +35,17 @@ digitValues-at = next-byte digitValues digitValues-append
 
 -- the byte is a digit, or none
 pub digitValues-digit : (b : ℕ) → 48 ≤ b → b ≤ 57 → digitValues (b ∷ []) ≡ digitValue b ∷ []
-unfolding digitValues filterb
+unfolding digitValues filterIf
 digitValues-digit b h k = rw (le-leb 48 b h, le-leb b 57 k)
 
 -- a byte below the digits
 pub digitValues-low : (b : ℕ) → b < 48 → digitValues (b ∷ []) ≡ []
-unfolding digitValues filterb
+unfolding digitValues filterIf
 digitValues-low b h = rw (lt-leb 48 b h)
 
 -- a byte above the digits
 pub digitValues-high : (b : ℕ) → 48 ≤ b → 57 < b → digitValues (b ∷ []) ≡ []
-unfolding digitValues filterb
+unfolding digitValues filterIf
 digitValues-high b h k = rw (le-leb 48 b h, lt-leb b 57 k)
 
 -- words one after the other are spelled so
@@ -59,24 +59,24 @@ unfolding digits
 digits-append s t = rw (digitValues-append s t, map-append one (digitValues s) (digitValues t)) (spelled-append _ _)
 
 no-digitValues : digitValues [] ≡ []
-unfolding digitValues filterb
+unfolding digitValues filterIf
 no-digitValues = refl
 
 -- an empty text has no digits to say
 pub no-digits : spelled (digits []) ≡ []
-unfolding digits digitValues filterb spelled
+unfolding digits digitValues filterIf spelled
 no-digits = refl
 
 -- commas are no digits
-pub digitValues-commas : (s : List ℕ) → digitValues (filterb (except 44) s) ≡ digitValues s
-unfolding digitValues filterb
+pub digitValues-commas : (s : List ℕ) → digitValues (filterIf (except 44) s) ≡ digitValues s
+unfolding digitValues filterIf
 digitValues-commas [] = refl
 digitValues-commas (b ∷ s) = go (eqb b 44) refl (digitValues-commas s) ∙ sym (digitValues-cons b s)
   where
-    go : (t : Bool) → eqb b 44 ≡ t → digitValues (filterb (except 44) s) ≡ digitValues s
-        → digitValues (cond (not t) (b ∷ filterb (except 44) s) (filterb (except 44) s)) ≡ cond (digit b) (digitValue b ∷ digitValues s) (digitValues s)
+    go : (t : Bool) → eqb b 44 ≡ t → digitValues (filterIf (except 44) s) ≡ digitValues s
+        → digitValues (cond (not t) (b ∷ filterIf (except 44) s) (filterIf (except 44) s)) ≡ cond (digit b) (digitValue b ∷ digitValues s) (digitValues s)
     go true e r = r ∙ rw (eqb-true b 44 e)
-    go false e r = digitValues-cons b (filterb (except 44) s) ∙ rw r
+    go false e r = digitValues-cons b (filterIf (except 44) s) ∙ rw r
 
 -- ---- the last digit
 
@@ -122,5 +122,5 @@ last-some s h e = let q = ap length (no-last-digit s e) in omega arith
 
 -- the bytes 0 to 9 have these values
 pub each-digit-value : digitValues (bytes "0123456789") ≡ 0 ∷ 1 ∷ 2 ∷ 3 ∷ 4 ∷ 5 ∷ 6 ∷ 7 ∷ 8 ∷ 9 ∷ []
-unfolding digitValues filterb
+unfolding digitValues filterIf
 each-digit-value = refl

@@ -9,7 +9,7 @@ use native.Mathlib.Omega.{arith}
 use lib.Dec.{leb, ltb}
 use lib.ListN.{length, getD}
 use borrow.Author.Tests.{leb-true}
-use Rattle.lists.specs.Bytes.{filterb, all, Every}
+use Rattle.lists.specs.Bytes.{filterIf, all, Every}
 use Rattle.lists.specs.Classes.{digit}
 use Rattle.lists.proofs.Every.{every-append, every-map}
 use Rattle.lists.proofs.Recursion.{cond-elim}
@@ -41,11 +41,11 @@ number-word-same f g e w n = rw (n .2) (map-same-at f g numberWords (n .0) hundr
 
 -- the values of a text's digits are below ten
 pub digitValues-below-ten : (s : List ℕ) → BelowTen (digitValues s)
-unfolding digitValues filterb
+unfolding digitValues filterIf
 digitValues-below-ten [] = tt
 digitValues-below-ten (b ∷ s) = go (leb (code "0") b) (leb b (code "9")) refl (digitValues-below-ten s)
   where
-    go : (t u : Bool) → leb b (code "9") ≡ u → BelowTen (digitValues s) → BelowTen (map digitValue (cond (t && u) (b ∷ filterb digit s) (filterb digit s)))
+    go : (t u : Bool) → leb b (code "9") ≡ u → BelowTen (digitValues s) → BelowTen (map digitValue (cond (t && u) (b ∷ filterIf digit s) (filterIf digit s)))
     go true true e h = (omega (arith, leb-true b (code "9") e), h)
     go true false e h = h
     go false u e h = h

@@ -11,7 +11,7 @@ use borrow.Author.Tests.{le-leb, lt-leb}
 use Rattle.lists.proofs.Sets.{le-or-lt}
 use Rattle.numerals.specs.Cardinal.{digitValues, digitValue}
 use Rattle.numerals.specs.Walk.{padded, firstDigits}
-use Rattle.numerals.specs.declared.pick.FirstDigits.{FirstDigits}
+use Rattle.numerals.specs.declared.digit_values.FirstDigits.{FirstDigits}
 use Rattle.numerals.proofs.Digits.{digitValues-append, digitValues-at, digitValues-digit}
 
 -- up to k values stand in front

@@ -8,9 +8,9 @@ use native.Mathlib.Omega.{arith}
 use lib.Dec.{leb}
 use lib.ListN.{length, getD, length-append, length-map}
 use borrow.Author.Tests.{leb-true, lt-leb}
-use Rattle.lists.specs.Bytes.{filterb, all, Every}
+use Rattle.lists.specs.Bytes.{filterIf, all, Every}
 use Rattle.lists.specs.Classes.{digit, except}
-use Rattle.lists.proofs.Scan.{filterb-le}
+use Rattle.lists.proofs.Scan.{filterIf-le}
 use Rattle.lists.proofs.Table.{upto, below}
 use Rattle.vocabulary.proofs.Laws.{unfoldVocabulary}
 use Rattle.numerals.specs.Words.{Word, one, hundred, scale, spell, spelled, consecutiveWords, numberWords}
@@ -131,7 +131,7 @@ cardinalOf-room s h =
 -- a text has no more digits than bytes
 pub digitValues-le : (s : List ℕ) → length (digitValues s) ≤ length s
 unfolding digitValues
-digitValues-le s = omega (arith, length-map (filterb digit s) digitValue, filterb-le digit s)
+digitValues-le s = omega (arith, length-map (filterIf digit s) digitValue, filterIf-le digit s)
 
 -- the words of a text's number
 pub cardinal-room : (s : List ℕ) → RoomForNumber (length s) (cardinal s)
@@ -163,5 +163,5 @@ zero-room n (w ∷ ws) h r = omega (arith, last-room (w ∷ ws) h)
 pub ordinal-room : (s : List ℕ) → RoomFor (length s) (ordinal s)
 unfolding ordinal
 ordinal-room s =
-    let t = filterb (except (code ",")) s in
-    omega (arith, zero-room (length t) (cardinal t) (cardinal-number-words t) (cardinal-room t), filterb-le (except (code ",")) s)
+    let t = filterIf (except (code ",")) s in
+    omega (arith, zero-room (length t) (cardinal t) (cardinal-number-words t) (cardinal-room t), filterIf-le (except (code ",")) s)

@@ -11,7 +11,7 @@ use lib.Dec.{eqb}
 use lib.ListN.{length, take, drop, getD, length-take, length-drop, take-append-drop}
 use lib.Pow.{pow-add}
 use borrow.Author.Tests.{eqb-true, le-leb}
-use Rattle.lists.specs.Bytes.{filterb, sameBy, Every}
+use Rattle.lists.specs.Bytes.{filterIf, sameBy, Every}
 use Rattle.lists.specs.Classes.{except}
 use Rattle.vocabulary.proofs.Laws.{unfoldVocabulary}
 use Rattle.numerals.specs.Words.{Word, one, hundred, scale, spell, spelled, consecutiveWords, numberWords}
@@ -176,7 +176,7 @@ cardinal-some s z h n = rw (le-leb (length (digitValues s)) 12 h)
 pub ordinal-names : (s : List ℕ) → length (digitValues s) ≤ 12 → ordinalValueOf (spelled (ordinal s)) ≡ some (decimal (digitValues s))
 unfolding ordinal ordinalValueOf wordsValue valueFrom orZero
 ordinal-names s h =
-    let t = filterb (except (code ",")) s in
+    let t = filterIf (except (code ",")) s in
     go (cardinal t) (cardinal-number-words t) (cardinal-value t (rw (digitValues-commas s) h) ∙ ap decimal (digitValues-commas s))
   where
     go : (ws : List Word) → Every NumberWord ws → wordsValue ws ≡ decimal (digitValues s)

@@ -5,7 +5,7 @@ use Prim.Native.Nat.{ℕ, zero, suc, _-_, _*_}
 use Prim.Native.Char.{code}
 use lib.Dec.{leb, ltb, eqb}
 use lib.ListN.{length, take, drop}
-use Rattle.lists.specs.Bytes.{filterb}
+use Rattle.lists.specs.Bytes.{filterIf}
 use Rattle.lists.specs.Classes.{digit}
 use Rattle.lists.specs.Recur.{recur}
 use Rattle.numerals.specs.Words.{Word, one, teen, ten, hundred, scale}
@@ -15,7 +15,7 @@ digitValue b = b - code "0"
 
 -- "non-digits are dropped first"
 unfoldable pub digitValues : List ℕ → List ℕ
-digitValues s = map digitValue (filterb digit s)
+digitValues s = map digitValue (filterIf digit s)
 
 -- `"00": none; else a pairWords reads as tens and ones`
 unfoldable pub pairWords : ℕ → ℕ → List Word

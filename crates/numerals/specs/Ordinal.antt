@@ -4,7 +4,7 @@ use mathlib.Core.List.{List, [], _∷_, _++_}
 use Prim.Native.Nat.{ℕ}
 use Prim.Native.Char.{code}
 use Prim.Native.String.{String}
-use Rattle.lists.specs.Bytes.{bytes, same, filterb}
+use Rattle.lists.specs.Bytes.{bytes, same, filterIf}
 use Rattle.lists.specs.Classes.{except}
 use Rattle.vocabulary.specs.Vocabulary.{cardinals, ordinals}
 use Rattle.numerals.specs.Words.{Word, one, other, spell}
@@ -33,4 +33,4 @@ onLast (w ∷ v ∷ ws) = w ∷ onLast (v ∷ ws)
 
 -- "only commas are dropped before `cardinal`"
 unfoldable pub ordinal : List ℕ → List Word
-ordinal s = onLast (orZero (cardinal (filterb (except (code ",")) s)))
+ordinal s = onLast (orZero (cardinal (filterIf (except (code ",")) s)))

@@ -6,10 +6,10 @@ use lib.Dec.{leb, ltb, eqb}
 use lib.ListN.{length, getD}
 use Rattle.lists.specs.Bytes.{Every}
 use Rattle.vocabulary.specs.Vocabulary.{wordOf, onesAt, teensAt, tensAt, scalesAt, ordinalStep}
-use Rattle.word_writer.specs.Writer.{Writer, writer, emit}
+use Rattle.word_writer.specs.Writer.{Writer, writer, putWord}
 use Rattle.numerals.specs.Words.{Word, one, teen, ten, hundred, scale, other}
 use Rattle.numerals.specs.Cardinal.{digitValues}
-use Rattle.numerals.specs.declared.pick.FirstDigits.{FirstDigits}
+use Rattle.numerals.specs.declared.digit_values.FirstDigits.{FirstDigits}
 use Rattle.numerals.specs.declared.held.Held.{Held}
 
 -- values of digits: each is below ten
@@ -45,7 +45,7 @@ held s t h = record { writer = writer s t (h .cursor); last = h .last }
 
 -- the word that is held is written
 unfoldable pub flushed : HeldWriter → Writer
-flushed h = cond (eqb (h .last) 0) (h .writer) (emit (wordOf (h .last)) (h .writer))
+flushed h = cond (eqb (h .last) 0) (h .writer) (putWord (wordOf (h .last)) (h .writer))
 
 -- the next word is held instead
 unfoldable pub holdWord : ℕ → HeldWriter → HeldWriter
@@ -56,8 +56,8 @@ holdWords [] h = h
 holdWords (k ∷ ks) h = holdWords ks (holdWord k h)
 
 -- up to three digits that have no words
-unfoldable pub hasNoWords : List ℕ → Bool
-hasNoWords s =
+unfoldable pub isZeroGroup : List ℕ → Bool
+isZeroGroup s =
     (eqb (length s) 2 && (eqb (getD s 0 0) 0 && eqb (getD s 1 0) 0))
     || (eqb (length s) 3 && (eqb (getD s 0 0) 0 && (eqb (getD s 1 0) 0 && eqb (getD s 2 0) 0)))
 

@@ -1,4 +1,6 @@
 // Cardinal and ordinal numbers.
+use crate::digit_values::MAX_CARDINAL_DIGITS;
+use crate::digit_values::first_digits;
 use crate::held::Held;
 use crate::held::NONE;
 use crate::held::flush;
@@ -7,8 +9,6 @@ use crate::held::hold_hundreds;
 use crate::held::hold_pair;
 use crate::held::hold_scale;
 use crate::held::ordinal_number;
-use crate::pick::MAX_CARDINAL_DIGITS;
-use crate::pick::first_digits;
 use crate::saying::digit_value;
 use crate::saying::say;
 use crate::saying::say_digits;
@@ -24,15 +24,15 @@ ghost use mathlib.Core.Path.{_≡_};
 ghost use mathlib.Core.List.{map};
 ghost use Prim.Native.Nat.{_≤_, _<_};
 ghost use lib.ListN.{length};
-ghost use Rattle.word_writer.specs.Writer.{writer, emitAll};
+ghost use Rattle.word_writer.specs.Writer.{writer, putWords};
 ghost use Rattle.numerals.specs.Words.{spelled};
 ghost use Rattle.numerals.specs.Cardinal.{digitValues, scaleFor, shortCardinal, cardinal};
 ghost use Rattle.numerals.specs.Ordinal.{ordinal};
-ghost use Rattle.numerals.specs.Walk.{BelowTen, numberOf, held, holdWords, hasNoWords};
+ghost use Rattle.numerals.specs.Walk.{BelowTen, numberOf, held, holdWords, isZeroGroup};
 
 // Whether up to three digits have no words.
-fn has_no_words(ds: &[u8]) -> bool
-    ensures { λ r. ⌜ r ≡ hasNoWords (now (ds .entry)) ⌝ }
+fn is_zero_group(ds: &[u8]) -> bool
+    ensures { λ r. ⌜ r ≡ isZeroGroup (now (ds .entry)) ⌝ }
 {
     let a = byte_at(ds, 0) == 0;
     let b = byte_at(ds, 1) == 0;
@@ -77,7 +77,7 @@ fn hold_cardinal(ds: &[u8], store: &mut [u8], table: &mut [u8], h: Held) -> Held
     let split = n - 3 * (k as usize);
     let left = front(ds, split);
     let f = hold_cardinal(left, store, table, h);
-    let g = hold_scale(has_no_words(left), k, store, table, f);
+    let g = hold_scale(is_zero_group(left), k, store, table, f);
     hold_cardinal(tail(ds, split), store, table, g)
 }
 
@@ -85,7 +85,7 @@ fn hold_cardinal(ds: &[u8], store: &mut [u8], table: &mut [u8], h: Held) -> Held
 pub fn say_short_cardinal(ds: &[u8], store: &mut [u8], table: &mut [u8], cursor: Cursor) -> Cursor
     requires { ⌜ (length (now ds) ≤ 12) × BelowTen (now ds) ⌝ }
     ensures { λ r. ⌜ writer (now (store .exit)) (now (table .exit)) r
-        ≡ emitAll (spelled (shortCardinal (now (ds .entry)))) (writer (now (store .entry)) (now (table .entry)) cursor) ⌝ }
+        ≡ putWords (spelled (shortCardinal (now (ds .entry)))) (writer (now (store .entry)) (now (table .entry)) cursor) ⌝ }
 {
     let start = Held { cursor, last: NONE };
     let h = hold_cardinal(ds, store, table, start);
@@ -95,7 +95,7 @@ pub fn say_short_cardinal(ds: &[u8], store: &mut [u8], table: &mut [u8], cursor:
 // Says the cardinal number of the digits of s.
 pub fn say_cardinal(s: &[u8], store: &mut [u8], table: &mut [u8], cursor: Cursor) -> Cursor
     ensures { λ r. ⌜ writer (now (store .exit)) (now (table .exit)) r
-        ≡ emitAll (spelled (cardinal (now (s .entry)))) (writer (now (store .entry)) (now (table .entry)) cursor) ⌝ }
+        ≡ putWords (spelled (cardinal (now (s .entry)))) (writer (now (store .entry)) (now (table .entry)) cursor) ⌝ }
 {
     let digits = first_digits(s);
     if MAX_CARDINAL_DIGITS < digits.count {
@@ -109,7 +109,7 @@ pub fn say_cardinal(s: &[u8], store: &mut [u8], table: &mut [u8], cursor: Cursor
 fn say_long_ordinal(s: &[u8], store: &mut [u8], table: &mut [u8], cursor: Cursor) -> Cursor
     requires { ⌜ 12 < length (digitValues (now s)) ⌝ }
     ensures { λ r. ⌜ writer (now (store .exit)) (now (table .exit)) r
-        ≡ emitAll (spelled (ordinal (now (s .entry)))) (writer (now (store .entry)) (now (table .entry)) cursor) ⌝ }
+        ≡ putWords (spelled (ordinal (now (s .entry)))) (writer (now (store .entry)) (now (table .entry)) cursor) ⌝ }
 {
     let at = after_last(DIGIT, 0, s) - 1;
     let p = say_digits(front(s, at), store, table, cursor);
@@ -120,7 +120,7 @@ fn say_long_ordinal(s: &[u8], store: &mut [u8], table: &mut [u8], cursor: Cursor
 // Says the ordinal number of the digits of s.
 pub fn say_ordinal(s: &[u8], store: &mut [u8], table: &mut [u8], cursor: Cursor) -> Cursor
     ensures { λ r. ⌜ writer (now (store .exit)) (now (table .exit)) r
-        ≡ emitAll (spelled (ordinal (now (s .entry)))) (writer (now (store .entry)) (now (table .entry)) cursor) ⌝ }
+        ≡ putWords (spelled (ordinal (now (s .entry)))) (writer (now (store .entry)) (now (table .entry)) cursor) ⌝ }
 {
     let digits = first_digits(s);
     if MAX_CARDINAL_DIGITS < digits.count {

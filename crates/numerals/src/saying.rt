@@ -5,14 +5,14 @@ use word_writer::Cursor;
 use word_writer::put_word;
 ghost use mathlib.Core.Path.{_≡_};
 ghost use Rattle.vocabulary.specs.Vocabulary.{wordOf};
-ghost use Rattle.word_writer.specs.Writer.{writer, emit, emitAll};
+ghost use Rattle.word_writer.specs.Writer.{writer, putWord, putWords};
 ghost use Rattle.numerals.specs.Words.{spelled};
 ghost use Rattle.numerals.specs.Cardinal.{digitValue, digits};
 ghost use mathlib.Core.List.{_∷_, []};
 
 // Says word number k of the vocabulary.
 pub fn say(k: usize, store: &mut [u8], table: &mut [u8], cursor: Cursor) -> Cursor
-    ensures { λ r. ⌜ writer (now (store .exit)) (now (table .exit)) r ≡ emit (wordOf k) (writer (now (store .entry)) (now (table .entry)) cursor) ⌝ }
+    ensures { λ r. ⌜ writer (now (store .exit)) (now (table .exit)) r ≡ putWord (wordOf k) (writer (now (store .entry)) (now (table .entry)) cursor) ⌝ }
 {
     let packed = vocabulary::packed(k);
     put_word(store, table, cursor, unpacked(&packed))
@@ -21,7 +21,7 @@ pub fn say(k: usize, store: &mut [u8], table: &mut [u8], cursor: Cursor) -> Curs
 // Says the word of a digit, and nothing of another byte.
 fn say_digit(b: u8, store: &mut [u8], table: &mut [u8], cursor: Cursor) -> Cursor
     ensures { λ r. ⌜ writer (now (store .exit)) (now (table .exit)) r
-        ≡ emitAll (spelled (digits (b ∷ []))) (writer (now (store .entry)) (now (table .entry)) cursor) ⌝ }
+        ≡ putWords (spelled (digits (b ∷ []))) (writer (now (store .entry)) (now (table .entry)) cursor) ⌝ }
 {
     if b < b'0' {
         return cursor;
@@ -35,7 +35,7 @@ fn say_digit(b: u8, store: &mut [u8], table: &mut [u8], cursor: Cursor) -> Curso
 // Says one word per digit of s.
 pub fn say_digits(s: &[u8], store: &mut [u8], table: &mut [u8], cursor: Cursor) -> Cursor
     ensures { λ r. ⌜ writer (now (store .exit)) (now (table .exit)) r
-        ≡ emitAll (spelled (digits (now (s .entry)))) (writer (now (store .entry)) (now (table .entry)) cursor) ⌝ }
+        ≡ putWords (spelled (digits (now (s .entry)))) (writer (now (store .entry)) (now (table .entry)) cursor) ⌝ }
 {
     let mut p = cursor;
     let mut i = 0;

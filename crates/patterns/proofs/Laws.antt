@@ -61,9 +61,9 @@ unit-le s = go (hasUnit s)
     go false = omega arith
 
 -- the tests of unit_word run in the order of their numbers
-pub word-in-order : (s store : List ℕ) → inOrder (textTests textLimit (s ∷ []) ++ storeTests (unitWord s) store) ≡ true
+pub unit-word-in-order : (s store : List ℕ) → inOrder (textTests textLimit (s ∷ []) ++ storeTests (unitWord s) store) ≡ true
 unfolding textTests
-word-in-order s store = refl
+unit-word-in-order s store = refl
 
 module _ (s store : List ℕ) (n : ℕ) (refusal-eq : n ≡ textRefusal textLimit s) where
   pub word-refused : (n ≡ 0 → ⊥) → record { refusal = n; value = record { found = false; size = 0; store = store } } ≡ unitWordCall s store

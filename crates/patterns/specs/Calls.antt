@@ -60,12 +60,12 @@ abbrev pub unitCall : List ℕ → Call FoundPart
 unitCall s = call noPart (textRefusal textLimit s) (unitFound s)
 
 -- a word in a lent store: whether there is one, its length, and the store's bytes as the call leaves them
-pub record WordResult : Type 0 where
+pub record UnitWordResult : Type 0 where
   pub found : Bool
   pub size : ℕ
   pub store : List ℕ
 
-abbrev pub asUnitWord : UnitWord → List ℕ → Call WordResult
+abbrev pub asUnitWord : UnitWord → List ℕ → Call UnitWordResult
 asUnitWord r store = record { refusal = r .refusal; value = record { found = r .yes; size = r .len; store = store } }
 
 -- "a lent output buffer is smaller than the whole result": the word goes to the store
@@ -73,7 +73,7 @@ abbrev pub storeTests : List ℕ → List ℕ → List Test
 storeTests word store = BufferTooShort when ltb (length store) (length word) ∷ []
 
 -- unit_word: the tests of its text, and then of the store
-abbrev pub unitWordCall : List ℕ → List ℕ → Call WordResult
+abbrev pub unitWordCall : List ℕ → List ℕ → Call UnitWordResult
 unitWordCall s store =
     call (record { found = false; size = 0; store = store })
     (firstRefusal (textTests textLimit (s ∷ []) ++ storeTests (unitWord s) store))
@@ -90,7 +90,7 @@ abbrev pub acceptedVerdict : Bool → Call Bool
 acceptedVerdict v = record { refusal = 0; value = v }
 
 -- the word of an accepted text goes to the store, or the store is too short for it
-abbrev pub storeCall : List ℕ → List ℕ → Call WordResult
+abbrev pub storeCall : List ℕ → List ℕ → Call UnitWordResult
 storeCall word store =
     call (record { found = false; size = 0; store = store })
     (firstRefusal (storeTests word store))

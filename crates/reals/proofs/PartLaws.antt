@@ -9,23 +9,23 @@ use borrow.Author.Tests.{lt-ltb, le-ltb}
 use Rattle.lists.specs.Bytes.{bytes, startsWith}
 use Rattle.vocabulary.specs.Vocabulary.{wordOf}
 use Rattle.vocabulary.proofs.Laws.{unfoldVocabulary}
-use Rattle.word_writer.specs.Writer.{Writer, emit, emitAll}
+use Rattle.word_writer.specs.Writer.{Writer, putWord, putWords}
 use Rattle.numerals.specs.Words.{other, spell, spelled}
 use Rattle.numerals.specs.Cardinal.{cardinal, digits}
 use Rattle.reals.specs.Real.{pointAt, eAt, pointed}
-use Rattle.reals.specs.Walk.{partWords, partBytes}
+use Rattle.reals.specs.Walk.{partWords, partSize}
 use Rattle.numerals.proofs.Said.{said-word, says-more}
 
 -- n is the place of the first point
 module _ (s : List ℕ) (σ : Writer) {n : ℕ} (e : n ≡ pointAt s) where
   -- there is none
-  pub pointed-whole : length s ≤ n → {τ : Writer} → τ ≡ emitAll (spelled (cardinal s)) σ → τ ≡ emitAll (spelled (pointed s)) σ
+  pub pointed-whole : length s ≤ n → {τ : Writer} → τ ≡ putWords (spelled (cardinal s)) σ → τ ≡ putWords (spelled (pointed s)) σ
   unfolding pointed
   pointed-whole h d = rw (← e, le-ltb n (length s) h) d
 
   -- what stands before it, the word and what stands after it
   pub pointed-parts : n < length s → {w f : List ℕ} {τ υ φ : Writer} → w ≡ take n s → f ≡ drop (n + 1) s
-      → τ ≡ emitAll (spelled (cardinal w)) σ → υ ≡ emit (wordOf 85) τ → φ ≡ emitAll (spelled (digits f)) υ → φ ≡ emitAll (spelled (pointed s)) σ
+      → τ ≡ putWords (spelled (cardinal w)) σ → υ ≡ putWord (wordOf 85) τ → φ ≡ putWords (spelled (digits f)) υ → φ ≡ putWords (spelled (pointed s)) σ
   unfolding pointed spell unfoldVocabulary
   pointed-parts h {w} {f} {τ} p q a b c =
       rw (← e, lt-ltb n (length s) h, ← p, ← q)
@@ -34,30 +34,30 @@ module _ (s : List ℕ) (σ : Writer) {n : ℕ} (e : n ≡ pointAt s) where
 
 -- what a step answers: the words are said, and their bytes are counted
 module _ (s : List ℕ) (σ : Writer) where
-  abbrev pub Turned : Writer → ℕ → Type 0
-  Turned τ n = (τ ≡ emitAll (spelled (partWords s)) σ) × (n ≡ partBytes s)
+  abbrev pub PartSaid : Writer → ℕ → Type 0
+  PartSaid τ n = (τ ≡ putWords (spelled (partWords s)) σ) × (n ≡ partSize s)
 
   module _ {a : Bool} (i : a ≡ startsWith (code "-") s) where
-    pub turned-minus : a ≡ true → {τ : Writer} → τ ≡ emit (wordOf 86) σ → Turned τ 1
-    unfolding partWords partBytes spell unfoldVocabulary
-    turned-minus m d = (rw (← i, m) (said-word (other (bytes "minus")) σ d), rw (← i, m))
+    pub part-minus : a ≡ true → {τ : Writer} → τ ≡ putWord (wordOf 86) σ → PartSaid τ 1
+    unfolding partWords partSize spell unfoldVocabulary
+    part-minus m d = (rw (← i, m) (said-word (other (bytes "minus")) σ d), rw (← i, m))
 
     module _ (m : a ≡ false) {b : Bool} (j : b ≡ startsWith (code "+") s) where
-      pub turned-plus : b ≡ true → {τ : Writer} → τ ≡ emit (wordOf 87) σ → Turned τ 1
-      unfolding partWords partBytes spell unfoldVocabulary
-      turned-plus p d = (rw (← i, m, ← j, p) (said-word (other (bytes "plus")) σ d), rw (← i, m, ← j, p))
+      pub part-plus : b ≡ true → {τ : Writer} → τ ≡ putWord (wordOf 87) σ → PartSaid τ 1
+      unfolding partWords partSize spell unfoldVocabulary
+      part-plus p d = (rw (← i, m, ← j, p) (said-word (other (bytes "plus")) σ d), rw (← i, m, ← j, p))
 
       -- n is the place of the first "e"
-      module _ (p : b ≡ false) {n : ℕ} (e : n ≡ eAt s) {t : List ℕ} (f : t ≡ take n s) {τ : Writer} (d : τ ≡ emitAll (spelled (pointed t)) σ) where
-        pub turned-last : length s ≤ n → Turned τ n
-        unfolding partWords partBytes
-        turned-last h =
+      module _ (p : b ≡ false) {n : ℕ} (e : n ≡ eAt s) {t : List ℕ} (f : t ≡ take n s) {τ : Writer} (d : τ ≡ putWords (spelled (pointed t)) σ) where
+        pub part-last : length s ≤ n → PartSaid τ n
+        unfolding partWords partSize
+        part-last h =
             let l = le-ltb n (length s) h in
             (rw (← i, m, ← j, p, ← e, l, ← f, append-nil (pointed t)) d, rw (← i, m, ← j, p, ← e, l))
 
-        pub turned-e : n < length s → {υ : Writer} → υ ≡ emit (wordOf 88) τ → Turned υ (n + 1)
-        unfolding partWords partBytes spell unfoldVocabulary
-        turned-e h c =
+        pub part-e : n < length s → {υ : Writer} → υ ≡ putWord (wordOf 88) τ → PartSaid υ (n + 1)
+        unfolding partWords partSize spell unfoldVocabulary
+        part-e h c =
             let l = lt-ltb n (length s) h in (
               rw (← i, m, ← j, p, ← e, l, ← f) (says-more (pointed t) (other (bytes "e") ∷ []) refl σ d (said-word (other (bytes "e")) τ c)),
               rw (← i, m, ← j, p, ← e, l),

@@ -9,7 +9,7 @@ use lib.Dec.{ltb}
 use lib.ListN.{length, take, drop, length-take, length-drop, drop-of-length-le}
 use lib.Seq.{take-all, drop-drop, append-snoc}
 use borrow.Author.Tests.{ltb-true, ltb-false, le-ltb}
-use Rattle.lists.specs.Bytes.{bytes, span, startsWith, filterb}
+use Rattle.lists.specs.Bytes.{bytes, span, startsWith, filterIf}
 use Rattle.lists.specs.Classes.{notE}
 use Rattle.lists.specs.Recur.{recurAt, recur}
 use Rattle.lists.proofs.Recursion.{Local, recur-eq, cond-cong}
@@ -18,7 +18,7 @@ use Rattle.numerals.specs.Words.{Word, other, spelled}
 use Rattle.numerals.specs.Cardinal.{digitValues, cardinalStep, shortCardinal, cardinalOf, cardinal}
 use Rattle.numerals.proofs.Digits.{spelled-append}
 use Rattle.reals.specs.Real.{eAt, pointed, realStep, real}
-use Rattle.reals.specs.Walk.{startsWithSign, partWords, partBytes}
+use Rattle.reals.specs.Walk.{startsWithSign, partWords, partSize}
 
 -- a text that starts with a byte is not empty
 startsWith-some : (c : ℕ) (s : List ℕ) → startsWith c s ≡ true → 0 < length s
@@ -48,7 +48,7 @@ unfolding real
 real-eq s = recur-eq [] realStep real-local s
 
 real-none : real [] ≡ []
-unfolding real realStep recur recurAt pointed span cardinal cardinalOf digitValues filterb shortCardinal cardinalStep
+unfolding real realStep recur recurAt pointed span cardinal cardinalOf digitValues filterIf shortCardinal cardinalStep
 real-none = refl
 
 pub real-end : spelled (real []) ≡ []
@@ -61,12 +61,12 @@ unfolding realStep
 real-plain s m p h = real-eq s ∙ rw (m, p, le-ltb (eAt s) (length s) h)
 
 -- the words of one step, and those of what is left
-pub real-part : (s : List ℕ) → real s ≡ partWords s ++ real (drop (partBytes s) s)
-unfolding realStep partWords partBytes
+pub real-part : (s : List ℕ) → real s ≡ partWords s ++ real (drop (partSize s) s)
+unfolding realStep partWords partSize
 real-part s = real-eq s ∙ go (startsWith (code "-") s) (startsWith (code "+") s) (ltb (eAt s) (length s)) refl refl refl
   where
     go : (m p e : Bool) → startsWith (code "-") s ≡ m → startsWith (code "+") s ≡ p → ltb (eAt s) (length s) ≡ e
-        → realStep real s ≡ partWords s ++ real (drop (partBytes s) s)
+        → realStep real s ≡ partWords s ++ real (drop (partSize s) s)
     go true p e m q r = rw m
     go false true e m q r = rw (m, q)
     go false false true m q r =
@@ -78,8 +78,8 @@ real-part s = real-eq s ∙ go (startsWith (code "-") s) (startsWith (code "+") 
         rw (m, q, r, take-all (eAt s) s h, drop-of-length-le s {i = eAt s} h, real-none) (sym (append-nil (pointed s ++ []) ∙ append-nil (pointed s)))
 
 -- a step reads some bytes, and no more than there are
-part-bytes : (s : List ℕ) → 0 < length s → (0 < partBytes s) × (partBytes s ≤ length s)
-unfolding partBytes
+part-bytes : (s : List ℕ) → 0 < length s → (0 < partSize s) × (partSize s ≤ length s)
+unfolding partSize
 part-bytes s h = go (startsWithSign s) (ltb (eAt s) (length s)) refl (span-le notE s)
   where
     go : (m e : Bool) → ltb (eAt s) (length s) ≡ e → eAt s ≤ length s → (0 < cond m 1 (cond e (eAt s + 1) (eAt s)))
@@ -89,7 +89,7 @@ part-bytes s h = go (startsWithSign s) (ltb (eAt s) (length s)) refl (span-le no
     go false false r l = (omega (arith, ltb-false (eAt s) (length s) r), omega arith)
 
 -- a step reads n bytes from i, where the text t starts
-module _ (s : List ℕ) (i : ℕ) {t : List ℕ} {n : ℕ} (g : t ≡ drop i s) (e : n ≡ partBytes t) where
+module _ (s : List ℕ) (i : ℕ) {t : List ℕ} {n : ℕ} (g : t ≡ drop i s) (e : n ≡ partSize t) where
   pub part-more : i < length s → (0 < n) × (i + n ≤ length s)
   part-more h =
       let l : length t ≡ length s - i = ap length g ∙ length-drop i s in
@@ -100,5 +100,5 @@ module _ (s : List ℕ) (i : ℕ) {t : List ℕ} {n : ℕ} (g : t ≡ drop i s) 
   real-at =
       ap (λ (l : List ℕ). spelled (real l)) (sym g)
       ∙ ap spelled (real-part t)
-      ∙ spelled-append (partWords t) (real (drop (partBytes t) t))
+      ∙ spelled-append (partWords t) (real (drop (partSize t) t))
       ∙ ap (λ (l : List ℕ). spelled (partWords t) ++ spelled (real l)) (ap₂ drop (sym e) g ∙ drop-drop n i s)

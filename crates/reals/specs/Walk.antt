@@ -19,5 +19,5 @@ partWords s =
     (cond (startsWith (code "+") s) (other (bytes "plus") ∷ [])
     (pointed (take (eAt s) s) ++ cond (ltb (eAt s) (length s)) (other (bytes "e") ∷ []) []))
 
-unfoldable pub partBytes : List ℕ → ℕ
-partBytes s = cond (startsWithSign s) 1 (cond (ltb (eAt s) (length s)) (eAt s + 1) (eAt s))
+unfoldable pub partSize : List ℕ → ℕ
+partSize s = cond (startsWithSign s) 1 (cond (ltb (eAt s) (length s)) (eAt s + 1) (eAt s))

@@ -15,15 +15,15 @@ use vocabulary::PLUS;
 use vocabulary::POINT;
 use word_writer::Cursor;
 ghost use mathlib.Core.Path.{_≡_};
-ghost use Rattle.word_writer.specs.Writer.{writer, emitAll};
+ghost use Rattle.word_writer.specs.Writer.{writer, putWords};
 ghost use Rattle.numerals.specs.Words.{spelled};
 ghost use Rattle.reals.specs.Real.{pointed, real};
-ghost use Rattle.reals.specs.Walk.{partWords, partBytes};
+ghost use Rattle.reals.specs.Walk.{partWords, partSize};
 
 // Says a number without sign and "e".
 fn say_pointed(s: &[u8], store: &mut [u8], table: &mut [u8], cursor: Cursor) -> Cursor
     ensures { λ r. ⌜ writer (now (store .exit)) (now (table .exit)) r
-        ≡ emitAll (spelled (pointed (now (s .entry)))) (writer (now (store .entry)) (now (table .entry)) cursor) ⌝ }
+        ≡ putWords (spelled (pointed (now (s .entry)))) (writer (now (store .entry)) (now (table .entry)) cursor) ⌝ }
 {
     let at = span_of(NOT, b'.', s);
     if s.len() <= at {
@@ -36,8 +36,8 @@ fn say_pointed(s: &[u8], store: &mut [u8], table: &mut [u8], cursor: Cursor) -> 
 
 // Says a leading sign, or the part up to the first "e" and that.
 fn say_part(s: &[u8], store: &mut [u8], table: &mut [u8], cursor: Cursor) -> Progress
-    ensures { λ r. ⌜ (writer (now (store .exit)) (now (table .exit)) (r .cursor) ≡ emitAll (spelled (partWords (now (s .entry)))) (writer (now (store .entry)) (now (table .entry)) cursor))
-        × (r .next ≡ partBytes (now (s .entry))) ⌝ }
+    ensures { λ r. ⌜ (writer (now (store .exit)) (now (table .exit)) (r .cursor) ≡ putWords (spelled (partWords (now (s .entry)))) (writer (now (store .entry)) (now (table .entry)) cursor))
+        × (r .next ≡ partSize (now (s .entry))) ⌝ }
 {
     if starts_with(s, b'-') {
         let cursor = say(MINUS, store, table, cursor);
@@ -65,7 +65,7 @@ fn say_part(s: &[u8], store: &mut [u8], table: &mut [u8], cursor: Cursor) -> Pro
 // Says a real number, sign by sign and part by part.
 pub fn say_real(s: &[u8], store: &mut [u8], table: &mut [u8], cursor: Cursor) -> Cursor
     ensures { λ r. ⌜ writer (now (store .exit)) (now (table .exit)) r
-        ≡ emitAll (spelled (real (now (s .entry)))) (writer (now (store .entry)) (now (table .entry)) cursor) ⌝ }
+        ≡ putWords (spelled (real (now (s .entry)))) (writer (now (store .entry)) (now (table .entry)) cursor) ⌝ }
 {
     let mut p = cursor;
     let mut i = 0;

@@ -72,7 +72,7 @@ fn expected_in_case(case: usize, expected: CallAnswer) -> CallAnswer {
 }
 
 // What the case expects in the buffer.
-fn given(case: usize, result: &[u8]) -> &[u8] {
+fn result_in_case(case: usize, result: &[u8]) -> &[u8] {
     if is_short(case, result.len()) {
         return front(result, 0);
     }
@@ -133,7 +133,8 @@ fn agrees(
     let looked_at = add_or_bad(result.len(), MARGIN);
     repeat(out, looked_at, GUARD);
     let a = call_within(what, s, k, room(case, result.len()), out);
-    a.is(expected_in_case(case, expected)) & is_result(given(case, result), front(out, looked_at))
+    a.is(expected_in_case(case, expected))
+        & is_result(result_in_case(case, result), front(out, looked_at))
 }
 
 // A call in every case.

@@ -37,9 +37,9 @@ pub const CASES: usize = 4;
 pub const CALLS: usize = 6 * CASES;
 
 // The room of a store, and of a table of as many words as a field can have.
-const STORE_ROOM: usize = 11 * 65;
+const STORE_LEN: usize = 11 * 65;
 
-const TABLE_ROOM: usize = 8 * 64;
+const TABLE_LEN: usize = 8 * 64;
 
 fn store_room(case: usize, words: &[u8]) -> usize {
     match case {
@@ -70,7 +70,7 @@ fn refusal_in_case(case: usize, refusal: usize, words: &[u8]) -> usize {
     }
 }
 
-fn given(case: usize, words: &[u8]) -> &[u8] {
+fn result_in_case(case: usize, words: &[u8]) -> &[u8] {
     if is_short(case, words) {
         return front(words, 0);
     }
@@ -129,7 +129,7 @@ pub fn agrees(
         table,
     );
     let expected = refusal_in_case(case, refusal, words);
-    let given = given(case, words);
+    let given = result_in_case(case, words);
     is_answer(a, expected, given) & is_result(given, store, table)
 }
 
@@ -196,8 +196,8 @@ pub fn compare_text(line: &[u8], s: &[u8]) -> Report {
     if !(has_fields(line, b'\t', 8) & has_fields(head, b' ', 4) & (refusal <= 2) & (value < BAD)) {
         return Report::none().count(MALFORMED, false);
     }
-    let mut store = [0u8; STORE_ROOM];
-    let mut table = [0u8; TABLE_ROOM];
+    let mut store = [0u8; STORE_LEN];
+    let mut table = [0u8; TABLE_LEN];
     let r = compare_words(s, refusal, line, &mut store, &mut table);
     compare_roman(r, s, refusal, value)
 }

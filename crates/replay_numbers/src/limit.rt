@@ -27,7 +27,7 @@ fn put_times(words: &[u8], n: usize, out: &mut [u8]) -> usize {
 }
 
 // A year takes two fives at a time.
-fn turns(k: usize) -> usize {
+fn rounds(k: usize) -> usize {
     if k == YEAR { LIMIT / 2 } else { LIMIT }
 }
 
@@ -35,7 +35,7 @@ fn turns(k: usize) -> usize {
 fn put_fives(k: usize, out: &mut [u8]) -> usize {
     let words = b"five /five /fifty five /five /five /5 ";
     let last = b"five/fifth/fifty five/five/five/5";
-    let at = put_times(field(words, b'/', k), saturating_sub(turns(k), 1), out);
+    let at = put_times(field(words, b'/', k), saturating_sub(rounds(k), 1), out);
     let end = field(last, b'/', k);
     put(out, at, end);
     add_or_bad(at, end.len())

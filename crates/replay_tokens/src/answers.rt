@@ -81,7 +81,7 @@ fn refusal_in_case(case: usize, refusal: usize, n: usize) -> usize {
 }
 
 // The tokens that a call gives: none where its buffer is too short.
-fn given(case: usize, n: usize) -> usize {
+fn result_in_case(case: usize, n: usize) -> usize {
     if is_short(case, n) { 0 } else { n }
 }
 
@@ -130,7 +130,7 @@ fn agrees(case: usize, call: usize, line: &[u8], s: &[u8], out: &mut [u8]) -> bo
     let len = out.len();
     repeat(out, len, GUARD);
     let a = call_within(call, s, room(case, bytes_for(call, n)), out);
-    let given = given(case, n);
+    let given = result_in_case(case, n);
     (a.refusal as usize == refusal_in_case(case, expected_refusal(line), n))
         & (a.tokens == given)
         & is_result(call, line, given, out)

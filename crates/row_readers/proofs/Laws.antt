@@ -7,11 +7,11 @@ use Prim.Native.Char.{code}
 use lib.Dec.{eqb}
 use lib.ListN.{length, take, drop, getD}
 use borrow.Author.Tests.{ltb-true, eq-eqb, ne-eqb, not-true}
-use Rattle.lists.specs.Bytes.{filterb, all}
+use Rattle.lists.specs.Bytes.{filterIf, all}
 use Rattle.lists.specs.Classes.{except, letter, digitOrComma}
 use Rattle.units.specs.Units.{unitIndex, isUnit, unitWord, wordNumbers}
 use Rattle.lists.proofs.Recursion.{cond-elim}
-use Rattle.lists.proofs.Scan.{ByParts, filterb-append}
+use Rattle.lists.proofs.Scan.{ByParts, filterIf-append}
 use Rattle.units.proofs.Laws.{unit-word-number, unit-in-table}
 use Rattle.shapes.specs.Shapes.{hasUnit, unitAt, unitPart, isDottedAbbrev}
 use Rattle.shapes.specs.Times.{time-parts, timeOf, separatorAt, isMeridiemTime, timeParts, timeSplit, timePartsAt}
@@ -19,7 +19,7 @@ use Rattle.shapes.specs.declared.TimeSplit.{TimeSplit}
 use Rattle.shapes.specs.declared.TimeSplit.the-variants.{At, Nothing}
 use Rattle.shapes.proofs.Laws.{unit-some}
 use Rattle.vocabulary.specs.Vocabulary.{wordOf}
-use Rattle.word_writer.specs.Writer.{Writer, emitAll}
+use Rattle.word_writer.specs.Writer.{Writer, putWords}
 use Rattle.numerals.specs.Words.{Word, other, spelled}
 use Rattle.numerals.proofs.Digits.{spelled-append}
 use Rattle.letters.specs.Letters.{letterWord, letters}
@@ -34,12 +34,12 @@ pub says-same : (g h : Reading) → g ≡ h → (σ : Writer) {τ : Writer} {q :
 says-same g h e σ k =
     record {
       row = k .row ∙ sym (ap (λ (r : Reading). r .row) e);
-      said = k .said ∙ sym (ap (λ (r : Reading). emitAll (spelled (r .words)) σ) e);
+      said = k .said ∙ sym (ap (λ (r : Reading). putWords (spelled (r .words)) σ) e);
     }
 
 -- a row's words are said, and the row answered
 pub says-row : (g : Reading) (row : Row) (ws : List Word) → g ≡ by row ws → (σ : Writer) {τ : Writer} {q : Row} → q ≡ row
-    → τ ≡ emitAll (spelled ws) σ → Says g σ τ q
+    → τ ≡ putWords (spelled ws) σ → Says g σ τ q
 says-row g row ws e σ p d = says-same g (by row ws) e σ (record { row = p; said = d })
 
 -- ---- a unit
@@ -96,32 +96,32 @@ timeParts-at s e n = sym e ∙ ap (λ (r : TimeSplit). timePartsAt r s) n
 -- the words of two texts' letters
 pub initials-append : ByParts (λ t. spelled (initials t))
 unfolding initials
-initials-append s t = rw (filterb-append (except (code ".")) s t, map-append) (spelled-append _ _)
+initials-append s t = rw (filterIf-append (except (code ".")) s t, map-append) (spelled-append _ _)
 
 pub no-initials : spelled (initials []) ≡ []
-unfolding initials filterb spelled
+unfolding initials filterIf spelled
 no-initials = refl
 
 pub point-initial : (b : ℕ) → b ≡ code "." → initials (b ∷ []) ≡ []
-unfolding initials filterb
+unfolding initials filterIf
 point-initial b e = rw (eq-eqb b (code ".") e)
 
 pub letter-initial : (b : ℕ) → (b ≡ code "." → ⊥) → initials (b ∷ []) ≡ other (letterWord (b ∷ [])) ∷ []
-unfolding initials filterb
+unfolding initials filterIf
 letter-initial b n = rw (ne-eqb b (code ".") n)
 
 -- a byte of a dotted abbreviation that is no point is a letter
 kept-letter : (b : ℕ) → dottedByte b ≡ true → except (code ".") b ≡ true → letter b ≡ true
 kept-letter b h k = sym (or-false (letter b)) ∙ rw (not-true (eqb b (code ".")) k) at h
 
-kept-letters : (s : List ℕ) → all dottedByte s ≡ true → all letter (filterb (except (code ".")) s) ≡ true
-unfolding all filterb
+kept-letters : (s : List ℕ) → all dottedByte s ≡ true → all letter (filterIf (except (code ".")) s) ≡ true
+unfolding all filterIf
 kept-letters [] h = refl
 kept-letters (b ∷ s) h =
     let k = and-eq-true-iff (dottedByte b) (all dottedByte s) .0 h in
     cond-elim (λ (t : List ℕ). all letter t ≡ true) (except (code ".") b) (λ e. rw (kept-letter b (k .0) e, kept-letters s (k .1))) (λ e. kept-letters s (k .1))
 
 -- so it has a letter for each byte that is no point
-pub dotted-initials : (s : List ℕ) → isDottedAbbrev s ≡ true → letters (filterb (except (code ".")) s) ≡ initials s
+pub dotted-initials : (s : List ℕ) → isDottedAbbrev s ≡ true → letters (filterIf (except (code ".")) s) ≡ initials s
 unfolding initials
-dotted-initials s e = letter-chars (filterb (except (code ".")) s) (kept-letters s (dotted-bytes s e))
+dotted-initials s e = letter-chars (filterIf (except (code ".")) s) (kept-letters s (dotted-bytes s e))

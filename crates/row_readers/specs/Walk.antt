@@ -4,9 +4,9 @@ use mathlib.Core.List.{List, [], _∷_, map}
 use Prim.Native.Nat.{ℕ}
 use Prim.Native.Char.{code}
 use lib.ListN.{drop}
-use Rattle.lists.specs.Bytes.{filterb, toLower}
+use Rattle.lists.specs.Bytes.{filterIf, toLower}
 use Rattle.lists.specs.Classes.{except}
-use Rattle.word_writer.specs.Writer.{Writer, emitAll}
+use Rattle.word_writer.specs.Writer.{Writer, putWords}
 use Rattle.numerals.specs.Words.{Word, other, spelled}
 use Rattle.letters.specs.Letters.{letterWord}
 use Rattle.rows.specs.Rows.{Reading, firstTaking, rows, read}
@@ -15,11 +15,11 @@ use Rattle.rows.specs.declared.Row.{Row}
 -- a reading is said from σ to τ, and its row answered
 pub record Says (g : Reading) (σ τ : Writer) (r : Row) : Type 0 where
   pub row : r ≡ g .row
-  pub said : τ ≡ emitAll (spelled (g .words)) σ
+  pub said : τ ≡ putWords (spelled (g .words)) σ
 
 -- one word for each byte that is no point
 unfoldable pub initials : List ℕ → List Word
-initials s = map (λ b. other (letterWord (b ∷ []))) (filterb (except (code ".")) s)
+initials s = map (λ b. other (letterWord (b ∷ []))) (filterIf (except (code ".")) s)
 
 -- the rows after the n-th, of a name that none before took
 unfoldable pub rowsAfter : ℕ → List ℕ → Reading

@@ -38,21 +38,21 @@ use years::say_year;
 ghost use mathlib.Core.Path.{_≡_};
 ghost use mathlib.Core.Bool.{false};
 ghost use mathlib.Core.List.{_∷_, []};
-ghost use Rattle.word_writer.specs.Writer.{writer, emitAll};
+ghost use Rattle.word_writer.specs.Writer.{writer, putWords};
 ghost use Rattle.numerals.specs.Words.{spelled};
 ghost use Rattle.rows.specs.Rows.{signOf, clock, isPercent, read};
 ghost use Rattle.row_readers.specs.Walk.{Says, initials, rowsAfter};
 
 // An entry's record, and where the cursor stands after its words.
-pub struct NameRead {
+pub struct ReadOutcome {
     pub entry: Entry,
     pub cursor: Cursor,
 }
 
-pub fn name_read(row: Row, cursor: Cursor) -> NameRead
+pub fn outcome(row: Row, cursor: Cursor) -> ReadOutcome
     ensures { λ r. ⌜ (r .entry .row ≡ row) × (r .cursor ≡ cursor) ⌝ }
 {
-    NameRead {
+    ReadOutcome {
         entry: Entry { row },
         cursor,
     }
@@ -76,7 +76,7 @@ fn say_clock(
     cursor: Cursor,
 ) -> Cursor
     ensures { λ r. ⌜ writer (now (store .exit)) (now (table .exit)) r
-        ≡ emitAll (spelled (clock (now (hour .entry)) (now (minute .entry)))) (writer (now (store .entry)) (now (table .entry)) cursor) ⌝ }
+        ≡ putWords (spelled (clock (now (hour .entry)) (now (minute .entry)))) (writer (now (store .entry)) (now (table .entry)) cursor) ⌝ }
 {
     let p = say_cardinal(hour, store, table, cursor);
     if same(EXACT, minute, b"00") {
@@ -88,7 +88,7 @@ fn say_clock(
 // Says the letter b, and nothing of a point.
 fn say_initial(b: u8, store: &mut [u8], table: &mut [u8], cursor: Cursor) -> Cursor
     ensures { λ r. ⌜ writer (now (store .exit)) (now (table .exit)) r
-        ≡ emitAll (spelled (initials (b ∷ []))) (writer (now (store .entry)) (now (table .entry)) cursor) ⌝ }
+        ≡ putWords (spelled (initials (b ∷ []))) (writer (now (store .entry)) (now (table .entry)) cursor) ⌝ }
 {
     if b == b'.' {
         return cursor;
@@ -100,7 +100,7 @@ fn say_initial(b: u8, store: &mut [u8], table: &mut [u8], cursor: Cursor) -> Cur
 // Says one word for each byte that is no point.
 fn say_initials(name: &[u8], store: &mut [u8], table: &mut [u8], cursor: Cursor) -> Cursor
     ensures { λ r. ⌜ writer (now (store .exit)) (now (table .exit)) r
-        ≡ emitAll (spelled (initials (now (name .entry)))) (writer (now (store .entry)) (now (table .entry)) cursor) ⌝ }
+        ≡ putWords (spelled (initials (now (name .entry)))) (writer (now (store .entry)) (now (table .entry)) cursor) ⌝ }
 {
     let mut p = cursor;
     let mut i = 0;
@@ -112,47 +112,47 @@ fn say_initials(name: &[u8], store: &mut [u8], table: &mut [u8], cursor: Cursor)
 }
 
 // Rows 11 and 12.
-fn from_unit(name: &[u8], store: &mut [u8], table: &mut [u8], cursor: Cursor) -> NameRead
+fn from_unit(name: &[u8], store: &mut [u8], table: &mut [u8], cursor: Cursor) -> ReadOutcome
     ensures { λ r. ⌜ Says (rowsAfter 10 (now (name .entry)))
         (writer (now (store .entry)) (now (table .entry)) cursor)
         (writer (now (store .exit)) (now (table .exit)) (r .cursor)) (r .entry .row) ⌝ }
 {
     let unit = split_unit(name);
     if unit.len() == 0 {
-        return name_read(Row::OneWord, put_word_lowered(store, table, cursor, name));
+        return outcome(Row::OneWord, put_word_lowered(store, table, cursor, name));
     }
     let number = front(name, after_last(DIGIT, 0, name));
     let p = say_cardinal(number, store, table, cursor);
     let word = word_number(unit_index(unit)) as usize;
-    name_read(Row::Unit, say(word, store, table, p))
+    outcome(Row::Unit, say(word, store, table, p))
 }
 
 // The rows from 6 on, of a name that row 10 does not take.
-fn from_leading_zero(name: &[u8], store: &mut [u8], table: &mut [u8], cursor: Cursor) -> NameRead
+fn from_leading_zero(name: &[u8], store: &mut [u8], table: &mut [u8], cursor: Cursor) -> ReadOutcome
     requires { ⌜ isPercent (now name) ≡ false ⌝ }
     ensures { λ r. ⌜ Says (rowsAfter 5 (now (name .entry)))
         (writer (now (store .entry)) (now (table .entry)) cursor)
         (writer (now (store .exit)) (now (table .exit)) (r .cursor)) (r .entry .row) ⌝ }
 {
     if is_leading_zero_digits(name) {
-        return name_read(Row::LeadingZero, say_digits(name, store, table, cursor));
+        return outcome(Row::LeadingZero, say_digits(name, store, table, cursor));
     }
     if is_digits(name) {
-        return name_read(Row::Digits, say_cardinal(name, store, table, cursor));
+        return outcome(Row::Digits, say_cardinal(name, store, table, cursor));
     }
     if is_double(name) {
         let p = say_real(name, store, table, cursor);
-        return name_read(Row::Figure(sign_of(name)), p);
+        return outcome(Row::Figure(sign_of(name)), p);
     }
     if is_ordinal(name) {
         let number = without_back(name, 2);
-        return name_read(Row::Ordinal, say_ordinal(number, store, table, cursor));
+        return outcome(Row::Ordinal, say_ordinal(number, store, table, cursor));
     }
     from_unit(name, store, table, cursor)
 }
 
 // The rows from 5 on, of such a name.
-fn from_meridiem(name: &[u8], store: &mut [u8], table: &mut [u8], cursor: Cursor) -> NameRead
+fn from_meridiem(name: &[u8], store: &mut [u8], table: &mut [u8], cursor: Cursor) -> ReadOutcome
     requires { ⌜ isPercent (now name) ≡ false ⌝ }
     ensures { λ r. ⌜ Says (rowsAfter 4 (now (name .entry)))
         (writer (now (store .entry)) (now (table .entry)) cursor)
@@ -175,30 +175,30 @@ fn from_meridiem(name: &[u8], store: &mut [u8], table: &mut [u8], cursor: Cursor
         cursor,
     );
     let q = say_letters(tail(name, meridiem), store, table, p);
-    name_read(Row::Meridiem, q)
+    outcome(Row::Meridiem, q)
 }
 
 // All rows, of such a name.
-pub fn read_by_row(name: &[u8], store: &mut [u8], table: &mut [u8], cursor: Cursor) -> NameRead
+pub fn read_by_row(name: &[u8], store: &mut [u8], table: &mut [u8], cursor: Cursor) -> ReadOutcome
     requires { ⌜ isPercent (now name) ≡ false ⌝ }
     ensures { λ r. ⌜ Says (read (now (name .entry)))
         (writer (now (store .entry)) (now (table .entry)) cursor)
         (writer (now (store .exit)) (now (table .exit)) (r .cursor)) (r .entry .row) ⌝ }
 {
     if name.len() == 0 {
-        return name_read(Row::Empty, cursor);
+        return outcome(Row::Empty, cursor);
     }
     if is_dotted_abbrev(name) {
-        return name_read(Row::Dotted, say_initials(name, store, table, cursor));
+        return outcome(Row::Dotted, say_initials(name, store, table, cursor));
     }
     if is_comma_int(name) {
-        return name_read(Row::CommaInt, say_cardinal(name, store, table, cursor));
+        return outcome(Row::CommaInt, say_cardinal(name, store, table, cursor));
     }
     if is_time(name) {
         let at = span_of(NOT, b':', name);
         let hour = front(name, at);
         let minute = tail(name, at + 1);
-        return name_read(Row::Time, say_clock(hour, minute, store, table, cursor));
+        return outcome(Row::Time, say_clock(hour, minute, store, table, cursor));
     }
     from_meridiem(name, store, table, cursor)
 }

@@ -189,10 +189,10 @@ comma-needed s h = elem-span (code ",") s ∙ go (ltb (span (except (code ",")) 
 hour-minute-digits : (h m : List ℕ) → isHourMinute h m ≡ true → (all digit h ≡ true) × (all digit m ≡ true)
 unfolding isHourMinute
 hour-minute-digits h m e =
-    let few = leb 1 (length h) && leb (length h) 2 in
-    let a = and-eq-true-iff (few && isDigits h && isNDigits 2 m) (leb (getD m 0 0) (code "5")) .0 e .0 in
-    let b = and-eq-true-iff (few && isDigits h) (isNDigits 2 m) .0 a in
-    (digits-all h (and-eq-true-iff few (isDigits h) .0 (b .0) .1), digits-all m (and-eq-true-iff (eqb (length m) 2) (isDigits m) .0 (b .1) .1))
+    let bound = leb 1 (length h) && leb (length h) 2 in
+    let a = and-eq-true-iff (bound && isDigits h && isNDigits 2 m) (leb (getD m 0 0) (code "5")) .0 e .0 in
+    let b = and-eq-true-iff (bound && isDigits h) (isNDigits 2 m) .0 a in
+    (digits-all h (and-eq-true-iff bound (isDigits h) .0 (b .0) .1), digits-all m (and-eq-true-iff (eqb (length m) 2) (isDigits m) .0 (b .1) .1))
 
 -- an hour and a minute around the byte at which a scan by q stops
 all-clock : (p q : ℕ → Bool) → ((b : ℕ) → digit b ≡ true → p b ≡ true) → ((b : ℕ) → q b ≡ false → p b ≡ true) → (s : List ℕ)

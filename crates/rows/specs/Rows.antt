@@ -5,7 +5,7 @@ use Prim.Native.Nat.{ℕ, _-_}
 use Prim.Native.Char.{code}
 use lib.Dec.{eqb}
 use lib.ListN.{length, take, drop}
-use Rattle.lists.specs.Bytes.{bytes, filterb, toLower, takeWhile, dropWhile, same, startsWith, endsWith}
+use Rattle.lists.specs.Bytes.{bytes, filterIf, toLower, takeWhile, dropWhile, same, startsWith, endsWith}
 use Rattle.lists.specs.Classes.{except}
 use Rattle.lists.specs.Recur.{recur}
 use Rattle.units.specs.Units.{unitWord}
@@ -107,7 +107,7 @@ firstTaking (takes reads reading ∷ rules) = cond takes reading (firstTaking ru
 abbrev pub rows : (List ℕ → List ℕ) → (List ℕ → Reading) → List ℕ → List Rule
 rows word again s =
     eqb (length s) 0 reads by Empty []
-    ∷ isDottedAbbrev s reads by Dotted (letters (filterb (except (code ".")) s))
+    ∷ isDottedAbbrev s reads by Dotted (letters (filterIf (except (code ".")) s))
     ∷ isCommaInt s reads by CommaInt (cardinal s)
     ∷ isTime s reads by Time (clock (hourOf s) (minuteOf s))
     ∷ isMeridiemTime s reads by Meridiem (clockLetters (timeParts s))

@@ -10,7 +10,7 @@ use borrow.Author.Tests.{eqb-true, eqb-false}
 use Rattle.lists.specs.Bytes.{bytes, sameBy, toLower}
 use Rattle.lists.proofs.Scan.{same-long}
 use Rattle.tokens.specs.Tokens.{Token}
-use Rattle.sentences.specs.Sentences.{breakAfter, leftContext, isBreak, sentenceStartsAfter, sentenceStarts, isSet, flag, fresh, headOf, kept, stateContext, breaks}
+use Rattle.sentences.specs.Sentences.{breakAfter, leftContext, isSentenceBreak, sentenceStartsAfter, sentenceStarts, isSet, flag, fresh, headOf, kept, stateContext, breaks}
 use Rattle.sentences.specs.declared.State.{State}
 
 -- a flag says what it was made of
@@ -41,7 +41,7 @@ pub context-kept : (t : Token) → stateContext (kept (t .name) (t .punctuation)
 context-kept t = rw (head-same (t .name) (bytes "yahoo") refl) (simp set-flag)
 
 -- so a step from it breaks where a sentence ends between the two tokens
-pub breaks-kept : (t u : Token) → breaks (kept (t .name) (t .punctuation)) (u .whitespace) (u .name) ≡ isBreak t u
+pub breaks-kept : (t u : Token) → breaks (kept (t .name) (t .punctuation)) (u .whitespace) (u .name) ≡ isSentenceBreak t u
 breaks-kept t u = rw context-kept
 
 -- which tokens start a sentence after those that the state was fed

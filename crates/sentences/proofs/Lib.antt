@@ -1,5 +1,5 @@
 pub mod Kept
-pub mod EarlierRefusal
+pub mod SmallerRefusal
 pub mod Steps
 pub mod Marking
 pub mod Starts

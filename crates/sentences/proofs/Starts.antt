@@ -6,7 +6,7 @@ use Prim.Native.Nat.{ℕ, zero, suc, _<_}
 use native.Mathlib.Omega.{arith}
 use lib.ListN.{length, getD}
 use Rattle.tokens.specs.Tokens.{Token}
-use Rattle.sentences.specs.Sentences.{isBreak, sentenceStartsAfter, sentenceStarts}
+use Rattle.sentences.specs.Sentences.{isSentenceBreak, sentenceStartsAfter, sentenceStarts}
 
 after-each : (t : Token) (us : List Token) → length (sentenceStartsAfter t us) ≡ length us
 unfolding sentenceStartsAfter
@@ -26,7 +26,7 @@ first-starts [] h = absurd (omega arith)
 first-starts (t ∷ ts) h = refl
 
 after-at : (t : Token) (us : List Token) (none : Token) (k : ℕ) → k < length us
-    → getD (sentenceStartsAfter t us) k false ≡ isBreak (getD (t ∷ us) k none) (getD us k none)
+    → getD (sentenceStartsAfter t us) k false ≡ isSentenceBreak (getD (t ∷ us) k none) (getD us k none)
 unfolding sentenceStartsAfter
 after-at t [] none k h = absurd (omega arith)
 after-at t (u ∷ us) none zero h = refl
@@ -34,7 +34,7 @@ after-at t (u ∷ us) none (suc k) h = after-at u us none k (omega arith)
 
 -- "`is_sentence_break` decides between neighbours"
 pub start-at : (ts : List Token) (none : Token) (k : ℕ) → suc k < length ts
-    → getD (sentenceStarts ts) (suc k) false ≡ isBreak (getD ts k none) (getD ts (suc k) none)
+    → getD (sentenceStarts ts) (suc k) false ≡ isSentenceBreak (getD ts k none) (getD ts (suc k) none)
 unfolding sentenceStarts
 start-at [] none k h = absurd (omega arith)
 start-at (t ∷ ts) none k h = after-at t ts none k (omega arith)

@@ -12,7 +12,7 @@ use Rattle.sentences.specs.Calls.{stepTests, StepResult, stepCall}
 use Rattle.sentences.specs.Steps.{stepOf, fed, breakVerdict, acceptedStep, butFirst}
 use Rattle.sentences.specs.declared.State.{State}
 use Rattle.sentences.proofs.Kept.{breaks-kept}
-use Rattle.sentences.proofs.EarlierRefusal.{three-texts-refusal}
+use Rattle.sentences.proofs.SmallerRefusal.{three-texts-refusal}
 
 -- "its first step from a fresh state answers no break": whatever else the state holds, accepted or refused
 pub fresh-step : (s : State) (w n p : List ℕ) → isSet (s .fresh) ≡ true → stepCall s w n p .value .breaks ≡ false

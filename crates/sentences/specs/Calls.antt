@@ -39,5 +39,5 @@ asStep r = record { refusal = r .refusal; value = record { breaks = r .breaks; s
 -- ---- no public promise is made of this
 
 -- of two numbers of refusals the one that is tested first, where 0 is none
-abbrev pub earlierRefusal : ℕ → ℕ → ℕ
-earlierRefusal a b = cond (eqb a 0) b (cond (eqb b 0) a (cond (leb a b) a b))
+abbrev pub smallerRefusal : ℕ → ℕ → ℕ
+smallerRefusal a b = cond (eqb a 0) b (cond (eqb b 0) a (cond (leb a b) a b))

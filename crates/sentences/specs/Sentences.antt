@@ -5,7 +5,7 @@ use Prim.Native.Nat.{ℕ, _-_}
 use Prim.Native.Char.{code}
 use lib.Dec.{ltb, eqb}
 use lib.ListN.{length, getD}
-use Rattle.lists.specs.Bytes.{bytes, countb, elem, sameBy, uppercase, lowercase, toLower}
+use Rattle.lists.specs.Bytes.{bytes, countIf, elem, sameBy, uppercase, lowercase, toLower}
 use Rattle.lists.specs.Classes.{only}
 use Rattle.tokens.specs.Tokens.{Token}
 use Rattle.sentences.specs.declared.State.{State}
@@ -30,7 +30,7 @@ pub record LeftContext : Type 0 where
 -- are bytes." Of the next token they ask its whitespace and its name.
 unfoldable pub breakAfter : LeftContext → List ℕ → List ℕ → Bool
 breakAfter t whitespace name =
-    cond (ltb 1 (countb (only (code "\n")) whitespace)) true
+    cond (ltb 1 (countIf (only (code "\n")) whitespace)) true
     (cond (t .yahoo && t .exclamation && lowercase (firstByte name)) false
     (cond (t .colon || t .question || t .exclamation) true
     (cond (not (t .point)) false
@@ -54,13 +54,13 @@ leftContext t =
     }
 
 -- a sentence ends between two tokens
-abbrev pub isBreak : Token → Token → Bool
-isBreak t u = breakAfter (leftContext t) (u .whitespace) (u .name)
+abbrev pub isSentenceBreak : Token → Token → Bool
+isSentenceBreak t u = breakAfter (leftContext t) (u .whitespace) (u .name)
 
 -- "The whole-text form answers for each token whether it starts a sentence; the first token does."
 unfoldable pub sentenceStartsAfter : Token → List Token → List Bool
 sentenceStartsAfter t [] = []
-sentenceStartsAfter t (u ∷ us) = isBreak t u ∷ sentenceStartsAfter u us
+sentenceStartsAfter t (u ∷ us) = isSentenceBreak t u ∷ sentenceStartsAfter u us
 
 unfoldable pub sentenceStarts : List Token → List Bool
 sentenceStarts [] = []

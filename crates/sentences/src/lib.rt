@@ -23,7 +23,7 @@ ghost use Rattle.admit.specs.Refusals.{firstRefusal};
 ghost use Rattle.tokens.specs.Tokens.{tokens};
 ghost use Rattle.tokens.specs.Table.{tokensCall, asTokens};
 ghost use Rattle.sentences.specs.Sentences.{breakAfter, isSet, flag, fresh, headOf, kept, stateContext, breaks};
-ghost use Rattle.sentences.specs.Calls.{startBytes, stepTests, stepCall, asStep, earlierRefusal};
+ghost use Rattle.sentences.specs.Calls.{startBytes, stepTests, stepCall, asStep, smallerRefusal};
 
 // What is kept of the last token: its name's length, first five bytes (0 past its end) and last byte (0 where it is empty), and
 // whether its punctuation has each of . : ? and !. A flag is 0 for no and any other byte for yes.
@@ -91,8 +91,8 @@ fn head_of(s: &[u8]) -> [u8; 5]
 }
 
 // Of two numbers of refusals the one that is tested first, where 0 is none.
-fn earlier_refusal(a: u8, b: u8) -> u8
-    ensures { λ r. ⌜ r ≡ earlierRefusal a b ⌝ }
+fn smaller_refusal(a: u8, b: u8) -> u8
+    ensures { λ r. ⌜ r ≡ smallerRefusal a b ⌝ }
 {
     if a == 0 {
         return b;
@@ -203,8 +203,8 @@ fn is_sentence_break(state: State, whitespace: &[u8], name: &[u8]) -> bool
 fn refusal_of_step(whitespace: &[u8], name: &[u8], punctuation: &[u8]) -> u8
     ensures { λ r. ⌜ r ≡ firstRefusal (stepTests (now (whitespace .entry)) (now (name .entry)) (now (punctuation .entry))) ⌝ }
 {
-    let two = earlier_refusal(refusal_of(whitespace), refusal_of(name));
-    earlier_refusal(two, refusal_of(punctuation))
+    let two = smaller_refusal(refusal_of(whitespace), refusal_of(name));
+    smaller_refusal(two, refusal_of(punctuation))
 }
 
 // Whether a token starts a sentence after those that the state was fed.

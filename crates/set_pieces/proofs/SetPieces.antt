@@ -1,7 +1,7 @@
 -- Every set piece holds: the definitions are evaluated. Assumes nothing.
 use mathlib.Core.List.{flatMap}
 use lib.Dec.{T}
-use Rattle.lists.specs.Bytes.{sameBy, split, onto, nonEmpty, span, filterb, all, afterLast, any}
+use Rattle.lists.specs.Bytes.{sameBy, split, onto, nonEmpty, span, filterIf, all, afterLast, any}
 use Rattle.lists.specs.Recur.{recur, recurAt}
 use Rattle.vocabulary.proofs.Laws.{unfoldVocabulary}
 use Rattle.numerals.specs.Words.{spell, spelled}
@@ -14,9 +14,9 @@ use Rattle.tokens.specs.Tokens.{cut, tokensStep, tokens}
 use Rattle.set_pieces.specs.SetPieces.{setPieces, readingCorners, sameTexts, pieceHolds}
 
 pub set-pieces : T (all pieceHolds setPieces)
-unfolding sameBy split onto nonEmpty span filterb any recur recurAt unfoldVocabulary spell spelled digitValues pairWords joinAtScale byScale cardinalStep shortCardinal cardinalOf cardinal digits formIn ordinalForm orZero onLast ordinal yearStep yearOf year pointed realStep real romanLetterValue sumAdded sumSubtracted romanValue flatMap all afterLast cut tokensStep tokens setPieces sameTexts pieceHolds
+unfolding sameBy split onto nonEmpty span filterIf any recur recurAt unfoldVocabulary spell spelled digitValues pairWords joinAtScale byScale cardinalStep shortCardinal cardinalOf cardinal digits formIn ordinalForm orZero onLast ordinal yearStep yearOf year pointed realStep real romanLetterValue sumAdded sumSubtracted romanValue flatMap all afterLast cut tokensStep tokens setPieces sameTexts pieceHolds
 set-pieces = tt
 
 pub reading-corners : T (all pieceHolds readingCorners)
-unfolding sameBy split onto nonEmpty span filterb any recur recurAt unfoldVocabulary spell spelled digitValues pairWords joinAtScale byScale cardinalStep shortCardinal cardinalOf cardinal digits formIn ordinalForm orZero onLast ordinal yearStep yearOf year pointed realStep real romanLetterValue sumAdded sumSubtracted romanValue flatMap all afterLast cut tokensStep tokens readingCorners sameTexts pieceHolds
+unfolding sameBy split onto nonEmpty span filterIf any recur recurAt unfoldVocabulary spell spelled digitValues pairWords joinAtScale byScale cardinalStep shortCardinal cardinalOf cardinal digits formIn ordinalForm orZero onLast ordinal yearStep yearOf year pointed realStep real romanLetterValue sumAdded sumSubtracted romanValue flatMap all afterLast cut tokensStep tokens readingCorners sameTexts pieceHolds
 reading-corners = tt

@@ -76,10 +76,10 @@ time-form s = (
       let o = once-parts (code ":") isHourMinute s e in
       let h = o .front in
       let m = o .rest in
-      let few = leb 1 (length h) && leb (length h) 2 in
-      let a = and-eq-true-iff (few && isDigits h && isNDigits 2 m) (leb (getD m 0 0) (code "5")) .0 (o .passed) in
-      let b = and-eq-true-iff (few && isDigits h) (isNDigits 2 m) .0 (a .0) in
-      let c = and-eq-true-iff few (isDigits h) .0 (b .0) in
+      let bound = leb 1 (length h) && leb (length h) 2 in
+      let a = and-eq-true-iff (bound && isDigits h && isNDigits 2 m) (leb (getD m 0 0) (code "5")) .0 (o .passed) in
+      let b = and-eq-true-iff (bound && isDigits h) (isNDigits 2 m) .0 (a .0) in
+      let c = and-eq-true-iff bound (isDigits h) .0 (b .0) in
       let l = leb-true (length h) 2 (and-eq-true-iff (leb 1 (length h)) (leb (length h) 2) .0 (c .0) .1) in
       subst TimeForm (sym (o .joined)) (time h m (c .1) l (b .1) (leb-true (getD m 0 0) (code "5") (a .1))),
   time-taken s,
@@ -256,9 +256,9 @@ suffix-bytes s =
 hour-unparted : (h m : List ℕ) → isHourMinute h m ≡ true → all notColonOrPoint h ≡ true
 unfolding isHourMinute
 hour-unparted h m e =
-    let few = leb 1 (length h) && leb (length h) 2 in
-    let a = and-eq-true-iff (few && isDigits h && isNDigits 2 m) (leb (getD m 0 0) (code "5")) .0 e .0 in
-    let d = and-eq-true-iff few (isDigits h) .0 (and-eq-true-iff (few && isDigits h) (isNDigits 2 m) .0 a .0) .1 in
+    let bound = leb 1 (length h) && leb (length h) 2 in
+    let a = and-eq-true-iff (bound && isDigits h && isNDigits 2 m) (leb (getD m 0 0) (code "5")) .0 e .0 in
+    let d = and-eq-true-iff bound (isDigits h) .0 (and-eq-true-iff (bound && isDigits h) (isNDigits 2 m) .0 a .0) .1 in
     all-within digit notColonOrPoint (λ b k. rw (class-apart digit (code ":") b refl k, class-apart digit (code ".") b refl k)) h (digits-all h d)
 
 meridiem-taken : (s : List ℕ) → MeridiemForm s → isMeridiemTime s ≡ true

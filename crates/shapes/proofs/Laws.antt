@@ -111,10 +111,10 @@ phone-length s n = split-length 45 isPhoneParts s (λ a b p e.
 pub time-length : (s : List ℕ) → 5 < length s → isTime s ≡ false
 unfolding isHourMinute
 time-length s n = split-length 58 isHourMinute s (λ h m p e.
-    let few = leb 1 (length h) && leb (length h) 2 in
-    let q = and-eq-true-iff (few && isDigits h && isNDigits 2 m) (leb (getD m 0 0) 53) .0 p in
-    let r = and-eq-true-iff (few && isDigits h) (isNDigits 2 m) .0 (q .0) in
-    let f = and-eq-true-iff few (isDigits h) .0 (r .0) in
+    let bound = leb 1 (length h) && leb (length h) 2 in
+    let q = and-eq-true-iff (bound && isDigits h && isNDigits 2 m) (leb (getD m 0 0) 53) .0 p in
+    let r = and-eq-true-iff (bound && isDigits h) (isNDigits 2 m) .0 (q .0) in
+    let f = and-eq-true-iff bound (isDigits h) .0 (r .0) in
     let x : length h ≤ 2 = leb-true (length h) 2 (and-eq-true-iff (leb 1 (length h)) (leb (length h) 2) .0 (f .0) .1) in
     let y = n-digits-length 2 m (r .1) in
     omega arith)

@@ -15,16 +15,16 @@ use Rattle.admit.specs.Refusals.{Test, _when_, textLimit, textTests, textRefusa
 use Rattle.admit.specs.declared.Refusal.the-variants.{BufferTooShort}
 use Rattle.admit.proofs.Calls.{refused-first, passed-first, both-passed}
 use Rattle.tokens.specs.Tokens.{tokens}
-use Rattle.tokens.specs.Table.{recordBytes, records, tokensCall, asTokens, tokensTests}
+use Rattle.tokens.specs.Table.{recordSize, records, tokensCall, asTokens, tokensTests}
 use Rattle.tokens.proofs.Records.{records-length}
 
 -- whether so many records fit
-records-fit : (len n : ℕ) → ltb len (recordBytes * n) ≡ ltb (len / recordBytes) n
+records-fit : (len n : ℕ) → ltb len (recordSize * n) ≡ ltb (len / recordSize) n
 records-fit len n =
-    ⊎-elim (λ (h : recordBytes * n ≤ len). le-ltb _ _ h ∙ sym (le-ltb (len / recordBytes) n (omega arith)))
-    (λ (h : len < recordBytes * n). lt-ltb _ _ h ∙ sym (lt-ltb (len / recordBytes) n (omega arith))) (le-or-lt (recordBytes * n) len)
+    ⊎-elim (λ (h : recordSize * n ≤ len). le-ltb _ _ h ∙ sym (le-ltb (len / recordSize) n (omega arith)))
+    (λ (h : len < recordSize * n). lt-ltb _ _ h ∙ sym (lt-ltb (len / recordSize) n (omega arith))) (le-or-lt (recordSize * n) len)
 
-pub records-short : (s old : List ℕ) → ltb (length old) (length (records 0 (tokens s))) ≡ ltb (length old / recordBytes) (length (tokens s))
+pub records-short : (s old : List ℕ) → ltb (length old) (length (records 0 (tokens s))) ≡ ltb (length old / recordSize) (length (tokens s))
 records-short s old = rw (records-length 0 (tokens s)) (records-fit (length old) (length (tokens s)))
 
 -- the tests of such a call run in the order of their numbers

@@ -10,7 +10,7 @@ use Rattle.lists.proofs.Sets.{sets-append}
 use Rattle.word_writer.specs.Writer.{pairOf}
 use Rattle.word_writer.specs.Words.{tableOf}
 use Rattle.tokens.specs.Tokens.{Token}
-use Rattle.tokens.specs.Table.{recordOf, recordBytes, records, placesOf, recordAt, tokenSize}
+use Rattle.tokens.specs.Table.{recordOf, recordSize, records, placesOf, recordAt, tokenSize}
 use Rattle.tokens.specs.declared.Places.{Places}
 use Rattle.tokens.proofs.Forward.{size-parts}
 
@@ -44,29 +44,29 @@ record-at at t =
     let c : ℕ = b + length (t .name) in
     rw (add-sub at (length (t .whitespace)), add-sub a (length (t .prepunctuation)), add-sub b (length (t .name)), add-sub c (length (t .punctuation)), append-nil)
 
-record-length : (at : ℕ) (t : Token) → length (recordOf at t) ≡ recordBytes
+record-length : (at : ℕ) (t : Token) → length (recordOf at t) ≡ recordSize
 unfolding recordOf tableOf pairOf leBytes
 record-length at t = refl
 
-pub records-length : (at : ℕ) (ts : List Token) → length (records at ts) ≡ recordBytes * length ts
+pub records-length : (at : ℕ) (ts : List Token) → length (records at ts) ≡ recordSize * length ts
 unfolding records
 records-length at [] = refl
 records-length at (t ∷ ts) = length-append (recordOf at t) (records (at + tokenSize t) ts) ∙ omega (arith, record-length at t, records-length (at + tokenSize t) ts)
 
 -- an iteration of the loop: the record of the first token is stored, those of the others are left
 pub records-step : (l : List ℕ) (n at : ℕ) (t : Token) (ts us : List Token) (p : Places) → p ≡ placesOf at t → us ≡ t ∷ ts
-    → {z : List ℕ} → sets l (recordBytes * n) (records at us) ≡ z → sets (sets l (recordBytes * n) (recordAt p)) (recordBytes * (n + 1)) (records (p .end) ts) ≡ z
+    → {z : List ℕ} → sets l (recordSize * n) (records at us) ≡ z → sets (sets l (recordSize * n) (recordAt p)) (recordSize * (n + 1)) (records (p .end) ts) ≡ z
 unfolding records
 records-step l n at t ts us p e u k =
     let f : p .end ≡ at + tokenSize t = ap (λ (q : Places). q .end) e ∙ omega (arith, size-parts t) in
     let g : recordAt p ≡ recordOf at t = ap recordAt e ∙ record-at at t in
-    let h : recordBytes * n + length (recordOf at t) ≡ recordBytes * (n + 1) = omega (arith, record-length at t) in
-    ap₂ (λ (r : List ℕ) (i : ℕ). sets (sets l (recordBytes * n) r) (recordBytes * (n + 1)) (records i ts)) g f
-    ∙ ap (λ (i : ℕ). sets (sets l (recordBytes * n) (recordOf at t)) i (records (at + tokenSize t) ts)) (sym h)
-    ∙ sym (sets-append l (recordBytes * n) (recordOf at t) (records (at + tokenSize t) ts))
-    ∙ ap (λ (vs : List Token). sets l (recordBytes * n) (records at vs)) (sym u) ∙ k
+    let h : recordSize * n + length (recordOf at t) ≡ recordSize * (n + 1) = omega (arith, record-length at t) in
+    ap₂ (λ (r : List ℕ) (i : ℕ). sets (sets l (recordSize * n) r) (recordSize * (n + 1)) (records i ts)) g f
+    ∙ ap (λ (i : ℕ). sets (sets l (recordSize * n) (recordOf at t)) i (records (at + tokenSize t) ts)) (sym h)
+    ∙ sym (sets-append l (recordSize * n) (recordOf at t) (records (at + tokenSize t) ts))
+    ∙ ap (λ (vs : List Token). sets l (recordSize * n) (records at vs)) (sym u) ∙ k
 
 -- nothing is left
-pub records-end : (l : List ℕ) (n at : ℕ) (us : List Token) → us ≡ [] → {z : List ℕ} → sets l (recordBytes * n) (records at us) ≡ z → l ≡ z
+pub records-end : (l : List ℕ) (n at : ℕ) (us : List Token) → us ≡ [] → {z : List ℕ} → sets l (recordSize * n) (records at us) ≡ z → l ≡ z
 unfolding records
-records-end l n at us u k = ap (λ (vs : List Token). sets l (recordBytes * n) (records at vs)) (sym u) ∙ k
+records-end l n at us u k = ap (λ (vs : List Token). sets l (recordSize * n) (records at vs)) (sym u) ∙ k

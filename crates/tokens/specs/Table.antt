@@ -62,8 +62,8 @@ pairsJoined (suc n) table s = pairsJoined n table s ++ wordAt n table s
 -- ---- no public promise is made of these
 
 -- the bytes of a record
-abbrev pub recordBytes : ℕ
-recordBytes = 32
+abbrev pub recordSize : ℕ
+recordSize = 32
 
 -- where the parts of a token start that starts at the offset `at`, and where the last one ends
 abbrev pub placesOf : ℕ → Token → Places

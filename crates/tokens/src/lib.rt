@@ -12,7 +12,7 @@ use lists::part;
 use lists::saturating_sub;
 use lists::span_of;
 use lists::tail;
-use word_writer::PAIR_BYTES;
+use word_writer::PAIR_SIZE;
 use word_writer::put_pair_at;
 ghost use mathlib.Core.Path.{_≡_};
 ghost use Prim.Native.Nat.{_+_, _*_, _≤_};
@@ -22,10 +22,10 @@ ghost use lib.Seq.{sets};
 ghost use Rattle.lists.specs.Bytes.{span};
 ghost use Rattle.lists.specs.Classes.{prepunctuationMark};
 ghost use Rattle.tokens.specs.Tokens.{tokens, firstToken};
-ghost use Rattle.tokens.specs.Table.{recordBytes, records, tokensCall, asTokens, placesOf, noneLeft, recordAt, CutAt};
+ghost use Rattle.tokens.specs.Table.{recordSize, records, tokensCall, asTokens, placesOf, noneLeft, recordAt, CutAt};
 
 // The bytes of a token's record in the table.
-const RECORD_BYTES: usize = 32;
+const RECORD_SIZE: usize = 32;
 
 // Where each part of a token starts, and where the last one ends.
 pub struct Places {
@@ -128,7 +128,7 @@ pub fn has_more_tokens(s: &[u8], n: usize) -> bool
 
 // Stores a token's record from index `place` on.
 fn put_record(table: &mut [u8], place: usize, t: Places)
-    requires { ⌜ place + recordBytes ≤ length (now table) ⌝ }
+    requires { ⌜ place + recordSize ≤ length (now table) ⌝ }
     ensures { λ _. ⌜ now (table .exit) ≡ sets (now (table .entry)) place (recordAt t) ⌝ }
 {
     put_pair_at(
@@ -139,19 +139,19 @@ fn put_record(table: &mut [u8], place: usize, t: Places)
     );
     put_pair_at(
         table,
-        place + PAIR_BYTES,
+        place + PAIR_SIZE,
         t.prepunctuation,
         saturating_sub(t.name, t.prepunctuation),
     );
     put_pair_at(
         table,
-        place + 2 * PAIR_BYTES,
+        place + 2 * PAIR_SIZE,
         t.name,
         saturating_sub(t.punctuation, t.name),
     );
     put_pair_at(
         table,
-        place + 3 * PAIR_BYTES,
+        place + 3 * PAIR_SIZE,
         t.punctuation,
         saturating_sub(t.end, t.punctuation),
     );
@@ -159,7 +159,7 @@ fn put_record(table: &mut [u8], place: usize, t: Places)
 
 // Writes the records of all tokens, and answers how many there are.
 fn write_records(s: &[u8], table: &mut [u8]) -> usize
-    requires { ⌜ recordBytes * length (tokens (now s)) ≤ length (now table) ⌝ }
+    requires { ⌜ recordSize * length (tokens (now s)) ≤ length (now table) ⌝ }
     ensures { λ r. ⌜ (r ≡ length (tokens (now (s .entry)))) × (now (table .exit) ≡ sets (now (table .entry)) 0 (records 0 (tokens (now (s .entry))))) ⌝ }
 {
     let mut n = 0;
@@ -169,7 +169,7 @@ fn write_records(s: &[u8], table: &mut [u8]) -> usize
         if t.none_left(s.len()) {
             return n;
         }
-        put_record(table, RECORD_BYTES * n, t);
+        put_record(table, RECORD_SIZE * n, t);
         n += 1;
         at = t.end;
     }
@@ -184,7 +184,7 @@ pub fn tokenize(s: &[u8], table: &mut [u8]) -> Tokens
     if refusal != 0 {
         return Tokens { refusal, tokens: 0 };
     }
-    if has_more_tokens(s, table.len() / RECORD_BYTES) {
+    if has_more_tokens(s, table.len() / RECORD_SIZE) {
         return Tokens {
             refusal: Refusal::BufferTooShort.number(),
             tokens: 0,

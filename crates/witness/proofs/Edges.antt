@@ -3,7 +3,7 @@ use mathlib.Core.Path.{_≡_, refl}
 use mathlib.Core.Bool.{true, false}
 use mathlib.Core.List.{List, []}
 use Prim.Native.Nat.{ℕ}
-use Rattle.lists.specs.Bytes.{bytes, same, filterb, sameBy, split, onto, span, all, any, afterLast}
+use Rattle.lists.specs.Bytes.{bytes, same, filterIf, sameBy, split, onto, span, all, any, afterLast}
 use Rattle.lists.specs.Recur.{recur, recurAt}
 use Rattle.lists.proofs.Table.{upto}
 use Rattle.vocabulary.proofs.Laws.{unfoldVocabulary}
@@ -40,5 +40,5 @@ clear-names = refl
 
 -- the right suffix of each number below 100 is what its ordinal's last word ends with
 pub suffix-said : upto (λ k. let s = digitBytes (decimalDigits 1 k []) in same (lastTwo (lastWord (spelled (ordinal s)))) (suffix s)) 100 ≡ true
-unfolding digitBytes decimalDigits suffix sameBy filterb span all any recur recurAt unfoldVocabulary spell spelled digitValues pairWords joinAtScale byScale cardinalStep shortCardinal cardinalOf cardinal formIn ordinalForm orZero onLast ordinal
+unfolding digitBytes decimalDigits suffix sameBy filterIf span all any recur recurAt unfoldVocabulary spell spelled digitValues pairWords joinAtScale byScale cardinalStep shortCardinal cardinalOf cardinal formIn ordinalForm orZero onLast ordinal
 suffix-said = refl

@@ -3,7 +3,7 @@ use mathlib.Core.Path.{_≡_, refl}
 use mathlib.Core.List.{List, [], _∷_, flatten}
 use Prim.Native.String.{String}
 use mathlib.Core.Bool.{Bool, true}
-use Rattle.lists.specs.Bytes.{bytes, same, sameBy, split, onto, nonEmpty, span, filterb, all, any, afterLast, countb}
+use Rattle.lists.specs.Bytes.{bytes, same, sameBy, split, onto, nonEmpty, span, filterIf, all, any, afterLast, countIf}
 use Rattle.lists.specs.Recur.{recur, recurAt}
 use Rattle.vocabulary.proofs.Laws.{unfoldVocabulary}
 use Rattle.units.specs.Units.{unitAbbreviations, abbreviations, unitWords, indexOf}
@@ -40,5 +40,5 @@ unfoldable pub exampleHolds : CallExample → Bool
 exampleHolds (s calls t) = same (callSheet (bytes s)) (bytes t)
 
 pub call-examples-hold : all exampleHolds callExamples ≡ true
-unfolding callExamples exampleHolds sameBy split onto nonEmpty span filterb all any afterLast countb recur recurAt unfoldVocabulary unitAbbreviations abbreviations unitWords indexOf isDigits isAlpha isOrdinal splitOnce isHourMinute isDottedAbbrev isCommaGroups isExponent isUnsigned hasUnit timeParts spell spelled digitValues pairWords joinAtScale byScale cardinalStep shortCardinal cardinalOf cardinal digits formIn ordinalForm orZero onLast ordinal yearStep yearOf year pointed realStep real letterWord chars letters clock clockLetters readStep readWith cut tokensStep tokens sentenceStarts sentenceStartsAfter breakAfter entriesOf spacedWords lineOf flatten
+unfolding callExamples exampleHolds sameBy split onto nonEmpty span filterIf all any afterLast countIf recur recurAt unfoldVocabulary unitAbbreviations abbreviations unitWords indexOf isDigits isAlpha isOrdinal splitOnce isHourMinute isDottedAbbrev isCommaGroups isExponent isUnsigned hasUnit timeParts spell spelled digitValues pairWords joinAtScale byScale cardinalStep shortCardinal cardinalOf cardinal digits formIn ordinalForm orZero onLast ordinal yearStep yearOf year pointed realStep real letterWord chars letters clock clockLetters readStep readWith cut tokensStep tokens sentenceStarts sentenceStartsAfter breakAfter entriesOf spacedWords lineOf flatten
 call-examples-hold = refl

@@ -17,16 +17,16 @@ use Rattle.lists.proofs.Bools.{or-false-both}
 use Rattle.admit.specs.Refusals.{Test, _when_, textLimit, textTests, textRefusal, inOrder}
 use Rattle.admit.specs.declared.Refusal.the-variants.{BufferTooShort}
 use Rattle.admit.proofs.Calls.{refused-first, passed-first}
-use Rattle.word_writer.specs.Writer.{usizeMax, pairOf, pairBytes, Writer, writer, gap, afterGap, emit, emitAll}
+use Rattle.word_writer.specs.Writer.{usizeMax, pairOf, pairSize, Writer, writer, gap, afterGap, putWord, putWords}
 use Rattle.word_writer.specs.Words.{tableOf, tooShortFor, tooShort, wordsCall, asWords, startCursor, countsAt, refusedCounts, wordsTests}
 use Rattle.word_writer.specs.declared.Cursor.{Cursor}
 use Rattle.word_writer.specs.declared.WordCounts.{WordCounts}
 
 -- one run of words after the other
-pub emitAll-append : (ws vs : List (List ℕ)) (s : Writer) → emitAll (ws ++ vs) s ≡ emitAll vs (emitAll ws s)
-unfolding emitAll
-emitAll-append [] vs s = refl
-emitAll-append (w ∷ ws) vs s = emitAll-append ws vs (emit w s)
+pub putWords-append : (ws vs : List (List ℕ)) (s : Writer) → putWords (ws ++ vs) s ≡ putWords vs (putWords ws s)
+unfolding putWords
+putWords-append [] vs s = refl
+putWords-append (w ∷ ws) vs s = putWords-append ws vs (putWord w s)
 
 -- what words leave in the store, and their pairs in the table, where the first starts at `at`, after its gap
 unfoldable pub storeBy : Bool → List (List ℕ) → List ℕ
@@ -54,55 +54,55 @@ gap-place true at h = refl
 gap-place false at h = omega arith
 
 -- the places move alike on all buffers
-pub emitAll-at : (ws : List (List ℕ)) (s : Writer) → s .at ≤ usizeMax → emitAll ws s .at ≡ min (s .at + length (storeBy (s .spaced) ws)) usizeMax
-unfolding emitAll emit storeBy
-emitAll-at [] s h = omega arith
-emitAll-at (w ∷ ws) s h =
+pub putWords-at : (ws : List (List ℕ)) (s : Writer) → s .at ≤ usizeMax → putWords ws s .at ≡ min (s .at + length (storeBy (s .spaced) ws)) usizeMax
+unfolding putWords putWord storeBy
+putWords-at [] s h = omega arith
+putWords-at (w ∷ ws) s h =
     let g = gap-place (s .spaced) (s .at) h in
     let n = length-append (gap (s .spaced)) (w ++ storeBy (s .spaced) ws) in
     let m = length-append w (storeBy (s .spaced) ws) in
-    emitAll-at ws (emit w s) (omega arith) ∙ omega arith
+    putWords-at ws (putWord w s) (omega arith) ∙ omega arith
 
-pub emitAll-words : (ws : List (List ℕ)) (s : Writer) → s .words ≤ usizeMax → emitAll ws s .words ≡ min (s .words + length ws) usizeMax
-unfolding emitAll emit
-emitAll-words [] s h = omega arith
-emitAll-words (w ∷ ws) s h = emitAll-words ws (emit w s) (omega arith) ∙ omega arith
+pub putWords-words : (ws : List (List ℕ)) (s : Writer) → s .words ≤ usizeMax → putWords ws s .words ≡ min (s .words + length ws) usizeMax
+unfolding putWords putWord
+putWords-words [] s h = omega arith
+putWords-words (w ∷ ws) s h = putWords-words ws (putWord w s) (omega arith) ∙ omega arith
 
 -- where all fits below the largest number, the words' bytes stand in the store and their pairs in the table
 abbrev pub writtenWords : List (List ℕ) → Writer → Writer
 writtenWords ws s =
     record {
       store = sets (s .store) (s .at) (storeBy (s .spaced) ws);
-      table = sets (s .table) (pairBytes * s .words) (tableBy (s .spaced) (s .at) ws);
+      table = sets (s .table) (pairSize * s .words) (tableBy (s .spaced) (s .at) ws);
       at = s .at + length (storeBy (s .spaced) ws);
       words = s .words + length ws;
       spaced = s .spaced;
     }
 
-pub emitAll-is : (ws : List (List ℕ)) (s : Writer) → s .at + length (storeBy (s .spaced) ws) ≤ usizeMax → s .words + length ws ≤ usizeMax
-    → emitAll ws s ≡ writtenWords ws s
-unfolding emitAll emit storeBy tableBy pairOf leBytes
-emitAll-is [] s h k = λ j. record { store = s .store; table = s .table; at = sym (add-zero (s .at)) j; words = sym (add-zero (s .words)) j; spaced = s .spaced }
-emitAll-is (w ∷ ws) s h k =
+pub putWords-is : (ws : List (List ℕ)) (s : Writer) → s .at + length (storeBy (s .spaced) ws) ≤ usizeMax → s .words + length ws ≤ usizeMax
+    → putWords ws s ≡ writtenWords ws s
+unfolding putWords putWord storeBy tableBy pairOf leBytes
+putWords-is [] s h k = λ j. record { store = s .store; table = s .table; at = sym (add-zero (s .at)) j; words = sym (add-zero (s .words)) j; spaced = s .spaced }
+putWords-is (w ∷ ws) s h k =
     let g = gap (s .spaced) in
     let b = storeBy (s .spaced) ws in
     let n : length (g ++ (w ++ b)) ≡ length g + length (w ++ b) = length-append g (w ++ b) in
     let m : length (w ++ b) ≡ length w + length b = length-append w b in
     let p : afterGap (s .spaced) (s .at) ≡ s .at + length g = let q = gap-place (s .spaced) (s .at) (omega arith) in omega arith in
     let a : min (afterGap (s .spaced) (s .at) + length w) usizeMax ≡ s .at + length g + length w = omega arith in
-    let e : pairBytes * min (s .words + 1) usizeMax ≡ pairBytes * s .words + pairBytes = omega arith in
-    let es : writtenWords ws (emit w s) .store ≡ writtenWords (w ∷ ws) s .store =
+    let e : pairSize * min (s .words + 1) usizeMax ≡ pairSize * s .words + pairSize = omega arith in
+    let es : writtenWords ws (putWord w s) .store ≡ writtenWords (w ∷ ws) s .store =
     rw (a, p) (sym (sets-append (s .store) (s .at) g (w ++ b) ∙ sets-append (sets (s .store) (s .at) g) (s .at + length g) w b)) in
-    let et : writtenWords ws (emit w s) .table ≡ writtenWords (w ∷ ws) s .table =
+    let et : writtenWords ws (putWord w s) .table ≡ writtenWords (w ∷ ws) s .table =
     rw (a, p, e)
     (sym
-    (sets-append (s .table) (pairBytes * s .words) (pairOf (s .at + length g) (length w))
+    (sets-append (s .table) (pairSize * s .words) (pairOf (s .at + length g) (length w))
     (tableBy (s .spaced) (s .at + length g + length w) ws))) in
-    let ea : writtenWords ws (emit w s) .at ≡ writtenWords (w ∷ ws) s .at = omega arith in
-    let ew : writtenWords ws (emit w s) .words ≡ writtenWords (w ∷ ws) s .words = omega arith in
-    emitAll-is ws (emit w s) (omega arith) (omega arith) ∙ (λ j. record { store = es j; table = et j; at = ea j; words = ew j; spaced = s .spaced })
+    let ea : writtenWords ws (putWord w s) .at ≡ writtenWords (w ∷ ws) s .at = omega arith in
+    let ew : writtenWords ws (putWord w s) .words ≡ writtenWords (w ∷ ws) s .words = omega arith in
+    putWords-is ws (putWord w s) (omega arith) (omega arith) ∙ (λ j. record { store = es j; table = et j; at = ea j; words = ew j; spaced = s .spaced })
 
-pub tableOf-length : (at : ℕ) (ws : List (List ℕ)) → length (tableOf at ws) ≡ pairBytes * length ws
+pub tableOf-length : (at : ℕ) (ws : List (List ℕ)) → length (tableOf at ws) ≡ pairSize * length ws
 unfolding tableOf pairOf leBytes
 tableOf-length at [] = refl
 tableOf-length at (w ∷ ws) = omega (arith, tableOf-length (at + length w) ws)
@@ -116,23 +116,23 @@ ltb-same a b l f g =
 
 -- the cursor after the words ws, on any buffers, tells whether buffers of a and b bytes are too short for them
 pub measured : (ws : List (List ℕ)) (a b : ℕ) → a < usizeMax → b < usizeMax → (x y x₀ y₀ : List ℕ) {m p₀ : Cursor} → p₀ ≡ startCursor
-    → writer x y m ≡ emitAll ws (writer x₀ y₀ p₀)
+    → writer x y m ≡ putWords ws (writer x₀ y₀ p₀)
     → tooShortFor (m .at) (m .words) a b ≡ tooShortFor (length (flatten ws)) (length ws) a b
 measured ws a b ha hb x y x₀ y₀ {m} {p₀} e₀ e =
     let s₀ = writer x₀ y₀ p₀ in
     let i : p₀ .at ≡ 0 = ap (λ (p : Cursor). p .at) e₀ in
     let j : p₀ .words ≡ 0 = ap (λ (p : Cursor). p .words) e₀ in
     let f : storeBy (p₀ .spaced) ws ≡ flatten ws = ap (λ (p : Cursor). storeBy (p .spaced) ws) e₀ ∙ store-plain ws in
-    let n : m .at ≡ min (p₀ .at + length (flatten ws)) usizeMax = rw f at (ap (λ (q : Writer). q .at) e ∙ emitAll-at ws s₀ (omega arith)) in
-    let w : m .words ≡ min (p₀ .words + length ws) usizeMax = ap (λ (q : Writer). q .words) e ∙ emitAll-words ws s₀ (omega arith) in
+    let n : m .at ≡ min (p₀ .at + length (flatten ws)) usizeMax = rw f at (ap (λ (q : Writer). q .at) e ∙ putWords-at ws s₀ (omega arith)) in
+    let w : m .words ≡ min (p₀ .words + length ws) usizeMax = ap (λ (q : Writer). q .words) e ∙ putWords-words ws s₀ (omega arith) in
     rw (
       ltb-same (m .at) (length (flatten ws)) a (λ h. omega arith) (λ h. omega arith),
-      ltb-same (pairBytes * m .words) (pairBytes * length ws) b (λ h. omega arith) (λ h. omega arith),
+      ltb-same (pairSize * m .words) (pairSize * length ws) b (λ h. omega arith) (λ h. omega arith),
     )
 
 -- buffers that are long enough are not too short
-pub long-enough : (ws : List (List ℕ)) (a b : ℕ) → length (flatten ws) ≤ a → pairBytes * length ws ≤ b → tooShortFor (length (flatten ws)) (length ws) a b ≡ false
-long-enough ws a b h k = rw (le-ltb a (length (flatten ws)) h, le-ltb b (pairBytes * length ws) k)
+pub long-enough : (ws : List (List ℕ)) (a b : ℕ) → length (flatten ws) ≤ a → pairSize * length ws ≤ b → tooShortFor (length (flatten ws)) (length ws) a b ≡ false
+long-enough ws a b h k = rw (le-ltb a (length (flatten ws)) h, le-ltb b (pairSize * length ws) k)
 
 -- the tests of such a call run in the order of their numbers
 pub words-in-order : (s : List ℕ) (ws : List (List ℕ)) (st tb : List ℕ) → inOrder (wordsTests s ws st tb) ≡ true
@@ -162,17 +162,17 @@ module _ (s : List ℕ) (ws : List (List ℕ)) (st tb : List ℕ) (n : ℕ) (ref
 
   -- both are long enough, and the words are written to them
   pub all-written : n ≡ 0 → isShort ≡ false → length st < usizeMax → length tb < usizeMax
-      → {st′ tb′ : List ℕ} {p p₁ : Cursor} → p₁ ≡ startCursor → writer st′ tb′ p ≡ emitAll ws (writer st tb p₁)
+      → {st′ tb′ : List ℕ} {p p₁ : Cursor} → p₁ ≡ startCursor → writer st′ tb′ p ≡ putWords ws (writer st tb p₁)
       → {r : WordCounts} → r ≡ countsAt p → asWords r st′ tb′ ≡ wordsCall s ws st tb
   unfolding wordsCall
   all-written z f hs ht {st′} {tb′} {p} {p₁} e₁ d q =
-      let fits = or-false-both (ltb (length st) (length (flatten ws))) (ltb (length tb) (pairBytes * length ws)) f in
+      let fits = or-false-both (ltb (length st) (length (flatten ws))) (ltb (length tb) (pairSize * length ws)) f in
       let fs : length (flatten ws) ≤ length st = ltb-false _ _ (fits .0) in
-      let ft : pairBytes * length ws ≤ length tb = ltb-false _ _ (fits .1) in
+      let ft : pairSize * length ws ≤ length tb = ltb-false _ _ (fits .1) in
       let g = store-plain ws in
       let eg : length (storeBy false ws) ≡ length (flatten ws) = ap (λ (t : List ℕ). length t) g in
       let all : writer st′ tb′ p ≡ writtenWords ws (writer st tb startCursor) =
-      d ∙ ap (λ (k : Cursor). emitAll ws (writer st tb k)) e₁ ∙ emitAll-is ws (writer st tb startCursor) (omega arith) (omega arith) in
+      d ∙ ap (λ (k : Cursor). putWords ws (writer st tb k)) e₁ ∙ putWords-is ws (writer st tb startCursor) (omega arith) (omega arith) in
       let es : st′ ≡ overwrite (flatten ws) st = ap (λ (k : Writer). k .store) all ∙ ap (sets st 0) g ∙ sets-front st (flatten ws) fs in
       let et : tb′ ≡ overwrite (tableOf 0 ws) tb =
       ap (λ (k : Writer). k .table) all ∙ ap (sets tb 0) (table-plain 0 ws)

@@ -64,18 +64,18 @@ module _ (s : List ℕ) (ws : List (List ℕ)) (store table : List ℕ) (accepte
   unfolding wordsCall
   none-held = sym (call-number _ _ (firstRefusal (wordsTests s ws store table))) ∙ accepted
 
-  given-written : given ≡ wordsResult ws store table
+  result-written : given ≡ wordsResult ws store table
   unfolding wordsCall
-  given-written = ap (λ (n : ℕ). call (noWordsResult store table) n (wordsResult ws store table) .value) none-held
+  result-written = ap (λ (n : ℕ). call (noWordsResult store table) n (wordsResult ws store table) .value) none-held
 
   -- its counts are those of the words and of their bytes
   pub counts-read : (given .words ≡ length ws) × (given .bytes ≡ length (flatten ws))
-  counts-read = rw given-written (refl, refl)
+  counts-read = rw result-written (refl, refl)
 
   -- "Words come back end to end", the pairs "sorted by offset, one pair a word": pair i has the length of the words before word i and its own
   pub pairs-read : (i : ℕ) → i < length ws → length (flatten ws) < 256 ^ 4 → PairIs 0 ws (given .table) i
-  pairs-read i h l = rw given-written (pair-from 0 ws (drop (length (tableOf 0 ws)) table) i h (omega arith))
+  pairs-read i h l = rw result-written (pair-from 0 ws (drop (length (tableOf 0 ws)) table) i h (omega arith))
 
   -- and word i stands where the pair says, whatever stands past the result
   pub words-read : (i : ℕ) → i < length ws → length (flatten ws) < 256 ^ 4 → wordAt i (given .table) (given .store) ≡ getD ws i []
-  words-read i h l = rw given-written (word-from ws (drop (length (tableOf 0 ws)) table) (drop (length (flatten ws)) store) i h l)
+  words-read i h l = rw result-written (word-from ws (drop (length (tableOf 0 ws)) table) (drop (length (flatten ws)) store) i h l)

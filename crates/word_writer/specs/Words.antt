@@ -9,7 +9,7 @@ use Rattle.lists.specs.Bytes.{overwrite}
 use Rattle.lists.specs.LittleEndian.{leValue}
 use Rattle.admit.specs.Refusals.{Test, _when_, firstRefusal, textLimit, textTests, Call, call}
 use Rattle.admit.specs.declared.Refusal.the-variants.{BufferTooShort}
-use Rattle.word_writer.specs.Writer.{pairOf, pairBytes}
+use Rattle.word_writer.specs.Writer.{pairOf, pairSize}
 use Rattle.word_writer.specs.declared.Cursor.{Cursor}
 use Rattle.word_writer.specs.declared.WordCounts.{WordCounts}
 
@@ -36,7 +36,7 @@ wordsResult ws store table =
 
 -- "a lent output buffer is smaller than the whole result"
 abbrev pub tooShortFor : ℕ → ℕ → ℕ → ℕ → Bool
-tooShortFor bytes words store table = ltb store bytes || ltb table (pairBytes * words)
+tooShortFor bytes words store table = ltb store bytes || ltb table (pairSize * words)
 
 abbrev pub tooShort : List (List ℕ) → List ℕ → List ℕ → Bool
 tooShort ws store table = tooShortFor (length (flatten ws)) (length ws) (length store) (length table)

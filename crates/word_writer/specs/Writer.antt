@@ -14,8 +14,8 @@ unfoldable pub pairOf : ℕ → ℕ → List ℕ
 pairOf at size = leBytes 4 at ++ leBytes 4 size
 
 -- the bytes of a pair
-abbrev pub pairBytes : ℕ
-pairBytes = 8
+abbrev pub pairSize : ℕ
+pairSize = 8
 
 -- ---- no public promise is made of these
 
@@ -52,16 +52,16 @@ unfoldable pub putByte : ℕ → Writer → Writer
 putByte b s = record { store = sets (s .store) (s .at) (b ∷ []); table = s .table; at = min (s .at + 1) usizeMax; words = s .words; spaced = s .spaced }
 
 -- a word goes to the store and its pair to the table, as far as they fall within; the places move on wherever they are
-unfoldable pub emit : List ℕ → Writer → Writer
-emit w s =
+unfoldable pub putWord : List ℕ → Writer → Writer
+putWord w s =
     record {
       store = sets (sets (s .store) (s .at) (gap (s .spaced))) (afterGap (s .spaced) (s .at)) w;
-      table = sets (s .table) (pairBytes * s .words) (pairOf (afterGap (s .spaced) (s .at)) (length w));
+      table = sets (s .table) (pairSize * s .words) (pairOf (afterGap (s .spaced) (s .at)) (length w));
       at = min (afterGap (s .spaced) (s .at) + length w) usizeMax;
       words = min (s .words + 1) usizeMax;
       spaced = s .spaced;
     }
 
-unfoldable pub emitAll : List (List ℕ) → Writer → Writer
-emitAll [] s = s
-emitAll (w ∷ ws) s = emitAll ws (emit w s)
+unfoldable pub putWords : List (List ℕ) → Writer → Writer
+putWords [] s = s
+putWords (w ∷ ws) s = putWords ws (putWord w s)

@@ -9,13 +9,13 @@ ghost use mathlib.Core.List.{List, map};
 ghost use Prim.Native.Nat.{ℕ, _+_, _*_, min};
 ghost use lib.Seq.{sets};
 ghost use Rattle.lists.specs.Bytes.{toLower};
-ghost use Rattle.word_writer.specs.Writer.{usizeMax, pairOf, pairBytes, writer, gap, afterGap, putByte, advanced, emit};
+ghost use Rattle.word_writer.specs.Writer.{usizeMax, pairOf, pairSize, writer, gap, afterGap, putByte, advanced, putWord};
 ghost use Rattle.word_writer.specs.Words.{tooShortFor, startCursor, spacedCursor, countsAt, refusedCounts};
 
 const USIZE_MAX: usize = 0xffff_ffff_ffff_ffff;
 
 // The bytes of a pair.
-pub const PAIR_BYTES: usize = 8;
+pub const PAIR_SIZE: usize = 8;
 
 // The place of the next byte in the store, and of the next pair in the table.
 pub struct Cursor {
@@ -69,8 +69,8 @@ pub fn put_pair_at(table: &mut [u8], place: usize, at: usize, size: usize)
         return;
     }
     // The pair falls within: the compiler makes one store of it.
-    if PAIR_BYTES <= table.len() - place {
-        copy(table, place, &pair_of(at, size), PAIR_BYTES);
+    if PAIR_SIZE <= table.len() - place {
+        copy(table, place, &pair_of(at, size), PAIR_SIZE);
         return;
     }
     put(table, place, &pair_of(at, size));
@@ -78,11 +78,11 @@ pub fn put_pair_at(table: &mut [u8], place: usize, at: usize, size: usize)
 
 // Stores a pair as number `words` of the table.
 fn put_pair(table: &mut [u8], words: usize, at: usize, size: usize)
-    ensures { λ _. ⌜ now (table .exit) ≡ sets (now (table .entry)) (pairBytes * words) (pairOf at size) ⌝ }
+    ensures { λ _. ⌜ now (table .exit) ≡ sets (now (table .entry)) (pairSize * words) (pairOf at size) ⌝ }
 {
     // No table is that long, and the product could not be had.
     if words < 0x1000_0000_0000_0000 {
-        put_pair_at(table, PAIR_BYTES * words, at, size);
+        put_pair_at(table, PAIR_SIZE * words, at, size);
     }
 }
 
@@ -109,7 +109,7 @@ fn after_gap(cursor: Cursor) -> usize
 // Stores the pair of a word of so many bytes, and moves the cursor past it.
 fn advance(table: &mut [u8], cursor: Cursor, size: usize) -> Cursor
     ensures { λ r. ⌜ (r ≡ advanced size cursor)
-        × (now (table .exit) ≡ sets (now (table .entry)) (pairBytes * cursor .words) (pairOf (afterGap (cursor .spaced) (cursor .at)) size)) ⌝ }
+        × (now (table .exit) ≡ sets (now (table .entry)) (pairSize * cursor .words) (pairOf (afterGap (cursor .spaced) (cursor .at)) size)) ⌝ }
 {
     let at = after_gap(cursor);
     put_pair(table, cursor.words, at, size);
@@ -122,7 +122,7 @@ fn advance(table: &mut [u8], cursor: Cursor, size: usize) -> Cursor
 
 // Stores one word and its pair.
 pub fn put_word(store: &mut [u8], table: &mut [u8], cursor: Cursor, w: &[u8]) -> Cursor
-    ensures { λ r. ⌜ writer (now (store .exit)) (now (table .exit)) r ≡ emit (now (w .entry)) (writer (now (store .entry)) (now (table .entry)) cursor) ⌝ }
+    ensures { λ r. ⌜ writer (now (store .exit)) (now (table .exit)) r ≡ putWord (now (w .entry)) (writer (now (store .entry)) (now (table .entry)) cursor) ⌝ }
 {
     put_gap(store, cursor);
     put(store, after_gap(cursor), w);
@@ -132,7 +132,7 @@ pub fn put_word(store: &mut [u8], table: &mut [u8], cursor: Cursor, w: &[u8]) ->
 // Stores one word, A to Z lowered, and its pair.
 pub fn put_word_lowered(store: &mut [u8], table: &mut [u8], cursor: Cursor, w: &[u8]) -> Cursor
     ensures { λ r. ⌜ writer (now (store .exit)) (now (table .exit)) r
-        ≡ emit (map toLower (now (w .entry))) (writer (now (store .entry)) (now (table .entry)) cursor) ⌝ }
+        ≡ putWord (map toLower (now (w .entry))) (writer (now (store .entry)) (now (table .entry)) cursor) ⌝ }
 {
     put_gap(store, cursor);
     put_lowered(store, after_gap(cursor), w);
@@ -181,7 +181,7 @@ impl Cursor {
         if store < self.at {
             return true;
         }
-        if table / PAIR_BYTES < self.words {
+        if table / PAIR_SIZE < self.words {
             return true;
         }
         false

@@ -9,7 +9,7 @@ use lib.Dec.{leb, eqb}
 use lib.ListN.{length, take, drop, getD, length-drop, drop-of-length-le, List·getD-eq-default}
 use lib.Seq.{getD-drop, drop-drop}
 use borrow.Author.Tests.{ne-eqb, lt-leb, leb-false, eqb-true, eqb-false}
-use Rattle.lists.specs.Bytes.{bytes, span, countb, filterb}
+use Rattle.lists.specs.Bytes.{bytes, span, countIf, filterIf}
 use Rattle.lists.specs.Classes.{digit, nonDigit}
 use Rattle.lists.proofs.Recursion.{Local, recur-eq}
 use Rattle.lists.proofs.Scan.{span-le}
@@ -18,7 +18,7 @@ use Rattle.vocabulary.proofs.Laws.{unfoldVocabulary}
 use Rattle.numerals.specs.Words.{Word, one, hundred, other, spelled}
 use Rattle.numerals.specs.Cardinal.{digitValue, digitValues, pairWords, shortCardinal, cardinalOf}
 use Rattle.numerals.specs.Walk.{BelowTen, firstDigits}
-use Rattle.numerals.specs.declared.pick.FirstDigits.{FirstDigits}
+use Rattle.numerals.specs.declared.digit_values.FirstDigits.{FirstDigits}
 use Rattle.numerals.proofs.Digits.{spelled-append}
 use Rattle.numerals.proofs.Cardinal.{cardinal-2}
 use Rattle.numerals.proofs.NumberWords.{digitValues-below-ten, digit-at}
@@ -29,34 +29,34 @@ use Rattle.years.specs.declared.Picked.{Picked}
 
 -- the first digit of a text stands after those bytes that are none
 digitValues-some : (s : List ℕ) → span nonDigit s < length s → digitValues s ≡ digitValue (getD s (span nonDigit s) 0) ∷ digitValues (drop (span nonDigit s + 1) s)
-unfolding digitValues filterb span
+unfolding digitValues filterIf span
 digitValues-some [] h = absurd (omega arith)
 digitValues-some (b ∷ s) h = go (digit b) h (digitValues-some s)
   where
     go : (t : Bool) → cond (not t) (suc (span nonDigit s)) 0 < suc (length s)
         → (span nonDigit s < length s → digitValues s ≡ digitValue (getD s (span nonDigit s) 0) ∷ digitValues (drop (span nonDigit s + 1) s))
-        → map digitValue (cond t (b ∷ filterb digit s) (filterb digit s)) ≡ digitValue
+        → map digitValue (cond t (b ∷ filterIf digit s) (filterIf digit s)) ≡ digitValue
         (getD (b ∷ s) (cond (not t) (suc (span nonDigit s)) 0) 0) ∷ digitValues (drop (cond (not t) (suc (span nonDigit s)) 0 + 1) (b ∷ s))
     go true h i = refl
     go false h i = i (omega arith) ∙ simp add-one
 
 digitValues-none : (s : List ℕ) → length s ≤ span nonDigit s → digitValues s ≡ []
-unfolding digitValues filterb span
+unfolding digitValues filterIf span
 digitValues-none [] h = refl
 digitValues-none (b ∷ s) h = go (digit b) h (digitValues-none s)
   where
     go : (t : Bool) → suc (length s) ≤ cond (not t) (suc (span nonDigit s)) 0 → (length s ≤ span nonDigit s → digitValues s ≡ [])
-        → map digitValue (cond t (b ∷ filterb digit s) (filterb digit s)) ≡ []
+        → map digitValue (cond t (b ∷ filterIf digit s) (filterIf digit s)) ≡ []
     go true h i = absurd (omega arith)
     go false h i = i (omega arith)
 
-pub digitValues-count : (s : List ℕ) → length (digitValues s) ≡ countb digit s
-unfolding digitValues filterb countb
+pub digitValues-count : (s : List ℕ) → length (digitValues s) ≡ countIf digit s
+unfolding digitValues filterIf countIf
 digitValues-count [] = refl
 digitValues-count (b ∷ s) = go (digit b) (digitValues-count s)
   where
-    go : (t : Bool) → length (digitValues s) ≡ countb digit s
-        → length (map digitValue (cond t (b ∷ filterb digit s) (filterb digit s))) ≡ cond t (suc (countb digit s)) (countb digit s)
+    go : (t : Bool) → length (digitValues s) ≡ countIf digit s
+        → length (map digitValue (cond t (b ∷ filterIf digit s) (filterIf digit s))) ≡ cond t (suc (countIf digit s)) (countIf digit s)
     go true e = ap suc e
     go false e = e
 
@@ -68,7 +68,7 @@ module _ (s : List ℕ) (i v : ℕ) (e : i ≡ span nonDigit s) (d : v ≡ digit
       record { digit = rw (digitValues-some s l, ← e) d; others = rw (digitValues-some s l, ← e); within = omega arith }
 
   pub picked-none : length s ≤ i → PickedFrom s (record { value = v; next = i })
-  unfolding digitValues filterb
+  unfolding digitValues filterIf
   picked-none h =
       let n : digitValues s ≡ [] = digitValues-none s (omega arith) in
       record { digit = rw n (d ∙ rw (List·getD-eq-default s 0 h)); others = rw (n, drop-of-length-le s h); within = omega (arith, span-le nonDigit s) }

@@ -6,8 +6,8 @@ use lists::count_of;
 use lists::front;
 use lists::span_of;
 use lists::tail;
+use numerals::digit_values::first_digits;
 use numerals::number::say_short_cardinal;
-use numerals::pick::first_digits;
 use numerals::progress::Progress;
 use numerals::saying::digit_value;
 use numerals::saying::say;
@@ -19,7 +19,7 @@ ghost use mathlib.Core.Path.{_≡_};
 ghost use mathlib.Core.List.{_∷_, []};
 ghost use Prim.Native.Nat.{_≤_};
 ghost use lib.ListN.{length, drop};
-ghost use Rattle.word_writer.specs.Writer.{writer, emitAll};
+ghost use Rattle.word_writer.specs.Writer.{writer, putWords};
 ghost use Rattle.numerals.specs.Words.{spelled};
 ghost use Rattle.numerals.specs.Cardinal.{digitValues, pairWords};
 ghost use Rattle.numerals.specs.Walk.{BelowTen};
@@ -48,7 +48,7 @@ fn pick(s: &[u8]) -> Picked
 fn say_pair(a: u8, b: u8, store: &mut [u8], table: &mut [u8], cursor: Cursor) -> Cursor
     requires { ⌜ BelowTen (a ∷ b ∷ []) ⌝ }
     ensures { λ r. ⌜ writer (now (store .exit)) (now (table .exit)) r
-        ≡ emitAll (spelled (pairWords a b)) (writer (now (store .entry)) (now (table .entry)) cursor) ⌝ }
+        ≡ putWords (spelled (pairWords a b)) (writer (now (store .entry)) (now (table .entry)) cursor) ⌝ }
 {
     let ds = [a, b];
     say_short_cardinal(&ds, store, table, cursor)
@@ -56,7 +56,7 @@ fn say_pair(a: u8, b: u8, store: &mut [u8], table: &mut [u8], cursor: Cursor) ->
 
 // Says the first digit of s, or the first two as a pair.
 fn say_lead(lone: bool, s: &[u8], store: &mut [u8], table: &mut [u8], cursor: Cursor) -> Progress
-    ensures { λ r. ⌜ (writer (now (store .exit)) (now (table .exit)) (r .cursor) ≡ emitAll (spelled (leadWords lone (digitValues (now (s .entry))))) (writer (now (store .entry)) (now (table .entry)) cursor))
+    ensures { λ r. ⌜ (writer (now (store .exit)) (now (table .exit)) (r .cursor) ≡ putWords (spelled (leadWords lone (digitValues (now (s .entry))))) (writer (now (store .entry)) (now (table .entry)) cursor))
         × (digitValues (drop (r .next) (now (s .entry))) ≡ drop (leadCount lone) (digitValues (now (s .entry))))
         × (r .next ≤ length (now (s .entry))) ⌝ }
 {
@@ -80,7 +80,7 @@ fn say_lead(lone: bool, s: &[u8], store: &mut [u8], table: &mut [u8], cursor: Cu
 fn say_two(a: u8, b: u8, store: &mut [u8], table: &mut [u8], cursor: Cursor) -> Cursor
     requires { ⌜ BelowTen (a ∷ b ∷ []) ⌝ }
     ensures { λ r. ⌜ writer (now (store .exit)) (now (table .exit)) r
-        ≡ emitAll (spelled (yearOf (a ∷ b ∷ []))) (writer (now (store .entry)) (now (table .entry)) cursor) ⌝ }
+        ≡ putWords (spelled (yearOf (a ∷ b ∷ []))) (writer (now (store .entry)) (now (table .entry)) cursor) ⌝ }
 {
     if a != 0 {
         return say_pair(a, b, store, table, cursor);
@@ -97,7 +97,7 @@ fn say_two(a: u8, b: u8, store: &mut [u8], table: &mut [u8], cursor: Cursor) -> 
 fn say_three(a: u8, b: u8, c: u8, store: &mut [u8], table: &mut [u8], cursor: Cursor) -> Cursor
     requires { ⌜ BelowTen (a ∷ b ∷ c ∷ []) ⌝ }
     ensures { λ r. ⌜ writer (now (store .exit)) (now (table .exit)) r
-        ≡ emitAll (spelled (yearOf (a ∷ b ∷ c ∷ []))) (writer (now (store .entry)) (now (table .entry)) cursor) ⌝ }
+        ≡ putWords (spelled (yearOf (a ∷ b ∷ c ∷ []))) (writer (now (store .entry)) (now (table .entry)) cursor) ⌝ }
 {
     let p = say(ONES + a as usize, store, table, cursor);
     if (a != 0) & ((b == 0) & (c == 0)) {
@@ -110,7 +110,7 @@ fn say_three(a: u8, b: u8, c: u8, store: &mut [u8], table: &mut [u8], cursor: Cu
 fn say_four(ds: &[u8], store: &mut [u8], table: &mut [u8], cursor: Cursor) -> Cursor
     requires { ⌜ (length (now ds) ≡ 4) × BelowTen (now ds) ⌝ }
     ensures { λ r. ⌜ writer (now (store .exit)) (now (table .exit)) r
-        ≡ emitAll (spelled (yearOf (now (ds .entry)))) (writer (now (store .entry)) (now (table .entry)) cursor) ⌝ }
+        ≡ putWords (spelled (yearOf (now (ds .entry)))) (writer (now (store .entry)) (now (table .entry)) cursor) ⌝ }
 {
     let b = byte_at(ds, 1);
     let c = byte_at(ds, 2);
@@ -129,7 +129,7 @@ fn say_four(ds: &[u8], store: &mut [u8], table: &mut [u8], cursor: Cursor) -> Cu
 fn say_last(ds: &[u8], store: &mut [u8], table: &mut [u8], cursor: Cursor) -> Cursor
     requires { ⌜ (length (now ds) ≤ 4) × BelowTen (now ds) ⌝ }
     ensures { λ r. ⌜ writer (now (store .exit)) (now (table .exit)) r
-        ≡ emitAll (spelled (yearOf (now (ds .entry)))) (writer (now (store .entry)) (now (table .entry)) cursor) ⌝ }
+        ≡ putWords (spelled (yearOf (now (ds .entry)))) (writer (now (store .entry)) (now (table .entry)) cursor) ⌝ }
 {
     let n = ds.len();
     if n <= 1 {
@@ -154,7 +154,7 @@ fn say_last(ds: &[u8], store: &mut [u8], table: &mut [u8], cursor: Cursor) -> Cu
 // Says the year of the digits of s: as long as more than four are left, a lone digit where they are odd, else a pair.
 pub fn say_year(s: &[u8], store: &mut [u8], table: &mut [u8], cursor: Cursor) -> Cursor
     ensures { λ r. ⌜ writer (now (store .exit)) (now (table .exit)) r
-        ≡ emitAll (spelled (year (now (s .entry)))) (writer (now (store .entry)) (now (table .entry)) cursor) ⌝ }
+        ≡ putWords (spelled (year (now (s .entry)))) (writer (now (store .entry)) (now (table .entry)) cursor) ⌝ }
 {
     let mut p = cursor;
     let mut i = 0;

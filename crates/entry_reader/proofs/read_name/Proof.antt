@@ -33,7 +33,7 @@ read-name-spec =
     says-same _ _
     (no-percents (read (start .args .name .now))
     ∙ percent-taken (start .args .name .now) 0 (sym (at-if1 .before .is-percent .ensures) ∙ at-if1 .if1 .taken)) _
-    (rw (c .name-read .ensures .0, c .name-read .ensures .1, c .before .cursor-of .ensures)
+    (rw (c .outcome .ensures .0, c .outcome .ensures .1, c .before .cursor-of .ensures)
     (from-cursor _ _ _ (at-place-of .place-of .ensures) (at-read-percent .read-percent .ensures))))
     (λ c κs.
     let at-if1 = c .before .before .before in
@@ -47,5 +47,5 @@ read-name-spec =
     let at-read-before-percents = after-read-before-percents .before .before .before in
     let at-place-of = at-read-before-percents .before .before .before .before .before .before in
     says-same _ _ (no-percents (read (at-place-of .before .before .before .before .args .name .now))) _
-    (rw (c .name-read2 .ensures .0, c .name-read2 .ensures .1, c .before .cursor-of2 .ensures)
+    (rw (c .outcome2 .ensures .0, c .outcome2 .ensures .1, c .before .cursor-of2 .ensures)
     (from-cursor _ _ _ (at-place-of .place-of .ensures) (at-read-before-percents .read-before-percents .ensures)))))

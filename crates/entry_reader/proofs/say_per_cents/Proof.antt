@@ -5,7 +5,7 @@ use Prim.Native.Nat.{_-_}
 use native.Mathlib.Omega.{arith}
 use lib.ListN.{length}
 use borrow.Author.Needs.{needs}
-use Rattle.word_writer.specs.Writer.{writer, emitAll}
+use Rattle.word_writer.specs.Writer.{writer, putWords}
 use Rattle.numerals.specs.Words.{spelled}
 use Rattle.numerals.proofs.Said.{says-more}
 use Rattle.rows.specs.Rows.{perCent}
@@ -14,7 +14,7 @@ use Rattle.entry_reader.proofs.Laws.{one-less, none-left}
 
 abbrev Inv-loop : tie.InvT-loop
 Inv-loop percents store₀ table₀ p₀ left₀ store table p left =
-    (emitAll (spelled (perCents left)) (writer store table p) ≡ emitAll (spelled (perCents percents)) (writer store₀ table₀ p₀))
+    (putWords (spelled (perCents left)) (writer store table p) ≡ putWords (spelled (perCents percents)) (writer store₀ table₀ p₀))
     × (length store ≡ length store₀) × (length table ≡ length table₀)
 
 abbrev μ-loop : tie.MeasureT-loop

@@ -2,7 +2,7 @@ use mathlib.Core.List.{[], _∷_}
 use Prim.Native.Nat.{_-_, _<_}
 use native.Mathlib.Omega.{arith}
 use lib.ListN.{length}
-use Rattle.word_writer.specs.Writer.{writer, emitAll}
+use Rattle.word_writer.specs.Writer.{writer, putWords}
 use Rattle.word_writer.proofs.Walks.{Walk, walk-start, walk-on, walk-end}
 use Rattle.numerals.specs.Words.{spelled}
 use Rattle.letters.specs.Letters.{letters, letterWord}
@@ -19,7 +19,7 @@ abbrev μ-loop : tie.MeasureT-loop
 μ-loop s store₀ table₀ p₀ i₀ store table p i = length s - i
 
 loop-again : tie.Need-loop-again Inv-loop μ-loop
-unfolding emitAll
+unfolding putWords
 loop-again c =
     let at-say-letter = c .before .before .before .before in
     let at-first-char = at-say-letter .before .before .before in

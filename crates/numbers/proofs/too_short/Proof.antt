@@ -15,7 +15,7 @@ too-short-spec =
     (λ c κs. search needs)
     (λ c.
     let start = c .before .before .before in
-    sym (ample-room-fits (start .args .style) (start .args .s .now) (start .args .store) (start .args .table)
+    sym (ample-room-fits (start .args .interpretation) (start .args .s .now) (start .args .store) (start .args .table)
     (sym (c .before .has-ample-room .ensures) ∙ c .if1 .taken)))
     (λ c. search needs)
     (λ c. search needs)
@@ -28,5 +28,5 @@ too-short-spec =
     let start = before-say-as .before .before .before in
     let m = at-say-as .say-as in
     c .exceeds .ensures
-    ∙ measured (spelled (wordsAs (start .args .style) (start .args .s .now))) (start .args .store) (start .args .table) (start .pre .0)
+    ∙ measured (spelled (wordsAs (start .args .interpretation) (start .args .s .now))) (start .args .store) (start .args .table) (start .pre .0)
     (start .pre .1) (m .last .1 .1 .0) (m .last .1 .1 .1 .0) [] [] (at-say-as .before .start .ensures) (m .ensures)))

@@ -16,7 +16,7 @@ write-words-spec =
     (λ c.
     let at-refusal-of = c .before .before in
     let start = at-refusal-of .before .before .before .before in
-    text-refused (start .args .s .now) (spelled (wordsAs (start .args .style) (start .args .s .now))) (start .args .store .now)
+    text-refused (start .args .s .now) (spelled (wordsAs (start .args .interpretation) (start .args .s .now))) (start .args .store .now)
     (start .args .table .now) _ (at-refusal-of .refusal-of .ensures) (c .before .if1 .taken) (c .refused .ensures))
     (λ c κs.
     let start = c .before .before .before .before .before in
@@ -27,7 +27,7 @@ write-words-spec =
     let at-if2 = c .before .before in
     let at-if1 = at-if2 .before .before in
     let a = at-if1 .before .before .before .before .before .args in
-    short-refused (a .s .now) (spelled (wordsAs (a .style) (a .s .now))) (a .store .now) (a .table .now) _
+    short-refused (a .s .now) (spelled (wordsAs (a .interpretation) (a .s .now))) (a .store .now) (a .table .now) _
     (at-if1 .before .refusal-of .ensures) (at-if1 .if1 .left) (sym (at-if2 .before .too-short .ensures) ∙ at-if2 .if2 .taken)
     (rw (c .before .number .ensures) at (c .refused2 .ensures)))
     (λ c κs. search needs)
@@ -41,7 +41,7 @@ write-words-spec =
     let at-if1 = at-if2 .before .before in
     let start = at-if1 .before .before .before .before .before in
     let a = start .args in
-    all-written (a .s .now) (spelled (wordsAs (a .style) (a .s .now))) (a .store .now) (a .table .now) _
+    all-written (a .s .now) (spelled (wordsAs (a .interpretation) (a .s .now))) (a .store .now) (a .table .now) _
     (at-if1 .before .refusal-of .ensures) (at-if1 .if1 .left) (sym (at-if2 .before .too-short .ensures) ∙ at-if2 .if2 .left)
     (omega (arith, start .good .1 .1 .0 .1)) (omega (arith, start .good .1 .1 .1 .0 .1)) (at-say-as .before .start .ensures)
     (at-say-as .say-as .ensures) (c .counts .ensures)))

@@ -18,8 +18,8 @@ returns c =
     let at-say-digits = c .before .before .before .before .before in
     let at-if1 = at-say-digits .before .before .before in
     says-row _ LeadingZero (digits (at-if1 .before .before .before .before .before .args .name .now))
-    (rw (sym (at-if1 .before .is-leading-zero-digits .ensures) ∙ at-if1 .if1 .taken)) _ (c .name-read .ensures .0)
-    (rw (c .name-read .ensures .1) (at-say-digits .say-digits .ensures))
+    (rw (sym (at-if1 .before .is-leading-zero-digits .ensures) ∙ at-if1 .if1 .taken)) _ (c .outcome .ensures .0)
+    (rw (c .outcome .ensures .1) (at-say-digits .say-digits .ensures))
 
 returns-2 : tie.Need-returns-2
 unfolding rowsAfter
@@ -32,7 +32,7 @@ returns-2 c =
       sym (at-if1 .before .is-leading-zero-digits .ensures) ∙ at-if1 .if1 .left,
       sym (at-if2 .before .is-digits .ensures) ∙ at-if2 .if2 .taken,
     )) _
-    (c .name-read2 .ensures .0) (rw (c .name-read2 .ensures .1) (at-say-cardinal .say-cardinal .ensures))
+    (c .outcome2 .ensures .0) (rw (c .outcome2 .ensures .1) (at-say-cardinal .say-cardinal .ensures))
 
 returns-3 : tie.Need-returns-3
 unfolding rowsAfter
@@ -48,7 +48,7 @@ returns-3 c =
       sym (at-if2 .before .is-digits .ensures) ∙ at-if2 .if2 .left,
       sym (at-if3 .before .is-double .ensures) ∙ at-if3 .if3 .taken,
     )) _
-    (c .name-read3 .ensures .0 ∙ ap Figure (c .before .sign-of .ensures)) (rw (c .name-read3 .ensures .1) (at-say-real .say-real .ensures))
+    (c .outcome3 .ensures .0 ∙ ap Figure (c .before .sign-of .ensures)) (rw (c .outcome3 .ensures .1) (at-say-real .say-real .ensures))
 
 returns-4 : tie.Need-returns-4
 unfolding rowsAfter
@@ -67,8 +67,8 @@ returns-4 c =
       sym (at-is-double .is-double .ensures) ∙ at-is-ordinal .before .if3 .left,
       sym (at-is-ordinal .is-ordinal .ensures) ∙ at-without-back .before .if4 .taken,
     )) _
-    (c .name-read4 .ensures .0)
-    (rw (c .name-read4 .ensures .1) (rw (at-without-back .without-back .ensures) at (at-say-ordinal .say-ordinal .ensures)))
+    (c .outcome4 .ensures .0)
+    (rw (c .outcome4 .ensures .1) (rw (at-without-back .without-back .ensures) at (at-say-ordinal .say-ordinal .ensures)))
 
 returns-5 : tie.Need-returns-5
 unfolding rowsAfter

@@ -32,8 +32,8 @@ returns-2 c =
     let start = at-split-time-meridiem .before .before .before .before in
     says-row _ Meridiem (clockLetters (timeParts (start .args .name .now)))
     (rw (timeSplit-some (start .args .name .now) (at-split-time-meridiem .split-time-meridiem .ensures .offsets) (at-split .split .given .1))) _
-    (c .name-read .ensures .0)
-    (rw (c .name-read .ensures .1)
+    (c .outcome .ensures .0)
+    (rw (c .outcome .ensures .1)
     (says-more _ _
     (ap clockLetters
     (timeParts-at (start .args .name .now) (at-split-time-meridiem .split-time-meridiem .ensures .parts-named) (at-split .split .given .1))) _

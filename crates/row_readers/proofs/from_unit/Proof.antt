@@ -21,8 +21,8 @@ returns c =
     let at-if1 = at-put-word-lowered .before .before .before in
     let start = at-if1 .before .before .before .before .before in
     says-row _ OneWord (other (map toLower (start .args .name .now)) ∷ [])
-    (rw (unit-missing (start .args .name .now) (at-if1 .before .split-unit .ensures) (at-if1 .if1 .taken))) _ (c .name-read .ensures .0)
-    (rw (c .name-read .ensures .1) (said-word (other (map toLower (start .args .name .now))) _ (at-put-word-lowered .put-word-lowered .ensures)))
+    (rw (unit-missing (start .args .name .now) (at-if1 .before .split-unit .ensures) (at-if1 .if1 .taken))) _ (c .outcome .ensures .0)
+    (rw (c .outcome .ensures .1) (said-word (other (map toLower (start .args .name .now))) _ (at-put-word-lowered .put-word-lowered .ensures)))
 
 returns-2 : tie.Need-returns-2
 unfolding rowsAfter spell
@@ -39,8 +39,8 @@ returns-2 c =
     let w = unit-word s (at-split-unit .split-unit .ensures) (at-if1 .if1 .left) (at-word-number .before .unit-index .ensures)
     (at-word-number .word-number .ensures) in
     says-row _ Unit (cardinal n ++ u ∷ []) (rw (unit-there s (at-split-unit .split-unit .ensures) (at-if1 .if1 .left))) _
-    (c .name-read2 .ensures .0)
-    (rw (c .name-read2 .ensures .1)
+    (c .outcome2 .ensures .0)
+    (rw (c .outcome2 .ensures .1)
     (says-more (cardinal n) (u ∷ []) refl _
     (rw (at-front .front .ensures, at-front .before .after-last .ensures) at (at-say-cardinal .say-cardinal .ensures))
     (said-word u _ (rw w at (at-say .say .ensures)))))

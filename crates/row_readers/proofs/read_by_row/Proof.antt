@@ -4,10 +4,10 @@ use mathlib.Core.List.{[]}
 use native.Mathlib.Omega.{arith}
 use borrow.Author.Tests.{eq-eqb, ne-eqb}
 use Prim.Native.Char.{code}
-use Rattle.lists.specs.Bytes.{filterb}
+use Rattle.lists.specs.Bytes.{filterIf}
 use Rattle.lists.specs.Classes.{except}
 use Rattle.lists.proofs.Scan.{span-le}
-use Rattle.word_writer.specs.Writer.{emitAll}
+use Rattle.word_writer.specs.Writer.{putWords}
 use Rattle.numerals.specs.Words.{spelled}
 use Rattle.numerals.specs.Cardinal.{cardinal}
 use Rattle.letters.specs.Letters.{letters}
@@ -22,8 +22,8 @@ use Rattle.row_readers.proofs.read_by_row.Tie as tie
 
 returns : tie.Need-returns
 unfolding readStep
-returns c = says-row _ Empty [] (read-eq _ ∙ rw (eq-eqb _ _ (c .before .if1 .taken))) _ (c .name-read .ensures .0)
-    (rw (c .name-read .ensures .1) (unfold spelled emitAll in refl))
+returns c = says-row _ Empty [] (read-eq _ ∙ rw (eq-eqb _ _ (c .before .if1 .taken))) _ (c .outcome .ensures .0)
+    (rw (c .outcome .ensures .1) (unfold spelled putWords in refl))
 
 returns-2 : tie.Need-returns-2
 unfolding readStep
@@ -32,11 +32,11 @@ returns-2 c =
     let at-if2 = at-say-initials .before .before .before in
     let at-if1 = at-if2 .before .before in
     let start = at-if1 .before .before .before .before in
-    says-row _ Dotted (letters (filterb (except (code ".")) (start .args .name .now)))
+    says-row _ Dotted (letters (filterIf (except (code ".")) (start .args .name .now)))
     (read-eq _ ∙ rw (ne-eqb _ _ (at-if1 .if1 .left), sym (at-if2 .before .is-dotted-abbrev .ensures) ∙ at-if2 .if2 .taken)) _
-    (c .name-read2 .ensures .0)
+    (c .outcome2 .ensures .0)
     (rw (
-      c .name-read2 .ensures .1,
+      c .outcome2 .ensures .1,
       dotted-initials (start .args .name .now) (sym (at-if2 .before .is-dotted-abbrev .ensures) ∙ at-if2 .if2 .taken),
     )
     (at-say-initials .say-initials .ensures))
@@ -55,7 +55,7 @@ returns-3 c =
       sym (at-if2 .before .is-dotted-abbrev .ensures) ∙ at-if2 .if2 .left,
       sym (at-if3 .before .is-comma-int .ensures) ∙ at-if3 .if3 .taken,
     )) _
-    (c .name-read3 .ensures .0) (rw (c .name-read3 .ensures .1) (at-say-cardinal .say-cardinal .ensures))
+    (c .outcome3 .ensures .0) (rw (c .outcome3 .ensures .1) (at-say-cardinal .say-cardinal .ensures))
 
 returns-4 : tie.Need-returns-4
 unfolding readStep
@@ -75,8 +75,8 @@ returns-4 c =
       sym (at-if3 .before .is-comma-int .ensures) ∙ at-if3 .if3 .left,
       sym (at-if4 .before .is-time .ensures) ∙ at-if4 .if4 .taken,
     )) _
-    (c .name-read4 .ensures .0)
-    (rw (c .name-read4 .ensures .1, drop-drop)
+    (c .outcome4 .ensures .0)
+    (rw (c .outcome4 .ensures .1, drop-drop)
     (rw (
       at-tail .before .front .ensures,
       at-tail .tail .ensures,

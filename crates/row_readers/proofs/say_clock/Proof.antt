@@ -3,7 +3,7 @@ use Rattle.row_readers.proofs.say_clock.Statement.{statement}
 use Rattle.row_readers.proofs.say_clock.Tie as tie
 use mathlib.Core.Path.{refl, sym, _∙_}
 use mathlib.Core.List.{[]}
-use Rattle.word_writer.specs.Writer.{emitAll}
+use Rattle.word_writer.specs.Writer.{putWords}
 use Rattle.numerals.specs.Words.{spelled}
 use Rattle.numerals.specs.Cardinal.{cardinal}
 use Rattle.years.specs.Year.{year}
@@ -17,7 +17,7 @@ returns c =
     let at-say-cardinal = after-say-cardinal .before .before .before in
     let before-say-cardinal = at-say-cardinal .before .before .before .before in
     says-more (cardinal (before-say-cardinal .before .before .before .args .hour .now)) []
-    (rw (sym (c .before .same .ensures) ∙ c .if1 .taken)) _ (at-say-cardinal .say-cardinal .ensures) (unfold spelled emitAll in refl)
+    (rw (sym (c .before .same .ensures) ∙ c .if1 .taken)) _ (at-say-cardinal .say-cardinal .ensures) (unfold spelled putWords in refl)
 
 returns-2 : tie.Need-returns-2
 unfolding clock

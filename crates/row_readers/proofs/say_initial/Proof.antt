@@ -2,14 +2,14 @@ use borrow.Author.Needs.{needs}
 use Rattle.row_readers.proofs.say_initial.Statement.{statement}
 use Rattle.row_readers.proofs.say_initial.Tie as tie
 use mathlib.Core.List.{[], _∷_}
-use Rattle.word_writer.specs.Writer.{emitAll}
+use Rattle.word_writer.specs.Writer.{putWords}
 use Rattle.numerals.specs.Words.{other, spell, spelled}
 use Rattle.letters.specs.Letters.{letterWord}
 use Rattle.numerals.proofs.Said.{said-word}
 use Rattle.row_readers.proofs.Laws.{point-initial, letter-initial}
 
 returns : tie.Need-returns
-unfolding spelled emitAll
+unfolding spelled putWords
 returns c = rw (point-initial (c .before .before .before .args .b) (c .if1 .taken))
 
 returns-2 : tie.Need-returns-2

@@ -2,7 +2,7 @@ use lib.ListN.{length}
 use borrow.Author.Needs.{needs}
 use borrow.Author.Tests.{lt-ltb, le-ltb}
 use Prim.Native.Char.{code}
-use Rattle.lists.specs.Bytes.{countb}
+use Rattle.lists.specs.Bytes.{countIf}
 use Rattle.lists.specs.Classes.{only}
 use Rattle.sentences.specs.Sentences.{breakAfter}
 use Rattle.sentences.proofs.is_sentence_break.Statement.{statement}
@@ -10,7 +10,7 @@ use Rattle.sentences.proofs.is_sentence_break.Tie as tie
 
 returns : tie.Need-returns
 unfolding breakAfter
-returns c = rw (lt-ltb 1 (countb (only (code "\n")) (c .before .before .before .before .args .whitespace .now))
+returns c = rw (lt-ltb 1 (countIf (only (code "\n")) (c .before .before .before .before .args .whitespace .now))
     (rw (c .before .count-of .ensures) at (c .if1 .taken)))
 
 returns-2 : tie.Need-returns-2
@@ -19,7 +19,7 @@ returns-2 c =
     let at-is-set = c .before .before in
     let at-if1 = at-is-set .before .before .before in
     rw (
-      le-ltb 1 (countb (only (code "\n")) (at-if1 .before .before .before .before .args .whitespace .now))
+      le-ltb 1 (countIf (only (code "\n")) (at-if1 .before .before .before .before .args .whitespace .now))
           (rw (at-if1 .before .count-of .ensures) at (at-if1 .if1 .left)),
       rw (
         at-is-set .before .is-yahoo .ensures,
@@ -37,7 +37,7 @@ returns-3 c =
     let at-is-set = at-if2 .before .before in
     let at-if1 = at-is-set .before .before .before in
     rw (
-      le-ltb 1 (countb (only (code "\n")) (at-if1 .before .before .before .before .args .whitespace .now))
+      le-ltb 1 (countIf (only (code "\n")) (at-if1 .before .before .before .before .args .whitespace .now))
           (rw (at-if1 .before .count-of .ensures) at (at-if1 .if1 .left)),
       rw (
         at-is-set .before .is-yahoo .ensures,
@@ -57,7 +57,7 @@ returns-4 c =
     let at-is-set = at-if2 .before .before in
     let at-if1 = at-is-set .before .before .before in
     rw (
-      le-ltb 1 (countb (only (code "\n")) (at-if1 .before .before .before .before .args .whitespace .now))
+      le-ltb 1 (countIf (only (code "\n")) (at-if1 .before .before .before .before .args .whitespace .now))
           (rw (at-if1 .before .count-of .ensures) at (at-if1 .if1 .left)),
       rw (
         at-is-set .before .is-yahoo .ensures,
@@ -80,7 +80,7 @@ returns-5 c =
     let at-byte-at = at-is-set .before .before in
     let at-if1 = at-byte-at .before in
     rw (
-      le-ltb 1 (countb (only (code "\n")) (at-if1 .before .before .before .before .args .whitespace .now))
+      le-ltb 1 (countIf (only (code "\n")) (at-if1 .before .before .before .before .args .whitespace .now))
           (rw (at-if1 .before .count-of .ensures) at (at-if1 .if1 .left)),
       rw (
         at-is-set .before .is-yahoo .ensures,
@@ -105,7 +105,7 @@ returns-6 c =
     let at-if1 = at-byte-at .before in
     let start = at-if1 .before .before .before .before in
     rw (
-      le-ltb 1 (countb (only (code "\n")) (start .args .whitespace .now)) (rw (at-if1 .before .count-of .ensures) at (at-if1 .if1 .left)),
+      le-ltb 1 (countIf (only (code "\n")) (start .args .whitespace .now)) (rw (at-if1 .before .count-of .ensures) at (at-if1 .if1 .left)),
       rw (
         at-is-set .before .is-yahoo .ensures,
         at-is-set .is-set .ensures,
@@ -131,7 +131,7 @@ returns-7 c =
     let at-if1 = at-byte-at .before in
     let start = at-if1 .before .before .before .before in
     rw (
-      le-ltb 1 (countb (only (code "\n")) (start .args .whitespace .now)) (rw (at-if1 .before .count-of .ensures) at (at-if1 .if1 .left)),
+      le-ltb 1 (countIf (only (code "\n")) (start .args .whitespace .now)) (rw (at-if1 .before .count-of .ensures) at (at-if1 .if1 .left)),
       rw (
         at-is-set .before .is-yahoo .ensures,
         at-is-set .is-set .ensures,

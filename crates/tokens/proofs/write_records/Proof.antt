@@ -5,7 +5,7 @@ use lib.ListN.{length, drop}
 use lib.Seq.{sets}
 use borrow.Author.Needs.{needs}
 use Rattle.tokens.specs.Tokens.{tokens}
-use Rattle.tokens.specs.Table.{records, recordBytes}
+use Rattle.tokens.specs.Table.{records, recordSize}
 use Rattle.tokens.proofs.Records.{records-step, records-end}
 use Rattle.tokens.proofs.Walks.{Left, left-all, left-none, left-next, left-on, left-past}
 use Rattle.tokens.proofs.write_records.Statement.{statement}
@@ -14,7 +14,7 @@ use Rattle.tokens.proofs.write_records.Tie as tie
 abbrev Inv-loop : tie.InvT-loop
 Inv-loop s table₀ n₀ at₀ table n at =
     Left s n at × (length table ≡ length table₀)
-    × (sets table (recordBytes * n) (records at (tokens (drop at s))) ≡ sets table₀ 0 (records 0 (tokens s)))
+    × (sets table (recordSize * n) (records at (tokens (drop at s))) ≡ sets table₀ 0 (records 0 (tokens s)))
 
 abbrev μ-loop : tie.MeasureT-loop
 μ-loop s table₀ n₀ at₀ table n at = length s - at

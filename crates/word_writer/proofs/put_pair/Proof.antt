@@ -2,7 +2,7 @@ use mathlib.Core.Path.{sym}
 use Prim.Native.Nat.{_*_}
 use native.Mathlib.Omega.{arith}
 use borrow.Author.Needs.{needs}
-use Rattle.word_writer.specs.Writer.{pairOf, pairBytes}
+use Rattle.word_writer.specs.Writer.{pairOf, pairSize}
 use Rattle.lists.proofs.Sets.{sets-out}
 use Rattle.word_writer.proofs.put_pair.Statement.{statement}
 use Rattle.word_writer.proofs.put_pair.Tie as tie
@@ -16,4 +16,4 @@ put-pair-spec =
     (λ c. search needs)
     (λ c.
     let start = c .before .before in
-    sym (sets-out (start .args .table .now) (pairBytes * start .args .words) (pairOf (start .args .at) (start .args .size)) (omega arith))))
+    sym (sets-out (start .args .table .now) (pairSize * start .args .words) (pairOf (start .args .at) (start .args .size)) (omega arith))))

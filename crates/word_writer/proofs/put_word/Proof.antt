@@ -1,10 +1,10 @@
 use borrow.Author.Needs.{needs}
 use Rattle.word_writer.proofs.put_word.Statement.{statement}
 use Rattle.word_writer.proofs.put_word.Tie as tie
-use Rattle.word_writer.specs.Writer.{emit}
+use Rattle.word_writer.specs.Writer.{putWord}
 
 returns : tie.Need-returns
-unfolding emit
+unfolding putWord
 returns c =
     let at-advance = c .before .before in
     let at-put = at-advance .before .before .before .before in

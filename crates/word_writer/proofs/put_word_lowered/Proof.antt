@@ -3,10 +3,10 @@ use Rattle.word_writer.proofs.put_word_lowered.Statement.{statement}
 use Rattle.word_writer.proofs.put_word_lowered.Tie as tie
 use Rattle.lists.specs.Bytes.{toLower}
 use Rattle.lists.proofs.Sets.{map-length}
-use Rattle.word_writer.specs.Writer.{emit}
+use Rattle.word_writer.specs.Writer.{putWord}
 
 returns : tie.Need-returns
-unfolding emit
+unfolding putWord
 returns c =
     let at-advance = c .before .before in
     let at-put-lowered = at-advance .before .before .before .before in

@@ -31,7 +31,7 @@ is-table-word-spec =
       at-loop .loop .inv .1,
       listed-more (at-loop .before .before .args .s .now) (at-loop .loop .i) (omega arith),
       ← c .before .before .table-word .ensures,
-      ← c .before .is-vocabulary-word .ensures,
+      ← c .before .is-word-number .ensures,
       c .if1 .taken,
     ))
     (λ c. search needs)
@@ -43,7 +43,7 @@ is-table-word-spec =
           ∙ rw (
             listed-more (at-loop .before .before .args .s .now) (at-loop .loop .i) (omega arith),
             ← c .before .before .table-word .ensures,
-            ← c .before .is-vocabulary-word .ensures,
+            ← c .before .is-word-number .ensures,
             c .if1 .left,
           ),
     ))

@@ -22,7 +22,7 @@ is-unit-clear-spec =
     rw (
       listed-indexOf (drop (unitAt s) s) abbreviations,
       at-tail .before .is-plain .ensures,
-      c .is-first-abbreviation .ensures,
+      c .is-first-at .ensures,
       c .before .unit-index .ensures,
       at-tail .before .before .front .ensures,
       at-tail .tail .ensures,

@@ -18,7 +18,7 @@ use Rattle.numerals.proofs.held.hold_hundreds.Reads as hold-hundreds-re
 use Rattle.numerals.proofs.held.hold_pair.Reads as hold-pair-reads
 use Rattle.numerals.proofs.held.hold_scale.Reads as hold-scale-reads
 use Rattle.numerals.proofs.number.scale_for.Reads as scale-for-reads
-use Rattle.numerals.proofs.number.has_no_words.Reads as has-no-words-reads
+use Rattle.numerals.proofs.number.is_zero_group.Reads as is-zero-group-reads
 
 abbrev μ-hold-cardinal : Measures 3 hold-cardinal-kinds.ps ℕ
 μ-hold-cardinal κs a = length (a .0 .now)
@@ -53,8 +53,8 @@ pub +hold-cardinal-spec : {M : Type 1} → statement M
   scale-for-reads.Learnt,
   front-reads.Asked,
   front-reads.Learnt,
-  has-no-words-reads.Asked,
-  has-no-words-reads.Learnt,
+  is-zero-group-reads.Asked,
+  is-zero-group-reads.Learnt,
   hold-scale-reads.Asked,
   hold-scale-reads.Learnt,
 )
@@ -147,8 +147,8 @@ pub +hold-cardinal-spec : {M : Type 1} → statement M
     let at-hold-cardinal3 = c .before .before .before .before in
     let at-tail2 = at-hold-cardinal3 .before .before .before in
     let at-hold-scale = at-tail2 .before .before .before .before .before in
-    let at-has-no-words = at-hold-scale .before .before .before in
-    let at-hold-cardinal2 = at-has-no-words .before .before .before .before .before in
+    let at-is-zero-group = at-hold-scale .before .before .before in
+    let at-hold-cardinal2 = at-is-zero-group .before .before .before .before .before in
     let at-front = at-hold-cardinal2 .before .before .before in
     let at-scale-for = at-front .before in
     let at-if3 = at-scale-for .before .before in
@@ -157,5 +157,5 @@ pub +hold-cardinal-spec : {M : Type 1} → statement M
     hold-more (start .args .ds .now) _
     (above-3 _ (at-if1 .if1 .left) (at-if3 .before .if2 .left) (at-if3 .if3 .left) (at-scale-for .before .if4 .left)) (start .pre .1)
     (at-scale-for .scale-for .result) (at-scale-for .scale-for .ensures .0) (rw (at-front .front .ensures) at (at-hold-cardinal2 .hold-cardinal2 .ensures))
-    (rw (at-has-no-words .has-no-words .ensures, at-front .front .ensures) at (at-hold-scale .hold-scale .ensures))
+    (rw (at-is-zero-group .is-zero-group .ensures, at-front .front .ensures) at (at-hold-scale .hold-scale .ensures))
     (rw (at-tail2 .tail2 .ensures) at (at-hold-cardinal3 .hold-cardinal3 .ensures)))

@@ -1,5 +1,5 @@
 use native.Mathlib.Omega.{arith}
-use Rattle.word_writer.specs.Writer.{emitAll}
+use Rattle.word_writer.specs.Writer.{putWords}
 use Rattle.numerals.specs.Words.{spelled}
 use Rattle.numerals.specs.Cardinal.{digitValue, digits}
 use Rattle.numerals.proofs.Digits.{digitValues-low, digitValues-high, digitValues-digit}
@@ -9,11 +9,11 @@ use Rattle.numerals.proofs.saying.say_digit.Statement.{statement}
 use Rattle.numerals.proofs.saying.say_digit.Tie as tie
 
 returns : tie.Need-returns
-unfolding digits spelled emitAll
+unfolding digits spelled putWords
 returns c = rw (digitValues-low _ (c .if1 .taken))
 
 returns-2 : tie.Need-returns-2
-unfolding digits spelled emitAll
+unfolding digits spelled putWords
 returns-2 c = rw (digitValues-high _ (c .before .if1 .left) (c .if2 .taken))
 
 returns-3 : tie.Need-returns-3

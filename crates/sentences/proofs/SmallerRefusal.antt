@@ -7,7 +7,7 @@ use native.Mathlib.Omega.{arith}
 use borrow.Author.Tests.{ne-eqb, le-leb, lt-leb}
 use Rattle.lists.proofs.Scan.{any-append}
 use Rattle.admit.specs.Refusals.{refusalNumber, Test, _when_, firstRefusal, textLimit, textTests, textRefusal, inOrder}
-use Rattle.sentences.specs.Calls.{stepTests, earlierRefusal}
+use Rattle.sentences.specs.Calls.{stepTests, smallerRefusal}
 
 -- the tests of two lists, each of which holds where it does in one of them
 abbrev eitherHolds : List Test → List Test → List Test
@@ -39,9 +39,9 @@ later-refusal n [] (q when k ∷ b) e = absurd e
 later-refusal n [] [] e = (λ z. absurd (z refl), λ z. absurd (z refl))
 
 -- so n is the first of the two, and of itself
-earlier-first : (n m : ℕ) → 0 < n → LaterRefusal n m → (earlierRefusal n m ≡ n) × (earlierRefusal m n ≡ n) × (earlierRefusal n n ≡ n)
-earlier-first n zero h l = rw (ne-eqb n 0 (λ e. omega arith), le-leb n n (omega arith)) (refl, refl, refl)
-earlier-first n (suc m) h l =
+smaller-first : (n m : ℕ) → 0 < n → LaterRefusal n m → (smallerRefusal n m ≡ n) × (smallerRefusal m n ≡ n) × (smallerRefusal n n ≡ n)
+smaller-first n zero h l = rw (ne-eqb n 0 (λ e. omega arith), le-leb n n (omega arith)) (refl, refl, refl)
+smaller-first n (suc m) h l =
     let k : n < suc m = l (λ z. omega arith) in
     rw (
       ne-eqb n 0 (λ e. omega arith),
@@ -51,15 +51,15 @@ earlier-first n (suc m) h l =
       le-leb n n (omega arith),
     ) (refl, refl, refl)
 
-either-refusal : (n : ℕ) (a b : List Test) → SameTests n a b → earlierRefusal (firstRefusal a) (firstRefusal b) ≡ firstRefusal (eitherHolds a b)
+either-refusal : (n : ℕ) (a b : List Test) → SameTests n a b → smallerRefusal (firstRefusal a) (firstRefusal b) ≡ firstRefusal (eitherHolds a b)
 either-refusal n (r when h ∷ a) (q when k ∷ b) e =
     let l = later-refusal (refusalNumber r) a b (e .2) in
-    let x = earlier-first (refusalNumber r) (firstRefusal a) (omega (arith, e .0)) (l .0) in
-    let y = earlier-first (refusalNumber r) (firstRefusal b) (omega (arith, e .0)) (l .1) in
+    let x = smaller-first (refusalNumber r) (firstRefusal a) (omega (arith, e .0)) (l .0) in
+    let y = smaller-first (refusalNumber r) (firstRefusal b) (omega (arith, e .0)) (l .1) in
     rw (← e .1) (go (refusalNumber r) (firstRefusal a) (firstRefusal b) h k (x .2) (y .0) (x .1) (either-refusal (refusalNumber r) a b (e .2)))
   where
-    go : (i x y : ℕ) {z : ℕ} (h k : Bool) → earlierRefusal i i ≡ i → earlierRefusal i y ≡ i → earlierRefusal x i ≡ i → earlierRefusal x y ≡ z
-        → earlierRefusal (cond h i x) (cond k i y) ≡ cond (h || k) i z
+    go : (i x y : ℕ) {z : ℕ} (h k : Bool) → smallerRefusal i i ≡ i → smallerRefusal i y ≡ i → smallerRefusal x i ≡ i → smallerRefusal x y ≡ z
+        → smallerRefusal (cond h i x) (cond k i y) ≡ cond (h || k) i z
     go i x y true true s l m e = s
     go i x y true false s l m e = l
     go i x y false true s l m e = m
@@ -69,14 +69,14 @@ either-refusal n [] (q when k ∷ b) e = absurd e
 either-refusal n [] [] e = refl
 
 texts-refusal : (limit : ℕ) (ss ts : List (List ℕ))
-    → earlierRefusal (firstRefusal (textTests limit ss)) (firstRefusal (textTests limit ts)) ≡ firstRefusal (textTests limit (ss ++ ts))
+    → smallerRefusal (firstRefusal (textTests limit ss)) (firstRefusal (textTests limit ts)) ≡ firstRefusal (textTests limit (ss ++ ts))
 unfolding textTests
 texts-refusal limit ss ts = either-refusal 0 (textTests limit ss) (textTests limit ts) (omega arith, refl, (omega arith, refl, tt)) ∙ simp any-append
 
 pub three-texts-refusal : (w n p : List ℕ)
-    → earlierRefusal (earlierRefusal (textRefusal textLimit w) (textRefusal textLimit n)) (textRefusal textLimit p) ≡ firstRefusal (stepTests w n p)
+    → smallerRefusal (smallerRefusal (textRefusal textLimit w) (textRefusal textLimit n)) (textRefusal textLimit p) ≡ firstRefusal (stepTests w n p)
 three-texts-refusal w n p =
-    ap (λ (k : ℕ). earlierRefusal k (textRefusal textLimit p)) (texts-refusal textLimit (w ∷ []) (n ∷ [])) ∙ texts-refusal textLimit (w ∷ n ∷ []) (p ∷ [])
+    ap (λ (k : ℕ). smallerRefusal k (textRefusal textLimit p)) (texts-refusal textLimit (w ∷ []) (n ∷ [])) ∙ texts-refusal textLimit (w ∷ n ∷ []) (p ∷ [])
 
 -- the tests of a step run in the order of their numbers
 pub step-in-order : (whitespace name punctuation : List ℕ) → inOrder (stepTests whitespace name punctuation) ≡ true

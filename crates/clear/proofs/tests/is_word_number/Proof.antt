@@ -2,11 +2,11 @@ use mathlib.Core.Path.{sym}
 use Rattle.lists.proofs.Scan.{same-long}
 use Rattle.vocabulary.proofs.Laws.{word-packed}
 use borrow.Author.Needs.{needs}
-use Rattle.clear.proofs.tests.is_vocabulary_word.Statement.{statement}
-use Rattle.clear.proofs.tests.is_vocabulary_word.Tie as tie
+use Rattle.clear.proofs.tests.is_word_number.Statement.{statement}
+use Rattle.clear.proofs.tests.is_word_number.Tie as tie
 
-pub is-vocabulary-word-spec : {M : Type 1} → statement M
-is-vocabulary-word-spec =
+pub is-word-number-spec : {M : Type 1} → statement M
+is-word-number-spec =
     tie.close
     (tie.spec
     (λ c κs. search needs)

@@ -3,14 +3,14 @@ use Prim.Native.Nat.{_-_, zero-le}
 use native.Mathlib.Omega.{arith}
 use lib.ListN.{length}
 use mathlib.Core.Logic.{⊎-elim}
-use Rattle.lists.specs.Bytes.{filterb}
+use Rattle.lists.specs.Bytes.{filterIf}
 use Rattle.numerals.specs.Cardinal.{digitValues}
 use Rattle.numerals.specs.Walk.{padded}
 use Rattle.numerals.proofs.Digits.{digitValues-low, digitValues-high}
 use Rattle.numerals.proofs.Picking.{PickedDigits, pick-none, pick-digit, pick-beyond, pick-end}
 use borrow.Author.Needs.{needs}
-use Rattle.numerals.proofs.pick.first_digits.Statement.{statement}
-use Rattle.numerals.proofs.pick.first_digits.Tie as tie
+use Rattle.numerals.proofs.digit_values.first_digits.Statement.{statement}
+use Rattle.numerals.proofs.digit_values.first_digits.Tie as tie
 
 abbrev Inv-loop : tie.InvT-loop
 Inv-loop s values₀ count₀ i₀ values count i = PickedDigits s values count i
@@ -19,7 +19,7 @@ abbrev μ-loop : tie.MeasureT-loop
 μ-loop s values₀ count₀ i₀ values count i = length s - i
 
 pub first-digits-spec : {M : Type 1} → statement M
-unfolding digitValues filterb padded
+unfolding digitValues filterIf padded
 first-digits-spec =
     tie.close
     (tie.spec
