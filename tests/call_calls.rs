@@ -4,7 +4,7 @@ use std::ptr::null_mut;
 
 use crate::answers;
 use crate::clear;
-use crate::comparison::{shown, Comparison, Lent};
+use crate::comparison::{display, Comparison, Lent};
 use crate::howhakiru;
 use crate::rows::{call_most, Called};
 
@@ -23,7 +23,7 @@ impl Comparison {
         match call {
             0 => {
                 let called = Called::of(lent.admitted);
-                self.whole_by_turn(lent, &called);
+                self.whole_in_rotation(lent, &called);
             }
             1 => {
                 let called = Called::of(lent.admitted);
@@ -37,7 +37,7 @@ impl Comparison {
     pub fn every_call_of_sheet(&mut self, text: &[u8], gap: usize) {
         self.with(text, gap, |comparison, lent| {
             let called = Called::of(lent.admitted);
-            comparison.whole_by_turn(lent, &called);
+            comparison.whole_in_rotation(lent, &called);
             comparison.entries(lent, &called);
             comparison.clear(lent);
         });
@@ -70,14 +70,14 @@ impl Comparison {
     }
 
     /// The exact buffer, and the one whose turn it is.
-    fn whole_by_turn(&mut self, lent: Lent, called: &Called) {
+    fn whole_in_rotation(&mut self, lent: Lent, called: &Called) {
         let sheet = called.sheet();
         if sheet.len() > call_most(lent.text.len()) {
             self.differ(lent, format_args!("the room that suffices for hwk_call_sheet"), &"the header's", &sheet.len());
         }
         self.whole(lent, called, &sheet, sheet.len());
-        self.turn += 1;
-        let other = sheet.len().saturating_add_signed(NEAR[self.turn % NEAR.len()]);
+        self.rotation += 1;
+        let other = sheet.len().saturating_add_signed(NEAR[self.rotation % NEAR.len()]);
         self.whole(lent, called, &sheet, other);
     }
 
@@ -101,9 +101,9 @@ impl Comparison {
     fn entries(&mut self, lent: Lent, called: &Called) {
         let count = called.lines.len();
         let step = count.div_ceil(ENTRIES_MOST).max(1);
-        let first = self.turn % step;
+        let first = self.rotation % step;
         for number in (first..count).step_by(step).chain(count.checked_sub(1)) {
-            self.entry_by_turn(lent, called, number);
+            self.entry_in_rotation(lent, called, number);
         }
         for number in [count, count + 1, count + (1 << 32), usize::MAX] {
             self.entry(lent, called, number, 64);
@@ -111,11 +111,11 @@ impl Comparison {
         self.entry(lent, called, count, 0);
     }
 
-    fn entry_by_turn(&mut self, lent: Lent, called: &Called, number: usize) {
+    fn entry_in_rotation(&mut self, lent: Lent, called: &Called, number: usize) {
         let exact = called.lines[number].bytes.len();
         self.entry(lent, called, number, exact);
-        self.turn += 1;
-        self.entry(lent, called, number, exact.saturating_add_signed(NEAR[self.turn % NEAR.len()]));
+        self.rotation += 1;
+        self.entry(lent, called, number, exact.saturating_add_signed(NEAR[self.rotation % NEAR.len()]));
     }
 
     fn entry(&mut self, lent: Lent, called: &Called, number: usize, len: usize) {
@@ -130,7 +130,7 @@ impl Comparison {
 
     fn holds(&mut self, lent: Lent, name: std::fmt::Arguments, result: &[u8]) {
         if !self.store.holds_only(result) {
-            self.differ(lent, name, &self.store.shown(), &format!("{}, all else as it was", shown(result)));
+            self.differ(lent, name, &self.store.display(), &format!("{}, all else as it was", display(result)));
         }
     }
 

@@ -79,7 +79,7 @@ pub struct Comparison {
     pub store: Buffer,
     pub table: Buffer,
     /// Counts the calls that write, so that buffers of each size have their turn.
-    pub turn: usize,
+    pub rotation: usize,
 }
 
 impl Comparison {
@@ -92,7 +92,7 @@ impl Comparison {
             beside: [Fenced::new(), Fenced::new(), Fenced::new()],
             store: Buffer::new(),
             table: Buffer::new(),
-            turn: 0,
+            rotation: 0,
         }
     }
 
@@ -176,7 +176,7 @@ impl Comparison {
         self.counts.differences += 1;
         let (number, group) = (self.counts.differences, self.group().name);
         println!("difference {number}: {name}, in '{group}'");
-        println!("  text of {} bytes: {}", lent.text.len(), shown(lent.text));
+        println!("  text of {} bytes: {}", lent.text.len(), display(lent.text));
         println!("  ours: {ours:?}\n  Rust: {rust:?}");
         if self.counts.differences == DIFFERENCES_SHOWN {
             println!("compare: stopped after {DIFFERENCES_SHOWN} differences");
@@ -186,7 +186,7 @@ impl Comparison {
 }
 
 /// The bytes, escaped; of many their two ends.
-pub fn shown(bytes: &[u8]) -> String {
+pub fn display(bytes: &[u8]) -> String {
     if bytes.len() <= 200 {
         return format!("\"{}\"", bytes.escape_ascii());
     }

@@ -110,7 +110,7 @@ impl Buffer {
     }
 
     /// The bytes with what stands around them, to be printed.
-    pub fn shown(&self) -> String {
+    pub fn display(&self) -> String {
         let bytes = self.bytes();
         bytes[..bytes.len().min(SHOWN)].escape_ascii().to_string()
     }

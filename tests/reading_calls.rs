@@ -2,7 +2,7 @@
 
 use std::ptr::null_mut;
 
-use crate::comparison::{shown, Comparison, Lent};
+use crate::comparison::{display, Comparison, Lent};
 use crate::howhakiru;
 use crate::readings::{self, Reading};
 use crate::shape_calls::SHAPES;
@@ -33,8 +33,8 @@ impl Comparison {
         }
         let reading = self.rust_reading(call, lent);
         self.reading_in(call, lent, &reading, (0, 0));
-        self.turn += 1;
-        self.reading_in(call, lent, &reading, ROOMS[self.turn % ROOMS.len()]);
+        self.rotation += 1;
+        self.reading_in(call, lent, &reading, ROOMS[self.rotation % ROOMS.len()]);
     }
 
     /// Compares every reading in buffers of every size.
@@ -84,10 +84,10 @@ impl Comparison {
         let (words, pairs) =
             if rust.refusal == 0 { (&reading.store[..], &reading.table[..]) } else { (&b""[..], &b""[..]) };
         if !self.store.holds_only(words) {
-            self.differ(lent, name, &self.store.shown(), &format!("{} in the store, all else as it was", shown(words)));
+            self.differ(lent, name, &self.store.display(), &format!("{} in the store, all else as it was", display(words)));
         }
         if !self.table.holds_only(pairs) {
-            self.differ(lent, name, &self.table.shown(), &format!("{} in the table, all else as it was", shown(pairs)));
+            self.differ(lent, name, &self.table.display(), &format!("{} in the table, all else as it was", display(pairs)));
         }
     }
 

@@ -79,7 +79,7 @@ impl Comparison {
         self.settle(lent, name, ours, rust);
         if !self.store.holds_only(written) {
             let wanted = format!("{:?} at the store's front, all else as it was", written.escape_ascii().to_string());
-            self.differ(lent, name, &self.store.shown(), &wanted);
+            self.differ(lent, name, &self.store.display(), &wanted);
         }
     }
 }

@@ -68,7 +68,7 @@ static void measured_entry(void) { hwk_call_entry(text, text_len, 0, called, 0);
 static size_t touched(void (*f)(void))
 {
     static ucontext_t here, there;
-    size_t clean = 0;
+    size_t untouched = 0;
 
     memset(stack, PAINT, sizeof stack);
     assert(getcontext(&there) == 0);
@@ -77,8 +77,8 @@ static size_t touched(void (*f)(void))
     there.uc_link = &here;
     makecontext(&there, f, 0);
     assert(swapcontext(&here, &there) == 0);
-    while (clean < sizeof stack && stack[clean] == PAINT) clean++;
-    return sizeof stack - clean;
+    while (untouched < sizeof stack && stack[untouched] == PAINT) untouched++;
+    return sizeof stack - untouched;
 }
 
 static size_t larger(size_t a, size_t b) { return a < b ? b : a; }

@@ -41,18 +41,18 @@ const FLAGS: &[u8] = &[0, 1, 2, 16, 127, 128, 255];
 /// Every length, head and last byte with every choice of flags; what the step is fed has its turn.
 pub fn every_choice(comparison: &mut Comparison) {
     comparison.begin("steps from states made by hand");
-    let mut turn = 0;
+    let mut rotation = 0;
     for &len in LENGTHS {
         for &head in HEADS {
             for &last in LASTS {
                 for choice in 0..32 {
-                    turn += 1;
-                    let flag = |place: usize| if choice >> place & 1 == 0 { 0 } else { FLAGS[1 + (turn + place) % 6] };
+                    rotation += 1;
+                    let flag = |place: usize| if choice >> place & 1 == 0 { 0 } else { FLAGS[1 + (rotation + place) % 6] };
                     let [point, colon, question, exclamation, fresh] = [0, 1, 2, 3, 4].map(flag);
                     let state = State { len, head, last, point, colon, question, exclamation, fresh };
                     for blank in [" ", "  ", "\n\n"] {
-                        for next in ["a", "A", ["", "1", "é", "."][turn % 4]] {
-                            comparison.step_from(state, fed([blank, next, MARKS[turn % MARKS.len()]]), 0);
+                        for next in ["a", "A", ["", "1", "é", "."][rotation % 4]] {
+                            comparison.step_from(state, fed([blank, next, MARKS[rotation % MARKS.len()]]), 0);
                         }
                     }
                 }

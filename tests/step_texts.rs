@@ -54,14 +54,14 @@ pub fn fed(texts: [&str; 3]) -> Fed<'_> {
 /// Each of the three texts fine, at the limit, over it, damaged, and damaged over it: the smallest number wins.
 pub fn refusals(comparison: &mut Comparison) {
     comparison.begin("steps that are refused");
-    let filled = |len: usize, byte: u8| vec![byte; len];
-    let damaged = [filled(TEXT_LIMIT - 1, b'a'), b"\xc3".to_vec()].concat();
+    let repeated = |len: usize, byte: u8| vec![byte; len];
+    let damaged = [repeated(TEXT_LIMIT - 1, b'a'), b"\xc3".to_vec()].concat();
     let kinds = [
         b"Abc.".to_vec(),
-        filled(TEXT_LIMIT, b'\n'),
-        filled(TEXT_LIMIT + 1, b'a'),
+        repeated(TEXT_LIMIT, b'\n'),
+        repeated(TEXT_LIMIT + 1, b'a'),
         b"a\xff".to_vec(),
-        filled(TEXT_LIMIT + 1, 0xff),
+        repeated(TEXT_LIMIT + 1, 0xff),
         damaged,
     ];
     for number in 0..kinds.len().pow(3) {

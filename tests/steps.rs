@@ -5,7 +5,7 @@ use std::fmt;
 use reference::text::{SentenceBuilder, Token};
 
 use crate::answers::{self, TEXT_TOO_LONG};
-use crate::comparison::shown;
+use crate::comparison::display;
 use crate::tokens::{State, Step};
 
 /// The three texts of a step.
@@ -18,7 +18,7 @@ pub struct Fed<'a> {
 
 impl fmt::Display for Fed<'_> {
     fn fmt(&self, out: &mut fmt::Formatter) -> fmt::Result {
-        let [whitespace, name, punctuation] = [self.whitespace, self.name, self.punctuation].map(shown);
+        let [whitespace, name, punctuation] = [self.whitespace, self.name, self.punctuation].map(display);
         write!(out, "whitespace {whitespace}, name {name}, punctuation {punctuation}")
     }
 }

@@ -3,7 +3,7 @@
 use std::ptr::null_mut;
 
 use crate::answers::TEXT_LIMIT;
-use crate::comparison::{shown, Comparison, Lent};
+use crate::comparison::{display, Comparison, Lent};
 use crate::howhakiru;
 use crate::steps::Fed;
 use crate::tokens::{State, Step, Tokenized, Tokens, TOKEN_BYTES};
@@ -60,14 +60,14 @@ impl Comparison {
             return self.step_with(lent);
         }
         let tokenized = Tokenized::of(lent.admitted);
-        self.fill_by_turn(lent, &tokenized, tokenized.fillings()[call]);
+        self.fill_in_rotation(lent, &tokenized, tokenized.fillings()[call]);
     }
 
     /// Compares table, sentence starts, and the steps over the text's own tokens.
     pub fn every_token(&mut self, text: &[u8], gap: usize) {
         self.with(text, gap, |comparison, lent| {
             let tokenized = Tokenized::of(lent.admitted);
-            tokenized.fillings().iter().for_each(|&filling| comparison.fill_by_turn(lent, &tokenized, filling));
+            tokenized.fillings().iter().for_each(|&filling| comparison.fill_in_rotation(lent, &tokenized, filling));
             comparison.steps_over(lent, &tokenized);
         });
     }
@@ -103,10 +103,10 @@ impl Comparison {
     }
 
     /// The exact buffer, and the one whose turn it is.
-    fn fill_by_turn(&mut self, lent: Lent, tokenized: &Tokenized, filling: Filling) {
+    fn fill_in_rotation(&mut self, lent: Lent, tokenized: &Tokenized, filling: Filling) {
         self.fill(lent, tokenized, filling, filling.result.len());
-        self.turn += 1;
-        self.fill(lent, tokenized, filling, filling.len(self.turn % ROOMS, lent.text.len()));
+        self.rotation += 1;
+        self.fill(lent, tokenized, filling, filling.len(self.rotation % ROOMS, lent.text.len()));
     }
 
     fn fill(&mut self, lent: Lent, tokenized: &Tokenized, filling: Filling, len: usize) {
@@ -118,7 +118,7 @@ impl Comparison {
         self.settle(lent, name, ours, rust);
         let result = if rust.refusal == 0 { filling.result } else { b"" };
         if !self.table.holds_only(result) {
-            self.differ(lent, name, &self.table.shown(), &format!("{}, all else as it was", shown(result)));
+            self.differ(lent, name, &self.table.display(), &format!("{}, all else as it was", display(result)));
         }
     }
 

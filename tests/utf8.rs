@@ -55,10 +55,10 @@ pub fn placed(comparison: &mut Comparison) {
     let sequences = sequences();
     let mut call = 0;
     for filler in FILLERS {
-        let filled = filler.repeat(132 / filler.len());
-        for place in (0..=filled.len()).step_by(filler.len()) {
+        let padding = filler.repeat(132 / filler.len());
+        for place in (0..=padding.len()).step_by(filler.len()) {
             for sequence in &sequences {
-                let text = [&filled.as_bytes()[..place], sequence, &filled.as_bytes()[place..]].concat();
+                let text = [&padding.as_bytes()[..place], sequence, &padding.as_bytes()[place..]].concat();
                 comparison.one_call(&text, call % 64, call % CALLS);
                 call += 1;
             }

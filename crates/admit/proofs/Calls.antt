@@ -16,7 +16,7 @@ refused-same : {A : Type 0} (nothing given : A) (n : ℕ) → (n ≡ 0 → ⊥) 
 refused-same nothing given zero h = absurd (h refl)
 refused-same nothing given (suc n) h = refl
 
--- m is the number that the code has, n the one that is due
+-- m is the number that the code has, n the one of the definition
 pub call-refused : {A : Type 0} (nothing given : A) (m n : ℕ) → (m ≡ 0 → ⊥) → m ≡ n → record { refusal = m; value = nothing } ≡ call nothing n given
 call-refused nothing given m n h e = rw (← e) (refused-same nothing given m h)
 
@@ -72,7 +72,7 @@ both-passed a b h = go (firstRefusal a) (sym (firstRefusal-append a b) ∙ h)
 abbrev pub Fails : Test → Type 0
 Fails (r when holds) = holds ≡ false
 
--- where no refusal is due, no test holds
+-- where none refuses, no test holds
 pub none-refused : (tests : List Test) → firstRefusal tests ≡ 0 → Every Fails tests
 none-refused [] h = tt
 none-refused (r when true ∷ tests) h = absurd (omega (arith, h, numbered r 1 ∙ ap (λ (n : ℕ). orElse n 1) h))

@@ -62,7 +62,7 @@ textTests limit texts =
     ∷ NotUtf8 when any isNotUtf8 texts
     ∷ []
 
--- the number that is due where a call is given one text, and is tested for nothing else
+-- the number that is answered where a call is given one text, and is tested for nothing else
 abbrev pub textRefusal : ℕ → List ℕ → ℕ
 textRefusal limit s = firstRefusal (textTests limit (s ∷ []))
 

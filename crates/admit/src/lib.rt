@@ -207,14 +207,14 @@ pub fn admit(limit: usize, s: &[u8]) -> Answer
     Answer::Refused(Refusal::NotUtf8)
 }
 
-// The number of the refusal that is due for a text of the library, at any length.
+// The number of the refusal that a text of the library earns, at any length.
 fn refusal_of_any(s: &[u8]) -> u8
     ensures { λ r. ⌜ r ≡ textRefusal textLimit (now (s .entry)) ⌝ }
 {
     admit(TEXT_LIMIT, s).number()
 }
 
-// The number of the refusal that is due for a text of the library, 0 where there is none. A short name of ASCII costs a few
+// The number of the refusal that a text of the library earns, 0 where there is none. A short name of ASCII costs a few
 // instructions, which the compiler puts into each caller; the two calls keep the rest out of there.
 pub fn refusal_of(s: &[u8]) -> u8
     ensures { λ r. ⌜ r ≡ textRefusal textLimit (now (s .entry)) ⌝ }

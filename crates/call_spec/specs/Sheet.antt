@@ -29,7 +29,7 @@ entries s = entriesOf (sentenceStarts (tokens s)) (tokens s)
 abbrev pub wordsOf : SheetEntry → List (List ℕ)
 wordsOf e = spelled (read (e .name) .words)
 
--- `"+" if it sentenceStarts a sentence, else "-"`
+-- `"+" if it starts a sentence, else "-"`
 abbrev pub mark : Bool → ℕ
 mark b = cond b (code "+") (code "-")
 

@@ -84,7 +84,8 @@ fn say_line(
 // Writes the lines of all entries.
 fn say_sheet(s: &[u8], out: &mut [u8], table: &mut [u8]) -> SheetWalk
     ensures { λ r. ⌜ (r .tokens ≡ length (tokens (now (s .entry))))
-        × (writer (now (out .exit)) (now (table .exit)) (r .cursor) ≡ linesTo (entries (now (s .entry))) (writer (now (out .entry)) (now (table .entry)) spacedCursor)) ⌝ }
+        × (writer (now (out .exit)) (now (table .exit)) (r .cursor)
+        ≡ linesTo (entries (now (s .entry))) (writer (now (out .entry)) (now (table .entry)) spacedCursor)) ⌝ }
 {
     let mut state = State::fresh();
     let mut cursor = Cursor::spaced();

@@ -1,4 +1,4 @@
--- Digits as bytes and as values, and a number shown by its digits. Assumes nothing.
+-- Digits as bytes and as values, and the decimal digits of a number. Assumes nothing.
 use mathlib.Core.Path.{_≡_, refl, sym, ap, ap₂, _∙_}
 use mathlib.Core.Bool.{true, not, and-eq-true-iff, true≢false}
 use mathlib.Core.List.{List, [], _∷_, _++_, map, append-nil}
@@ -94,7 +94,7 @@ unfolding decimalDigits
 decimalDigits-last zero a acc h = refl
 decimalDigits-last (suc f) a acc h = rw (lt-ltb a 10 h, decimalDigits)
 
--- a number is shown by the digits that it was read from
+-- the decimal digits of a number are those that it was read from
 pub decimalDigits-plain : (s : List ℕ) (f : ℕ) → BelowTen s → PlainValues s → length s ≤ suc f → decimalDigits f (decimal s) [] ≡ s
 unfolding decimal decimalFrom
 decimalDigits-plain [] f t p h = absurd (omega arith)

@@ -1,4 +1,4 @@
--- What a sheet asks of a name. Assumes nothing.
+-- What decoding a sheet asks of the words of a name. Assumes nothing.
 use mathlib.Core.Path.{_≡_}
 use mathlib.Core.Bool.{Bool, not, _&&_}
 use mathlib.Core.List.{List, map}

@@ -38,7 +38,7 @@ not-one-word ws h = rw (ne-eqb (length ws) 1 (omega arith))
 
 -- ---- the words of numbers
 
--- the words of a number are known by their spelling
+-- the words of a number are parsed from their spelling
 pub number-words-parsed : (ws : List Word) → Every NumberWord ws → parseWords (spelled ws) ≡ ws
 number-words-parsed ws h = every-parsed ws (every-imply NumberWord (λ w. parseWord (spell w) ≡ w) number-word-parsed ws h)
 

@@ -1,4 +1,4 @@
--- The words of a figure are decoded as the figure, from the right: a sign and the digits after it at a time. Assumes nothing.
+-- The words of a figure are decoded as the figure, from the right: a symbol and the digits after it at a time. Assumes nothing.
 use mathlib.Core.Path.{_≡_, refl, ap, _∙_}
 use mathlib.Core.Bool.{Bool, true, false, not, _&&_}
 use mathlib.Core.List.{List, [], _∷_, _++_, map, append-nil}
@@ -26,7 +26,7 @@ use Rattle.decoder.proofs.Real.{fractionWords, exponentWords}
 abbrev pub isFigureEnd : List ℕ → Bool
 isFigureEnd w = not (same w (bytes "cent")) && not (same w (bytes "m")) && not (listed w unitWords) && not (listed w (map bytes ordinals))
 
--- known by its spelling, and no ending of another kind of name
+-- parsed from its spelling, and no ending of another kind of name
 pub record FigureWord (w : Word) : Type 0 where
   pub parsed : parseWord (spell w) ≡ w
   pub ending : isFigureEnd (spell w) ≡ true
@@ -69,9 +69,9 @@ e-is : SymbolWord (other (bytes "e")) (code "e")
 unfolding unfoldDecoder
 e-is = record { figure = record { parsed = refl; ending = refl }; byte = refl; some = refl; large = refl }
 
--- ---- signs, each with the digits after it
+-- ---- symbols, each with the digits after it
 
--- a text that a sign leads, if it is not empty, and its words
+-- a text that a symbol leads, if it is not empty, and its words
 pub data SymbolTail : List ℕ → List Word → Type 0 where
   no-tail : SymbolTail [] []
   symbol-part : (w : Word) (c : ℕ) (a : List Word) (d : List ℕ) {t : List ℕ} {r : List Word} → SymbolWord w c → Every NumberWord a → decodeAfterSymbol c a ≡ d
@@ -88,24 +88,24 @@ unfolding decodeFromRight
 tail-decoded no-tail = refl
 tail-decoded (symbol-part w c a d {t} {r} s n h k) = rw (s .byte, s .some, number-words-pending a r n, tail-decoded k, append-nil a, h)
 
--- digits before the signs
+-- digits before the symbols
 pub front-decoded : (a : List Word) {t : List ℕ} {r : List Word} → Every NumberWord a → SymbolTail t r → decodeFigure (a ++ r) ≡ decodeAfterSymbol 0 a ++ t
 unfolding decodeFigure
 front-decoded a {t} {r} n k = rw (number-words-pending a r n, tail-decoded k, append-nil a)
 
--- the words of signs and digits are such
+-- the words of symbols and digits are such
 pub tail-figure-words : {t : List ℕ} {r : List Word} → SymbolTail t r → Every FigureWord r
 tail-figure-words no-tail = tt
 tail-figure-words (symbol-part w c a d {t} {r} s n h k) =
     (s .figure, every-append FigureWord a r (every-imply NumberWord FigureWord number-word-figure a n) (tail-figure-words k))
 
--- ---- digits after a sign
+-- ---- digits after a symbol
 
 plain-after : (c : ℕ) (s : List ℕ) → eqb c (code ".") ≡ false → plain s ≡ true → decodeAfterSymbol c (cardinal s) ≡ s
 unfolding decodeAfterSymbol
 plain-after c s n h = let p = plain-some s h in rw (p .2) (rw (n, ← p .2) (decode-plain s h))
 
--- a sign and plain digits, before others
+-- a symbol and plain digits, before others
 pub plain-part : {w : Word} {c : ℕ} → SymbolWord w c → eqb c (code ".") ≡ false → (x : List ℕ) → plain x ≡ true → {t : List ℕ} {r : List Word}
     → SymbolTail t r → SymbolTail (c ∷ (x ++ t)) (w ∷ (cardinal x ++ r))
 plain-part {w} {c} s n x h k = symbol-part w c (cardinal x) x s (cardinal-number-words x) (plain-after c x n h) k
@@ -118,7 +118,7 @@ point-after s h = go (digits s) (ap digitBytes (digits-back (digitValues s)) ∙
     go [] e = e
     go (w ∷ ws) e = e
 
--- ---- the signs of a figure
+-- ---- the symbols of a figure
 
 exponent-tail : {x t : List ℕ} {r : List Word} (e : Exponent x) → SymbolTail t r → SymbolTail (x ++ t) (exponentWords e ++ r)
 unfolding decodeAfterSymbol

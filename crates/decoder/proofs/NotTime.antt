@@ -1,4 +1,4 @@
--- The words of a number sound like no time, and a word that is alone is small. Assumes nothing.
+-- The words of a number are not like those of a time, and a word that is alone is below a hundred. Assumes nothing.
 use mathlib.Core.Path.{_≡_, refl, _∙_}
 use mathlib.Core.Bool.{false, not, _&&_, and-false}
 use mathlib.Core.List.{List, [], _∷_, _++_, map}
@@ -16,7 +16,7 @@ use Rattle.numerals.specs.Walk.{BelowTen}
 use Rattle.numerals.proofs.NumberWords.{digitValues-below-ten}
 use Rattle.decoder.specs.Decode.{digitOf, valueBelowHundred, isBelowHundred, isMinuteOnly, timeLike}
 
--- the words sound like no time, and a word that is alone is small
+-- the words are not like those of a time, and a word that is alone is below a hundred
 pub record NotTime (ws : List Word) : Type 0 where
   pub not-time-like : timeLike ws ≡ false
   pub alone : (eqb (length ws) 1 && not (all isBelowHundred ws)) ≡ false

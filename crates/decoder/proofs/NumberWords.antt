@@ -27,7 +27,7 @@ use Rattle.decoder.specs.Decode.{parseWordIn, parseWord, parseWords, dec
 use Rattle.clear.proofs.Figures.{plain-digits}
 use Rattle.decoder.proofs.DecimalDigits.{plain-values, decimalDigits-plain, digitValues-length, digitBytes-digitValues}
 
--- ---- words that are known
+-- ---- words from their spelling
 
 -- the first word that is spelled so
 parse-first : (vs : List Word) (w : List ℕ) → indexOf w (map spell vs) < length vs → parseWordIn vs w ≡ getD vs (indexOf w (map spell vs)) hundred
@@ -41,11 +41,11 @@ parse-first (v ∷ vs) w h = go (same (spell v) w) h (parse-first vs w)
     go true h r = refl
     go false h r = r (omega arith)
 
--- no two words of the vocabulary are spelled the same
+-- no two number words are spelled the same
 parsesBack : ℕ → Bool
 parsesBack k = eqb (indexOf (spell (getD numberWords k hundred)) (map spell numberWords)) k
 
--- a number's word is known by its spelling, and so are words one after another
+-- a number's word is parsed from its spelling, and so are words one after another
 pub number-word-parsed : (w : Word) → NumberWord w → parseWord (spell w) ≡ w
 unfolding parsesBack parseWord numberWords consecutiveWords indexOf any spell unfoldVocabulary
 number-word-parsed w n =

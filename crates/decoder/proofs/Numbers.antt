@@ -44,12 +44,12 @@ record NumberDecoded (s : List ℕ) (ws : List Word) : Type 0 where
   pub not-time-like : timeLike ws ≡ false
   pub decoded : decodeFigure ws ≡ s
 
--- signs after words of numbers
+-- symbols after words of numbers
 tail-not-time : (a : List Word) {t : List ℕ} {r : List Word} → 0 < length a → NotTime a → SymbolTail t r → NotTime (a ++ r)
 tail-not-time a z h no-tail = rw (append-nil a) h
 tail-not-time a z h (symbol-part w c b d {t} {r} s n e k) = large-not-time a w (b ++ r) (s .large) (omega arith)
 
--- a small word that is alone is one of the tables
+-- a word below a hundred that is alone is one of the tables
 below-hundred-listed : (w : Word) → NumberWord w → (not (ltb (valueBelowHundred w) 100) || listed (spell w) tableWords) ≡ true
 unfolding unfoldDecoder
 below-hundred-listed = number-word-test (λ w. not (ltb (valueBelowHundred w) 100) || listed (spell w) tableWords) refl
@@ -62,7 +62,7 @@ not-time-not-one-word w [] n o =
     rw k
 not-time-not-one-word w (x ∷ v) n o = not-one-word (spelled (w ∷ x ∷ v)) (omega arith)
 
--- words of numbers, and the signs after them
+-- words of numbers, and the symbols after them
 front-number : (a : List Word) (s : List ℕ) {t : List ℕ} {r : List Word} → 0 < length a → Every NumberWord a → NotTime a → decodeDigits a ≡ s
     → SymbolTail t r → NumberDecoded (s ++ t) (a ++ r)
 unfolding spelled decodeAfterSymbol

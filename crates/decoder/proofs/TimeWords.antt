@@ -123,7 +123,7 @@ module _ (h m : List ℕ) (q : isMinute m ≡ true) where
       (every-imply TimeWord (λ w. parseWord (spell w) ≡ w) (λ w. ⊎-elim (number-word-parsed w) (λ (e : w ≡ ohWord). ap (λ v. parseWord (spell v)) e ∙ sym e))
       (clock h m) clock-words)
 
-  -- each of them fails a test that the vocabulary fails
+  -- each of them fails a test that the number words fail
   clock-fails : (p : List ℕ → Bool) → all (λ w. not (p (spell w))) numberWords ≡ true → not (p (bytes "oh")) ≡ true → (i : ℕ)
       → i < length (clock h m) → p (getD (spelled (clock h m)) i []) ≡ false
   clock-fails p a b i l =

@@ -80,7 +80,7 @@ minute-number m e =
 
 -- ---- the words of an hour, and of a minute
 
--- small words: one, or tens and ones, that are the hour k
+-- words below a hundred: one, or tens and ones, that are the hour k
 unfoldable isHourOf : ℕ → List Word → Bool
 isHourOf k [] = false
 isHourOf k (w ∷ []) = eqb (valueBelowHundred w) k
@@ -90,7 +90,7 @@ isHourOf k (w ∷ v ∷ u ∷ ws) = false
 abbrev hourly : ℕ → List Word → Bool
 hourly k ws = all isBelowHundred ws && isHourOf k ws
 
--- small words: none, or the first is none of ONES, that are the minute k
+-- words below a hundred: none, or the first is none of ONES, that are the minute k
 unfoldable isMinuteOf : ℕ → List Word → Bool
 isMinuteOf k [] = eqb 0 k
 isMinuteOf k (v ∷ ws) = not (isOne v) && eqb (decodeMinute (v ∷ ws)) k

@@ -71,7 +71,7 @@ decodeDigits ws = digitBytes (cond (twoOnes ws) (map digitOf ws) (decimalDigits 
 
 -- ---- numbers with sign, point and exponent
 
--- the byte that a word between digits stands for, 0 where it stands for none
+-- the byte that a word between digits stands for, a sign, a point or an "e", and 0 where it stands for none
 abbrev pub symbolIn : List ℕ → ℕ
 symbolIn w =
     cond (same w (bytes "minus")) (code "-")
@@ -85,12 +85,12 @@ symbolByte hundred = 0
 symbolByte (scale k) = 0
 symbolByte (other w) = symbolIn w
 
--- the digits after the sign c: after a point one by one
+-- the digits after the symbol c: after a point one by one
 unfoldable pub decodeAfterSymbol : ℕ → List Word → List ℕ
 decodeAfterSymbol c [] = []
 decodeAfterSymbol c (w ∷ ws) = cond (eqb c (code ".")) (digitBytes (map digitOf (w ∷ ws))) (decodeDigits (w ∷ ws))
 
--- words decoded from the right: those that no sign stands before yet, and what is decoded after them
+-- words decoded from the right: those that no symbol stands before yet, and what is decoded after them
 pub record Decoding : Type 0 where
   pub pending : List Word
   pub bytes : List ℕ
@@ -120,7 +120,7 @@ valueBelowHundred (other w) = cond (same w (bytes "oh")) 0 100
 abbrev pub isBelowHundred : Word → Bool
 isBelowHundred w = ltb (valueBelowHundred w) 100
 
--- a word that only a minute has after other small words: a teen, a ten, "oh"
+-- a word that only a minute has after others below a hundred: a teen, a ten, "oh"
 abbrev pub isMinuteOnly : Word → Bool
 isMinuteOnly w = isBelowHundred w && not (isOne w)
 

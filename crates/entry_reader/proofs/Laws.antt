@@ -1,4 +1,4 @@
--- How signs are counted, and where the cursor stands after a name. Assumes nothing.
+-- How percent signs are counted, and where the cursor stands after a name. Assumes nothing.
 use mathlib.Core.Path.{_≡_, sym, ap, _∙_}
 use mathlib.Core.Bool.{true}
 use mathlib.Core.List.{List, _++_, append-assoc, append-nil}

@@ -1,4 +1,4 @@
--- The signs at a name's end, and the cursor that the readers hand on. Definitions only; no public promise is made of them.
+-- The percent signs at a name's end, and the cursor that the readers hand on. Definitions only; no public promise is made of them.
 use mathlib.Core.Bool.{not}
 use mathlib.Core.List.{List, [], _++_}
 use Prim.Native.Nat.{ℕ, zero, suc}
@@ -13,7 +13,7 @@ unfoldable pub perCents : ℕ → List Word
 perCents zero = []
 perCents (suc n) = perCent ++ perCents n
 
--- a reading, and so many signs after it, which leave its row
+-- a reading, and so many percent signs after it, which leave its row
 abbrev pub withPercents : Reading → ℕ → Reading
 withPercents g n = by (g .row) (g .words ++ perCents n)
 

@@ -2,7 +2,7 @@
 // the percent reader call each other on shorter names. No name that ends in % is taken by rows 1 to 9, so the last byte is tested
 // first.
 //
-// A name may be nothing but signs, so a level of the two has to take little of the stack. The signs taken off are counted and said
+// A name may be nothing but %, so a level of the two has to take little of the stack. The % taken off are counted and said
 // once what stands before them was read: nothing waits for the inner call. The cursor is three numbers at one place, whose address is
 // all that a level hands on.
 use lists::ends_with;
@@ -75,7 +75,7 @@ fn cursor_of(place: &[usize; 3]) -> Cursor
     }
 }
 
-// A name that does not end in %, and the signs after it. The cycle and `read_name` call it: were it called once, the compiler
+// A name that does not end in %, and the percent signs after it. The cycle and `read_name` call it: were it called once, the compiler
 // would make its frame a part of each level's.
 fn read_before_percents(
     name: &[u8],
@@ -96,7 +96,7 @@ fn read_before_percents(
     entry.row
 }
 
-// The entry reader: says a name, from row 1 on, and the signs after it.
+// The entry reader: says a name, from row 1 on, and the percent signs after it.
 fn read_entry(
     name: &[u8],
     percents: usize,

@@ -24,6 +24,6 @@ letterWord (b ∷ c ∷ s) = b ∷ c ∷ s
 unfoldable pub letters : List ℕ → List Word
 letters s = map (λ c. other (letterWord c)) (chars s)
 
--- "_a" of the letter a in either case, else the character lowered
+-- the same of a whole character, for `letters-utf8`: "_a" of the letter a in either case, else the character lowered
 abbrev pub characterWord : List ℕ → List ℕ
 characterWord c = cond (same (map toLower c) (bytes "a")) (bytes "_a") (map toLower c)

@@ -1,4 +1,4 @@
--- Numbers as bytes, and texts in rows, at every width. Assumes nothing.
+-- Numbers as bytes, and packed texts, at every width. Assumes nothing.
 use mathlib.Core.Path.{_≡_, refl, ap, _∙_}
 use mathlib.Core.List.{List, [], _∷_, _++_, append-assoc}
 use Prim.Native.Nat.{ℕ, zero, suc, _+_, _-_, _^_, _/_, _≤_, _<_}
@@ -23,7 +23,7 @@ leBytes-value (suc w) n h =
     let r : leValue (leBytes w (n / 256)) ≡ n / 256 = leBytes-value w (n / 256) (omega arith) in
     omega arith
 
--- a row gives its text back
+-- packed bytes give their text back
 pub unpack-pack : (s : List ℕ) → length s ≤ 15 → unpack (pack s) ≡ s
 unfolding unpack pack
 unpack-pack s h =

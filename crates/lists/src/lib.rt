@@ -308,7 +308,7 @@ pub fn ends_same(lowered: bool, s: &[u8], t: &[u8]) -> bool
     false
 }
 
-// The text in a row of 16 bytes.
+// The text in 16 packed bytes.
 pub fn unpacked(packed: &[u8]) -> &[u8]
     ensures { λ r. ⌜ now r ≡ unpack (now (packed .entry)) ⌝ }
 {

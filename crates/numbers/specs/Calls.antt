@@ -22,7 +22,7 @@ romanCall s = call 0 (textRefusal textLimit s) (romanValue s)
 
 -- ---- no public promise is made of these
 
--- the words that each reader reads a text as
+-- the words of each reading of a text
 abbrev pub wordsAs : SayAs → List ℕ → List Word
 wordsAs Cardinal s = cardinal s
 wordsAs Ordinal s = ordinal s

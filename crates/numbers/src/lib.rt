@@ -1,5 +1,5 @@
 // The public functions of numbers.rs, in its order and under its names: each takes all bytes and all buffer lengths, and answers
-// its words or the one refusal that is due.
+// its words or the one refusal that it earns.
 use admit::Refusal;
 use admit::refusal_of;
 use letters::say_letters;
@@ -26,7 +26,7 @@ ghost use Rattle.reals.specs.Real.{real};
 ghost use Rattle.letters.specs.Letters.{letters};
 ghost use Rattle.numbers.specs.Calls.{wordsAs, asRomanValue, romanCall};
 
-// The functions that give words.
+// How a text is read as words.
 pub enum SayAs {
     Cardinal,
     Ordinal,
@@ -43,7 +43,7 @@ pub struct RomanValue {
     pub value: u32,
 }
 
-// Says what a reader reads s as.
+// Says s as one of the six readings.
 fn say_as(
     interpretation: SayAs,
     s: &[u8],
@@ -80,7 +80,8 @@ fn has_ample_room(n: usize, store: usize, table: usize) -> bool
 fn too_short(interpretation: SayAs, s: &[u8], store: usize, table: usize) -> bool
     requires { ⌜ (store < usizeMax) × (table < usizeMax) ⌝ }
     ensures { λ r. ⌜ r
-        ≡ tooShortFor (length (flatten (spelled (wordsAs interpretation (now (s .entry)))))) (length (spelled (wordsAs interpretation (now (s .entry))))) store table ⌝ }
+        ≡ tooShortFor (length (flatten (spelled (wordsAs interpretation (now (s .entry))))))
+        (length (spelled (wordsAs interpretation (now (s .entry))))) store table ⌝ }
 {
     if has_ample_room(s.len(), store, table) {
         return false;

@@ -73,7 +73,7 @@ pub ordinal-said : (s ds : List ℕ) (σ : Writer) {h : HeldWriter} {τ : Writer
 ordinal-said s ds σ d m e k q f =
     f ∙ rw (q, e, d, ordinal-short s m) (or-zero-formed (shortCardinal (digitValues s)) σ (short-number-words (digitValues s) (digitValues-below-ten s)))
 
--- ---- more digits than are few
+-- ---- more than twelve digits
 
 -- the last word takes its ordinal form
 pub onLast-snoc : (ws : List Word) (w : Word) → onLast (orZero (ws ++ w ∷ [])) ≡ ws ++ other (ordinalForm (spell w)) ∷ []

@@ -23,7 +23,7 @@ use Rattle.numerals.proofs.Cardinal.{shortCardinal-induct, cardinalOf-e
 abbrev pub NumberWord : Word → Type 0
 NumberWord w = (k : ℕ) × (k < length numberWords) × (w ≡ getD numberWords k hundred)
 
--- what the vocabulary passes, each of its words passes: a computed test is a rule
+-- what the number words pass, each of them passes: a computed test is a rule
 pub number-word-test : (p : Word → Bool) → all p numberWords ≡ true → (w : Word) → NumberWord w → p w ≡ true
 number-word-test p h w n = rw (n .2) (all-at p hundred numberWords (n .0) h (n .1))
 
@@ -33,7 +33,7 @@ map-same-at f g [] k d e h = absurd (omega arith)
 map-same-at f g (v ∷ vs) zero d e h = cons-eq-cons .0 e .0
 map-same-at f g (v ∷ vs) (suc k) d e h = map-same-at f g vs k d (cons-eq-cons .0 e .1) (omega arith)
 
--- so what is the same at the vocabulary is the same at each of its words: a table that antt computes is a rule
+-- so what is the same at the number words is the same at each of them: a table that antt computes is a rule
 pub number-word-same : {A : Type 0} (f g : Word → A) → map f numberWords ≡ map g numberWords → (w : Word) → NumberWord w → f w ≡ g w
 number-word-same f g e w n = rw (n .2) (map-same-at f g numberWords (n .0) hundred e (n .1))
 

@@ -1,4 +1,4 @@
--- The digits of a text as far as they are few. Assumes nothing.
+-- The values of a text's first twelve digits. Assumes nothing.
 use mathlib.Core.Path.{_≡_, refl, ap, _∙_}
 use mathlib.Core.Logic.{⊎-elim}
 use mathlib.Core.List.{List, [], _∷_, _++_, append-nil}

@@ -17,7 +17,7 @@ digitValue b = b - code "0"
 unfoldable pub digitValues : List ℕ → List ℕ
 digitValues s = map digitValue (filterIf digit s)
 
--- `"00": none; else a pairWords reads as tens and ones`
+-- `"00": none; else a pair reads as tens and ones`
 unfoldable pub pairWords : ℕ → ℕ → List Word
 pairWords zero zero = []
 pairWords zero (suc n) = one (suc n) ∷ []

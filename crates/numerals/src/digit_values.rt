@@ -1,11 +1,11 @@
-// The digits of a text, picked from its own bytes, as far as they are few.
+// The values of a text's first digits, picked from its own bytes.
 ghost use mathlib.Core.Path.{_≡_};
 ghost use Rattle.numerals.specs.Walk.{firstDigits};
 
 // The most digits of a number that is read by scales.
 pub const MAX_CARDINAL_DIGITS: usize = 12;
 
-// The values of at most twelve digits; n is 13 where there are more.
+// The values of at most twelve digits; the count is 13 where there are more.
 pub struct FirstDigits {
     pub values: [u8; 12],
     pub count: usize,

@@ -1,5 +1,5 @@
 // The public functions of patterns.rs, in its order and under its names: each takes all bytes, and answers its verdict or
-// the one refusal that is due. Their structs are numbers and flags, as C takes them, save SplitTime.
+// the one refusal that it earns. Their structs are numbers and flags, as C takes them, save SplitTime.
 use admit::Refusal;
 use admit::refusal_of;
 use lists::put;

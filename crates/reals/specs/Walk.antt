@@ -9,10 +9,11 @@ use Rattle.lists.specs.Bytes.{bytes, startsWith}
 use Rattle.numerals.specs.Words.{Word, other}
 use Rattle.reals.specs.Real.{eAt, pointed}
 
--- the words that one step says, a sign or the part up to the next "e" and that, and the bytes that it reads
+-- a sign leads the text
 abbrev pub startsWithSign : List ℕ → Bool
 startsWithSign s = startsWith (code "-") s || startsWith (code "+") s
 
+-- the words that one step says, a sign or the part up to the next "e" and that, and the bytes that it reads
 unfoldable pub partWords : List ℕ → List Word
 partWords s =
     cond (startsWith (code "-") s) (other (bytes "minus") ∷ [])

@@ -36,7 +36,8 @@ fn say_pointed(s: &[u8], store: &mut [u8], table: &mut [u8], cursor: Cursor) -> 
 
 // Says a leading sign, or the part up to the first "e" and that.
 fn say_part(s: &[u8], store: &mut [u8], table: &mut [u8], cursor: Cursor) -> Progress
-    ensures { λ r. ⌜ (writer (now (store .exit)) (now (table .exit)) (r .cursor) ≡ putWords (spelled (partWords (now (s .entry)))) (writer (now (store .entry)) (now (table .entry)) cursor))
+    ensures { λ r. ⌜ (writer (now (store .exit)) (now (table .exit)) (r .cursor)
+        ≡ putWords (spelled (partWords (now (s .entry)))) (writer (now (store .entry)) (now (table .entry)) cursor))
         × (r .next ≡ partSize (now (s .entry))) ⌝ }
 {
     if starts_with(s, b'-') {

@@ -19,7 +19,7 @@ neither : (b x y : ℕ) → ((b ≡ x) ⊎ (b ≡ y) → ⊥) → elem b (x ∷ 
 unfolding any
 neither b x y n = rw (ne-eqb x b (λ e. n (inl (sym e))), ne-eqb y b (λ e. n (inr (sym e))))
 
--- what the last arm of `value` knows: b is neither letter of each pair
+-- what the last arm of `letter_value` knows: b is neither letter of each pair
 abbrev Neither : ℕ → List String → Type 0
 Neither b [] = Unit
 Neither b (p ∷ ps) = Neither b ps × ((b ≡ getD (bytes p) 0 0) ⊎ (b ≡ getD (bytes p) 1 0) → ⊥)

@@ -1,4 +1,4 @@
--- Of several texts the refusal is the earliest that one of them earns. Assumes nothing.
+-- Of several texts the refusal is the smallest that one of them earns. Assumes nothing.
 use mathlib.Core.Path.{_≡_, refl, ap, _∙_}
 use mathlib.Core.Bool.{Bool, true, false, cond, _||_}
 use mathlib.Core.List.{List, [], _∷_, _++_}

@@ -97,7 +97,7 @@ kept name punctuation =
       fresh = 0;
     }
 
--- the same by a state
+-- what the tests ask of the token before, as a state has it
 abbrev pub stateContext : State → LeftContext
 stateContext s =
     record {

@@ -170,7 +170,7 @@ impl State {
     }
 }
 
-// Whether a sentence ends between the token that the state was kept of and the next.
+// Whether a sentence ends between the token that the state keeps and the next.
 fn is_sentence_break(state: State, whitespace: &[u8], name: &[u8]) -> bool
     ensures { λ r. ⌜ r ≡ breakAfter (stateContext state) (now (whitespace .entry)) (now (name .entry)) ⌝ }
 {
@@ -199,7 +199,7 @@ fn is_sentence_break(state: State, whitespace: &[u8], name: &[u8]) -> bool
     !state.looks_like_abbreviation()
 }
 
-// The number of the refusal that is due for the three texts of a step.
+// The number of the refusal that the three texts of a step earn.
 fn refusal_of_step(whitespace: &[u8], name: &[u8], punctuation: &[u8]) -> u8
     ensures { λ r. ⌜ r ≡ firstRefusal (stepTests (now (whitespace .entry)) (now (name .entry)) (now (punctuation .entry))) ⌝ }
 {

@@ -106,7 +106,8 @@ first-joined s = ap₂ (λ (x y : List ℕ). x ++ y) (first-take s) (afterRun-dr
 
 -- the whitespace before a run has no say in its cut
 pub cut-white : (w run : List ℕ) (ends : Bool)
-    → cut w run ends ≡ record { whitespace = w; prepunctuation = cut [] run ends .prepunctuation; name = cut [] run ends .name; punctuation = cut [] run ends .punctuation }
+    → cut w run ends
+    ≡ record { whitespace = w; prepunctuation = cut [] run ends .prepunctuation; name = cut [] run ends .name; punctuation = cut [] run ends .punctuation }
 unfolding cut
 cut-white w run ends = go (ends && all prepunctuationMark run)
   where

@@ -50,7 +50,7 @@ fn unit_key(u: &[u8]) -> u32
     (u.len() as u32) + 256 * (a + 256 * (b + 256 * c))
 }
 
-// The number of the first row whose abbreviation is u, UNITS where there is none.
+// The number of the first row whose abbreviation is u, UNIT_COUNT where there is none.
 pub fn unit_index(u: &[u8]) -> u8
     ensures { λ r. ⌜ r ≡ unitIndex (now (u .entry)) ⌝ }
 {

@@ -1,4 +1,4 @@
--- The rows are the words': each law is one test at every number, which antt computes. Assumes nothing.
+-- The packed bytes are the words': each law is one test at every number, which antt computes. Assumes nothing.
 use mathlib.Core.Path.{_≡_, refl}
 use mathlib.Core.Bool.{Bool}
 use mathlib.Core.List.{List, [], _++_}
@@ -32,7 +32,7 @@ halves k = leBytes 8 (lowOf k) ++ leBytes 8 (highOf k)
 halvesHold : ℕ → Bool
 halvesHold k = same (halves k) (pack (wordOf k))
 
--- the two halves of a row
+-- the two halves of a word's packed bytes
 pub packed-halves : (k : ℕ) → halves k ≡ pack (wordOf k)
 unfolding halvesHold unfoldVocabulary
 packed-halves k = ⊎-elim (λ (h : 91 ≤ k). rw (no-word k h)) (λ (h : k < 91). same-true _ _ (below halvesHold 91 refl k h)) (le-or-lt 91 k)
@@ -43,7 +43,7 @@ packedLastByte k = highOf k / 0x0100_0000_0000_0000
 hasLength : ℕ → Bool
 hasLength k = eqb (packedLastByte k) (length (wordOf k))
 
--- a row's last byte is the word's length
+-- the last packed byte is the word's length
 pub high-size : (k : ℕ) → packedLastByte k ≡ length (wordOf k)
 unfolding hasLength unfoldVocabulary
 high-size k = ⊎-elim (λ (h : 91 ≤ k). rw (no-word k h))
@@ -59,6 +59,6 @@ word-short k =
     ⊎-elim (λ (h : 91 ≤ k). rw (no-word k h) (omega arith)) (λ (h : k < 91). leb-true (length (wordOf k)) 11 (below isShortWord 91 refl k h))
     (le-or-lt 91 k)
 
--- a word's row gives it back
+-- a word's packed bytes give it back
 pub word-packed : (k : ℕ) → unpack (pack (wordOf k)) ≡ wordOf k
 word-packed k = let h = word-short k in unpack-pack (wordOf k) (omega arith)

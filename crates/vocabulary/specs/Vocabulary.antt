@@ -86,7 +86,7 @@ othersAt = 84
 unfoldable pub wordOf : ℕ → List ℕ
 wordOf k = getD vocabulary k []
 
--- a word as the code holds it: the two halves of its row of 16 bytes, as numbers
+-- a word as the code holds it: the two halves of its 16 packed bytes, as numbers
 unfoldable pub lowOf : ℕ → ℕ
 lowOf k = leValue (take 8 (pack (wordOf k)))
 

@@ -1,4 +1,4 @@
-// Every word that is called, by number. A word is held as two numbers, which are its row of 16 bytes: a `match` from numbers to
+// Every word that is called, by number. A word is held as two numbers, which are its 16 packed bytes: a `match` from numbers to
 // numbers becomes a table in the program, where a table of bytes would be built on the stack at each call.
 ghost use mathlib.Core.Path.{_≡_};
 ghost use lib.ListN.{length};
@@ -31,7 +31,7 @@ pub const PER: usize = 89;
 
 pub const CENT: usize = 90;
 
-// The first 8 bytes of a word's row, as a number.
+// The first 8 of a word's packed bytes, as a number.
 fn low(k: usize) -> u64
     ensures { λ r. ⌜ r ≡ lowOf k ⌝ }
 {
@@ -131,7 +131,7 @@ fn low(k: usize) -> u64
     }
 }
 
-// The last 8 bytes of a word's row, as a number; the last of them is the word's length.
+// The last 8 of a word's packed bytes, as a number; the last of them is the word's length.
 fn high(k: usize) -> u64
     ensures { λ r. ⌜ r ≡ highOf k ⌝ }
 {
@@ -238,7 +238,7 @@ pub fn word_len(k: usize) -> usize
     (high(k) / 0x0100_0000_0000_0000) as usize
 }
 
-// The word of a number in a row of 16 bytes; an empty text where there is none.
+// The word of a number in 16 packed bytes; an empty text where there is none.
 pub fn packed(k: usize) -> [u8; 16]
     ensures { λ r. ⌜ r ≡ pack (wordOf k) ⌝ }
 {

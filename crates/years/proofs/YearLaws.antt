@@ -197,7 +197,8 @@ module _ (s : List ℕ) (i n left : ℕ) (e : left ≡ length (digitValues (drop
   year-at h = ap spelled (year-long (digitValues (drop i s)) left e h) ∙ rw (spelled-append, digitValues-after)
 
 -- the last digits, at most four
-pub year-last : (s : List ℕ) (left : ℕ) → left ≡ length (digitValues s) → left ≤ 4 → (f : FirstDigits) → f ≡ firstDigits s → {t : List ℕ} → t ≡ take (f .count) (f .values)
+pub year-last : (s : List ℕ) (left : ℕ) → left ≡ length (digitValues s) → left ≤ 4 → (f : FirstDigits) → f ≡ firstDigits s → {t : List ℕ}
+    → t ≡ take (f .count) (f .values)
     → (length t ≤ 4) × BelowTen t × (yearOf t ≡ year s)
 unfolding year
 year-last s left e h f q u =

@@ -56,7 +56,8 @@ fn say_pair(a: u8, b: u8, store: &mut [u8], table: &mut [u8], cursor: Cursor) ->
 
 // Says the first digit of s, or the first two as a pair.
 fn say_lead(lone: bool, s: &[u8], store: &mut [u8], table: &mut [u8], cursor: Cursor) -> Progress
-    ensures { λ r. ⌜ (writer (now (store .exit)) (now (table .exit)) (r .cursor) ≡ putWords (spelled (leadWords lone (digitValues (now (s .entry))))) (writer (now (store .entry)) (now (table .entry)) cursor))
+    ensures { λ r. ⌜ (writer (now (store .exit)) (now (table .exit)) (r .cursor)
+        ≡ putWords (spelled (leadWords lone (digitValues (now (s .entry))))) (writer (now (store .entry)) (now (table .entry)) cursor))
         × (digitValues (drop (r .next) (now (s .entry))) ≡ drop (leadCount lone) (digitValues (now (s .entry))))
         × (r .next ≤ length (now (s .entry))) ⌝ }
 {
