@@ -1,6 +1,7 @@
 /* howhakiru: the reader of the voice unit, for C.
  *
- * Link target/staticlib/libhowhakiru.a, which `rt staticlib howhakiru` writes for x86-64 Linux. Of the C library it needs memcpy alone.
+ * `make` builds target/staticlib/libhowhakiru.a for x86-64 Linux, and `make install` puts it, this header and howhakiru.pc in
+ * their places; `pkg-config --cflags --libs howhakiru` answers the flags. Of the C library it needs memcpy alone.
  *
  *     const char *sheet = "Bar 12 at 9:30. Rack 5mm (21st)\n"; // seven entries
  *     uint8_t line[HWK_CALL_MOST(32)];
@@ -17,7 +18,7 @@
  *     const char *number = "1984"; // nineteen eighty four
  *     uint8_t store[HWK_WORDS_STORE_MOST(4)], table[HWK_WORDS_TABLE_MOST(4)];
  *     hwk_words read = hwk_year((const uint8_t *)number, 4, store, sizeof store, table, sizeof table);
- *     for (size_t i = 0; i < read.words; i++) // none where the call is refused
+ *     for (size_t i = 0; i < read.words; i++) // none if the call is refused
  *         printf("%.*s\n", (int)hwk_word_len(table, i), (const char *)store + hwk_word_at(table, i));
  *
  *     const char *text = "Rack 5mm."; // two tokens: Rack, and 5mm with a point
@@ -30,20 +31,20 @@
  * -------------------------
  * A text is a pointer and a length in bytes. It needs no final NUL, and may hold NULs. Length 0 is the empty text, a text
  * like any other; its pointer may be NULL. A buffer is lent the same way, so a buffer of length 0 may be NULL too. A
- * lent buffer overlaps neither another buffer nor a text. A call reads what it is lent, writes only the buffers that it
- * says it writes, keeps nothing once it has returned, and has no state of its own: calls may run on several threads at once.
+ * lent buffer overlaps neither another buffer nor a text. A call reads what it is lent, and writes only the buffers that it
+ * says it writes. It keeps nothing once it has returned and has no state of its own: calls may run on several threads at once.
  *
- * Every call is total: whatever the bytes and the lengths are, it answers a complete result or one refusal. Refusals are
- * tested in the order of their numbers below. A refused call answers its number with every other field 0 (hwk_push: with the
- * state that it was given), and leaves every lent buffer as it was. In an accepted call the bytes of a buffer past the result
- * stay as they were.
+ * Every call is total: whatever the bytes and the lengths are, it answers a complete result or one refusal. At each call
+ * stands "Tests:" with the refusals that it may answer, in the order in which it tests for them. It answers the first one
+ * whose condition holds, so a text that is both too long and not UTF-8 gives HWK_TEXT_TOO_LONG. A refused call answers its
+ * number with every other field 0 (hwk_push: with the state that it was given), and leaves every lent buffer as it was. In an
+ * accepted call the bytes of a buffer past the result stay as they were.
  *
- * Nothing is allocated. A number of up to 12 digits is read by a function that calls itself on fewer digits, five deep at most, and
- * an entry that ends in % by two functions that call each other, once for each % at its end; nothing else recurses. So
- * hwk_call_entry and hwk_call_sheet need less than 8 KiB of stack and 80 bytes more for each % at an entry's end, in all less than
- * 512 KiB; every other call needs less than 4 KiB.
- * (Where a program is linked dynamically and bound lazily, its first call of memcpy, ours or another, needs the dynamic
- * linker's own few KiB on top.) Digits, letters and cases are ASCII's.
+ * Nothing is allocated. Only two things recurse: a number of up to 12 digits is read by a function that calls itself on fewer
+ * digits, five deep at most, and an entry that ends in % by two functions that call each other, once for each % at its end. So
+ * hwk_call_entry and hwk_call_sheet need less than 8 KiB of stack and 80 bytes more for each % at an entry's end, in all less
+ * than 512 KiB. Every other call needs less than 4 KiB. If a program is linked dynamically and bound lazily, its first call of
+ * memcpy, ours or another, also needs the dynamic linker's own few KiB. Digits, letters and cases are ASCII's.
  */
 #ifndef HOWHAKIRU_H
 #define HOWHAKIRU_H
@@ -72,11 +73,13 @@ extern "C" {
 #define HWK_NAME_TOO_LONG 4    /* hwk_call_entry, hwk_call_sheet: an entry to be called has a name of more than HWK_NAME_LIMIT bytes */
 #define HWK_BUFFER_TOO_SHORT 5 /* a lent buffer is smaller than the whole result */
 
-/* Shape verdicts: does the whole text have the shape? Each reads `s`, `s_len` bytes, writes nothing, and refuses with
- * HWK_TEXT_TOO_LONG or HWK_NOT_UTF8. */
+/* Shape verdicts
+ * --------------
+ * Does the whole text have the shape? Each of these calls reads `s`, `s_len` bytes, and writes nothing.
+ * Tests of each: HWK_TEXT_TOO_LONG, HWK_NOT_UTF8. */
 typedef struct hwk_verdict {
     uint8_t refusal; /* HWK_ACCEPTED or the refusal's number */
-    uint8_t yes;     /* 1 yes, 0 no; 0 where the call is refused */
+    uint8_t yes;     /* 1 yes, 0 no; 0 if the call is refused */
 } hwk_verdict;
 
 /* One or more digits, nothing else. */
@@ -85,8 +88,9 @@ hwk_verdict hwk_is_digits(const uint8_t *s, size_t s_len);
 /* One or more letters, nothing else. */
 hwk_verdict hwk_is_alpha(const uint8_t *s, size_t s_len);
 
-/* A decimal number: one leading minus or none (no plus), digits with or without a point, an exponent or none.
- * "-1.5e+10", "1." and ".5" are; "+1", "." and "1e" are not. */
+/* A decimal number. It may start with one minus, but with no plus. Then come digits, and a point may stand before, in or behind
+ * them. At the end there may be an exponent: e or E, a sign or none, and digits. "-1.5e+10", "1." and ".5" are such numbers;
+ * "+1", "." and "1e" are not. */
 hwk_verdict hwk_is_double(const uint8_t *s, size_t s_len);
 
 /* A first group of 1 to 3 digits, then one or more groups of 3, with commas between: "1,234". */
@@ -95,14 +99,13 @@ hwk_verdict hwk_is_comma_int(const uint8_t *s, size_t s_len);
 /* A digit, then digits and commas, then th, st, nd or rd in any case: "21st", and "21th" and "1,,th" too. */
 hwk_verdict hwk_is_ordinal(const uint8_t *s, size_t s_len);
 
-/* A dollar sign, one or more digits or commas, then a point with one or more digits, or nothing:
- * "$1,500.00", and "$," too. */
+/* A dollar sign, one or more digits or commas, and nothing more or a point with one or more digits: "$1,500.00", and "$," too. */
 hwk_verdict hwk_is_us_money(const uint8_t *s, size_t s_len);
 
 /* Ends with "illion", in lower case. */
 hwk_verdict hwk_is_illion(const uint8_t *s, size_t s_len);
 
-/* I to IX, or X followed by nothing but V, I and X; capitals alone. */
+/* I to IX, or an X and after it nothing but V, I and X. Capitals alone. */
 hwk_verdict hwk_is_roman(const uint8_t *s, size_t s_len);
 
 /* "dr" or "st", in any case. */
@@ -117,13 +120,13 @@ hwk_verdict hwk_is_leading_zero_digits(const uint8_t *s, size_t s_len);
 /* Three digits, a hyphen, four digits. */
 hwk_verdict hwk_is_seven_digit_phone(const uint8_t *s, size_t s_len);
 
-/* Exactly n digits. No where n is 0. */
+/* Exactly n digits. The answer is no if n is 0. */
 hwk_verdict hwk_is_n_digits(const uint8_t *s, size_t s_len, size_t n);
 
 /* 1 or 2 digits, a colon, 2 digits of which the first is at most 5: "9:30", and "99:59" too. */
 hwk_verdict hwk_is_time(const uint8_t *s, size_t s_len);
 
-/* Two or more single letters with points between, a final point or none: "U.S.A.". */
+/* Two or more single letters with points between, and with or without a final point: "U.S.A.". */
 hwk_verdict hwk_is_dotted_abbrev(const uint8_t *s, size_t s_len);
 
 /* Digits, a slash, digits: "3/4". */
@@ -135,39 +138,41 @@ hwk_verdict hwk_is_digits_dash_digits(const uint8_t *s, size_t s_len);
 /* The parts of a time with a meridiem: each starts at the byte `_at` of the text and has `_len` bytes. */
 typedef struct hwk_time {
     uint8_t refusal; /* HWK_ACCEPTED, HWK_TEXT_TOO_LONG or HWK_NOT_UTF8 */
-    uint8_t yes;     /* 1 where the text is such a time; else every field below is 0 */
+    uint8_t yes;     /* 1 if the text is such a time; else every field below is 0 */
     size_t hour_at, hour_len;         /* 1 or 2 digits */
     size_t minute_at, minute_len;     /* 2 digits, the first at most 5 */
     size_t meridiem_at, meridiem_len; /* am or pm, in the text's own case */
 } hwk_time;
 
-/* "9:30am", "9.30PM": the hour, the first colon or point, the minute, and am or pm in any case. Writes nothing. */
+/* "9:30am", "9.30PM": the hour, the first colon or point, the minute, and am or pm in any case. Writes nothing.
+ * Tests: HWK_TEXT_TOO_LONG, HWK_NOT_UTF8. */
 hwk_time hwk_split_time_meridiem(const uint8_t *s, size_t s_len);
 
 /* A part of the text: it starts at the byte `offset` and has `len` bytes. */
 typedef struct hwk_part {
     uint8_t refusal; /* HWK_ACCEPTED, HWK_TEXT_TOO_LONG or HWK_NOT_UTF8 */
-    uint8_t yes;     /* 1 where there is such a part; else offset and len are 0 */
+    uint8_t yes;     /* 1 if there is such a part; else offset and len are 0 */
     size_t offset;
     size_t len;
 } hwk_part;
 
 /* "5kg": digits and commas, and after the last digit one of the 22 unit abbreviations, in the very case that stands here:
  *   LB LBS lb lbs   ft FT   kg   km   cm   mm   ml   oz   hz Hz HZ   KHz   MHz   GHz   KB   GB   MB   TB
- * The part is the abbreviation; the number is the bytes before it. Writes nothing. */
+ * The part is the abbreviation; the number is the bytes before it. Writes nothing.
+ * Tests: HWK_TEXT_TOO_LONG, HWK_NOT_UTF8. */
 hwk_part hwk_split_unit(const uint8_t *s, size_t s_len);
 
 /* A word in a lent store. */
 typedef struct hwk_word {
     uint8_t refusal; /* HWK_ACCEPTED, HWK_TEXT_TOO_LONG, HWK_NOT_UTF8 or HWK_BUFFER_TOO_SHORT */
-    uint8_t yes;     /* 1 where there is a word; else len is 0 */
+    uint8_t yes;     /* 1 if there is a word; else len is 0 */
     size_t len;      /* the bytes written to the front of the store */
 } hwk_word;
 
-/* The word of a unit abbreviation, as "kilograms" of "kg". Where the text is one of the 22 abbreviations, writes the word
- * to the front of `store`, without a NUL, and answers yes; refuses with HWK_BUFFER_TOO_SHORT where `store_len` is less than
- * the word's length (HWK_UNIT_WORD_MOST always suffices). Where the text is none, answers no and writes nothing, whatever
- * the store's length. */
+/* The word of a unit abbreviation, as "kilograms" of "kg". If the text is one of the 22 abbreviations, the call writes the word
+ * to the front of `store`, without a NUL, and answers yes. If it is none, the call answers no and writes nothing.
+ * Tests: HWK_TEXT_TOO_LONG, HWK_NOT_UTF8, HWK_BUFFER_TOO_SHORT if there is a word and `store_len` is less than its length.
+ * HWK_UNIT_WORD_MOST always suffices. */
 hwk_word hwk_unit_word(const uint8_t *unit, size_t unit_len, uint8_t *store, size_t store_len);
 
 /* Number words
@@ -177,20 +182,20 @@ hwk_word hwk_unit_word(const uint8_t *unit, size_t unit_len, uint8_t *store, siz
  * where the word starts in the store, then how many bytes it has, each number in four bytes, the lowest first. Read it with
  * hwk_word_at and hwk_word_len below.
  *
- * Each refuses with HWK_TEXT_TOO_LONG, with HWK_NOT_UTF8, and with HWK_BUFFER_TOO_SHORT where the store is shorter than all
- * words together or the table shorter than 8 bytes for each of them; then neither buffer is touched. A reading without words
- * fits empty buffers. How much room is missing is not told: lend what always suffices, the macros below.
+ * Tests of each: HWK_TEXT_TOO_LONG, HWK_NOT_UTF8, HWK_BUFFER_TOO_SHORT if the store is shorter than all words together or
+ * the table is shorter than 8 bytes for each word. A refused call touches neither buffer. A reading without words fits empty
+ * buffers. The answer does not say how much room is missing: lend what always suffices, by the macros below.
  *
- * These calls demand no shape: they read any text, and each says what it leaves out. */
+ * These calls demand no shape: they read any text, and each says below what it leaves out. */
 typedef struct hwk_words {
     uint8_t refusal; /* HWK_ACCEPTED, HWK_TEXT_TOO_LONG, HWK_NOT_UTF8 or HWK_BUFFER_TOO_SHORT */
     size_t words;    /* how many words there are: 8 bytes each at the front of the table */
     size_t bytes;    /* how many bytes all words have, at the front of the store */
 } hwk_words;
 
-/* Room for the words of every text of up to `len` bytes, whichever of the six calls reads it: proved, and on the ample side. A
- * call that is lent so much writes at once; one that is lent less measures the words first, which takes about as long again.
- * A reading fits whatever buffers are as long as it is: ten sevens are 16 words of together 99 bytes. */
+/* Room for the words of every text of up to `len` bytes, whichever of the six calls reads it. This is proved; most readings need
+ * far less. A call that is lent so much writes at once. One that is lent less measures the words first, which takes about as
+ * long again, and is accepted if the words fit: ten sevens are 16 words of together 99 bytes. */
 #define HWK_WORDS_STORE_MOST(len) (11 * (size_t)(len) + 11)
 #define HWK_WORDS_TABLE_MOST(len) (16 * (size_t)(len) + 16)
 
@@ -214,19 +219,19 @@ hwk_words hwk_cardinal(const uint8_t *s, size_t s_len, uint8_t *store, size_t st
  * one: "", "00" and "th" are zeroth. The suffix of "21st" has no digits, so it may stay. */
 hwk_words hwk_ordinal(const uint8_t *s, size_t s_len, uint8_t *store, size_t store_len, uint8_t *table, size_t table_len);
 
-/* A year, or a number told in pairs. Only the digits count. "1984" is nineteen eighty four, "07" oh seven, "00" zero zero. An
- * odd count of digits starts with a single one: "747" is seven forty seven; but "500" is five hundred. The last four digits
- * are read as a cardinal where the two in their middle are 00 ("2005" is two thousand five, "0000" zero thousand), and else
- * in hundreds where the last two are ("1900" is nineteen hundred). In a pair before the last one a 0 in front has no word,
- * and 00 has none: "190705" is nineteen seven oh five, "000012" twelve. */
+/* A year, or a number in pairs of digits. Only the digits count. "1984" is nineteen eighty four, "07" oh seven, "00" zero zero.
+ * An odd count of digits starts with a single one: "747" is seven forty seven; but "500" is five hundred. The last four
+ * digits are read as a cardinal if the two in their middle are 00 ("2005" is two thousand five, "0000" zero thousand). Else
+ * they are read in hundreds if the last two are 00 ("1900" is nineteen hundred). In a pair before the last one a 0 in front
+ * has no word, and 00 has none: "190705" is nineteen seven oh five, "000012" twelve. */
 hwk_words hwk_year(const uint8_t *s, size_t s_len, uint8_t *store, size_t store_len, uint8_t *table, size_t table_len);
 
 /* One word for each digit, nothing for any other character: "555-0123" is five five five zero one two three. */
 hwk_words hwk_digits(const uint8_t *s, size_t s_len, uint8_t *store, size_t store_len, uint8_t *table, size_t table_len);
 
 /* A decimal number: "-1.50" is minus one point five zero. Each sign in front is a word, minus or plus. The first e or E is
- * the word e and parts two texts, of which the second is read as a text of its own, signs and further e included: "+2e-10" is
- * plus two e minus ten. In a part without e the first point is the word point, with a cardinal before it and single digits
+ * the word e, and the texts before and after it are read one by one. The second may have signs and a further e: "+2e-10" is
+ * plus two e minus ten. In a text without e the first point is the word point, with a cardinal before it and single digits
  * after it: ".5" is point five, "1.2.3" one point two three. A sign that stands elsewhere has no word. */
 hwk_words hwk_real(const uint8_t *s, size_t s_len, uint8_t *store, size_t store_len, uint8_t *table, size_t table_len);
 
@@ -241,8 +246,9 @@ typedef struct hwk_number {
 } hwk_number;
 
 /* The value of a roman numeral of I, V, X, L, C, D and M in any case. A letter that has a larger one anywhere after it is
- * subtracted: "XIV" is 14, "IIX" is 8, "IXC" is 89. 0 where the sum is below 0 ("IIIIIIV"), where any other character stands
- * in the text, and for the empty text. Which numerals are well formed is not asked. */
+ * subtracted: "XIV" is 14, "IIX" is 8, "IXC" is 89. The value is 0 if the sum is below 0 ("IIIIIIV"), if the text has any
+ * other character, and if it is empty. Whether a numeral is well formed is not tested.
+ * Tests: HWK_TEXT_TOO_LONG, HWK_NOT_UTF8. */
 hwk_number hwk_roman_value(const uint8_t *s, size_t s_len);
 
 /* Tokens
@@ -254,12 +260,12 @@ hwk_number hwk_roman_value(const uint8_t *s, size_t s_len);
  *   name            what is called
  *   punctuation     the marks behind the name:       " ' ` . , : ; ! ? ( ) { } [ ]
  * The marks in front are taken off first, as many as there are; then those behind, but the first byte that follows the
- * prepunctuation stays in the name. "(21st)?" is the name 21st with ( in front and )? behind, "?!" the name ? with ! behind. A
- * run wholly of marks that go in front is prepunctuation before an empty name where whitespace follows it; where the text ends
- * there, it is itself the name.
+ * prepunctuation stays in the name. "(21st)?" is the name 21st with ( in front and )? behind, "?!" the name ? with ! behind. If
+ * a run has only marks that go in front and whitespace follows it, it is prepunctuation before an empty name. If the text ends
+ * there instead, the run itself is the name.
  *
- * In a table a token takes HWK_TOKEN_BYTES: for each part, in the order above, where it starts in the text, then how many bytes
- * it has, each number in four bytes, the lowest first. Each part starts where the one before it ends, empty ones too: joined,
+ * In a table a token takes HWK_TOKEN_BYTES: for each part, in the order above, its start in the text, then how many bytes it
+ * has, each number in four bytes, the lowest first. Each part starts where the one before it ends, empty ones too: joined,
  * the parts are the text without the whitespace at its end. Read a table with hwk_token_at and hwk_token_len below. */
 #define HWK_TOKEN_BYTES 32
 
@@ -290,9 +296,9 @@ static inline size_t hwk_token_len(const uint8_t *table, size_t i, size_t part)
     return hwk_table_number(table + HWK_TOKEN_BYTES * i + 8 * part + 4);
 }
 
-/* Writes a record for each token of `s` to the front of `table`. Refuses with HWK_TEXT_TOO_LONG, with HWK_NOT_UTF8, and with
- * HWK_BUFFER_TOO_SHORT where the table is shorter than HWK_TOKEN_BYTES for each token. A text without tokens, the empty one
- * among them, fits an empty table. */
+/* Writes a record for each token of `s` to the front of `table`. A text without tokens, the empty one among them, fits an empty
+ * table.
+ * Tests: HWK_TEXT_TOO_LONG, HWK_NOT_UTF8, HWK_BUFFER_TOO_SHORT if the table is shorter than HWK_TOKEN_BYTES for each token. */
 hwk_tokens hwk_tokenize(const uint8_t *s, size_t s_len, uint8_t *table, size_t table_len);
 
 /* Sentences
@@ -310,8 +316,9 @@ hwk_tokens hwk_tokenize(const uint8_t *s, size_t s_len, uint8_t *table, size_t t
  * So "9:30. Rack" is two sentences, and "Dr. Smith" is one. Marks in a name don't count: a ? that stands alone is a name, and
  * ends no sentence.
  *
- * Writes one byte for each token of `s` to the front of `starts`: 1 where the token starts a sentence, else 0. The first token
- * starts one. Refuses as hwk_tokenize does, with HWK_BUFFER_TOO_SHORT where `starts` has fewer bytes than there are tokens. */
+ * Writes one byte for each token of `s` to the front of `starts`: 1 if the token starts a sentence, else 0. The first token
+ * starts one.
+ * Tests: HWK_TEXT_TOO_LONG, HWK_NOT_UTF8, HWK_BUFFER_TOO_SHORT if `starts` has fewer bytes than there are tokens. */
 hwk_tokens hwk_sentences(const uint8_t *s, size_t s_len, uint8_t *starts, size_t starts_len);
 
 /* The step form decides the same for a caller who has one token at a time. Its state is what it keeps of the last token; the
@@ -320,7 +327,7 @@ hwk_tokens hwk_sentences(const uint8_t *s, size_t s_len, uint8_t *starts, size_t
 typedef struct hwk_state {
     size_t len;          /* the length of the last name */
     uint8_t head[5];     /* its first five bytes, 0 past its end */
-    uint8_t last;        /* its last byte, 0 where it is empty */
+    uint8_t last;        /* its last byte, 0 if it is empty */
     uint8_t point;       /* whether the last punctuation has a point; this and what follows: 0 no, else yes */
     uint8_t colon;       /* whether it has a : */
     uint8_t question;    /* whether it has a ? */
@@ -328,18 +335,18 @@ typedef struct hwk_state {
     uint8_t fresh;       /* whether there was no token yet */
 } hwk_state;
 
-/* The state before the first token: `fresh` is 1, all else is 0. */
+/* The state before the first token: `fresh` is 1, all else is 0. Never refused. */
 hwk_state hwk_fresh(void);
 
 typedef struct hwk_step {
     uint8_t refusal; /* HWK_ACCEPTED, HWK_TEXT_TOO_LONG or HWK_NOT_UTF8 */
-    uint8_t breaks;  /* 1 where a sentence ends before this token, else 0; 0 too where the state was fresh */
-    hwk_state state; /* the state for the next step; where the step is refused, the one that it was given */
+    uint8_t breaks;  /* 1 if a sentence ends before this token, else 0; 0 too if the state was fresh */
+    hwk_state state; /* the state for the next step; if the step is refused, the one that it was given */
 } hwk_step;
 
-/* Takes the next token. Three texts are given and nothing is written; the smallest number of a refusal wins, whichever text
- * earns it. Fed the tokens of a text in turn, from hwk_fresh on, the steps break before those tokens that hwk_sentences marks
- * with 1, but for the first. The texts may be any others, too. */
+/* Takes the next token, as three texts. Writes nothing. Fed the tokens of a text in turn, from hwk_fresh on, the steps break
+ * before those tokens that hwk_sentences marks with 1, the first one left out. The texts may be any others, too.
+ * Tests: HWK_TEXT_TOO_LONG if any of the three is too long, HWK_NOT_UTF8 if any of the three is not UTF-8. */
 hwk_step hwk_push(hwk_state state, const uint8_t *whitespace, size_t whitespace_len, const uint8_t *name, size_t name_len,
                   const uint8_t *punctuation, size_t punctuation_len);
 
@@ -364,7 +371,7 @@ hwk_step hwk_push(hwk_state state, const uint8_t *whitespace, size_t whitespace_
 typedef struct hwk_entry {
     uint8_t refusal; /* HWK_ACCEPTED or a refusal's number; then every field below is 0 */
     uint8_t row;     /* the row that took the name, 1 to 12 */
-    uint8_t sign;    /* in row 8 HWK_PLUS, or HWK_MINUS where the name starts with a minus; else 0 */
+    uint8_t sign;    /* in row 8 HWK_MINUS if the name starts with a minus, else HWK_PLUS; in any other row 0 */
     size_t words;    /* how many words the line has */
     size_t bytes;    /* how many bytes the line has, its LF included, at the front of `out` */
 } hwk_entry;
@@ -372,14 +379,14 @@ typedef struct hwk_entry {
 #define HWK_PLUS 1
 #define HWK_MINUS 2
 
-/* Room for the call of every sheet of up to `len` bytes, and so for every line of it: proved. A call that is lent so much writes at
- * once; one that is lent less measures first. */
+/* Room for the call of every sheet of up to `len` bytes, and so for every line of it. This is proved. A call that is lent so much
+ * writes at once; one that is lent less measures first. */
 #define HWK_CALL_MOST(len) (11 * (size_t)(len) + 11)
 
-/* Calls entry `number` of the sheet: writes its line to the front of `out`. Refuses with HWK_TEXT_TOO_LONG, HWK_NOT_UTF8,
- * HWK_NO_SUCH_ENTRY, HWK_NAME_TOO_LONG where this entry's name is too long, whatever the others are, and HWK_BUFFER_TOO_SHORT
- * where `out` is shorter than the line. The sheet is walked from its start, so an entry far behind costs more: to call all of
- * them at once, call the sheet. */
+/* Calls entry `number` of the sheet: writes its line to the front of `out`. The sheet is walked from its start, so an entry far
+ * behind costs more. To call all entries at once, call the sheet.
+ * Tests: HWK_TEXT_TOO_LONG, HWK_NOT_UTF8, HWK_NO_SUCH_ENTRY, HWK_NAME_TOO_LONG if this entry's name is too long (other names do
+ * not count), HWK_BUFFER_TOO_SHORT if `out` is shorter than the line. */
 hwk_entry hwk_call_entry(const uint8_t *s, size_t s_len, size_t number, uint8_t *out, size_t out_len);
 
 typedef struct hwk_sheet {
@@ -389,23 +396,28 @@ typedef struct hwk_sheet {
     size_t bytes;    /* how many bytes all lines have, at the front of `out` */
 } hwk_sheet;
 
-/* Calls the whole sheet: writes the lines of all entries, in order and with nothing between, to the front of `out`. Refuses with
- * HWK_TEXT_TOO_LONG, HWK_NOT_UTF8, HWK_NAME_TOO_LONG where any name is too long, and HWK_BUFFER_TOO_SHORT where `out` is shorter
- * than all lines. A sheet without entries, the empty one among them, has no lines and fits an empty buffer. */
+/* Calls the whole sheet: writes the lines of all entries, in order and with nothing between, to the front of `out`. A sheet
+ * without entries, the empty one among them, has no lines and fits an empty buffer.
+ * Tests: HWK_TEXT_TOO_LONG, HWK_NOT_UTF8, HWK_NAME_TOO_LONG if any name is too long, HWK_BUFFER_TOO_SHORT if `out` is shorter
+ * than all lines. */
 hwk_sheet hwk_call_sheet(const uint8_t *s, size_t s_len, uint8_t *out, size_t out_len);
 
-/* Is the name a clear one? Proved: two sheets of clear entries alone that are called have the same call sheet exactly when they
- * have the same names in the same order and sentences that start at the same entries. Clear are, where "plain" digits are "0" or
- * have no 0 in front:
- *   one or more digits; or a minus or none, plain digits, a point with digits or none, an e with a sign or none and plain digits
- *   or none; either of these with one % behind it
- *   a plain hour of 1 or 2 digits, a colon, and a minute of 01 to 59; or of 00 to 59 and then am or pm
- *   plain digits and their right suffix: "1st", "11th", "22nd"
- *   plain digits and one of  LB ft kg km cm mm ml oz hz KHz MHz GHz KB GB MB TB
- *   two or more capitals with single points between: "A.B"
- *   two or more letters a to z, but no word of the tables of numbers: "rack", "to", "hundred", but not "one", "first", "thousand"
- * Another entry may sound like one of these: "9:00" like "9", "5lb" like "5LB". Reads `s`, a name and not a sheet, writes nothing,
- * and refuses with HWK_TEXT_TOO_LONG or HWK_NOT_UTF8. */
+/* Is the name a clear one? Two sheets that are accepted and have clear names alone have the same call sheet exactly if they have
+ * equally many entries, the same names in the same order, and sentences that start at the same entries. This is proved. "Plain"
+ * digits are "0", or digits with no 0 in front. Clear names are:
+ *   - one or more digits
+ *   - plain digits with, if wanted, a minus before them, a point and digits behind them, and then an e, a + or - or no sign, and
+ *     plain digits: "-1.50e+3"
+ *   - either of these with one % behind it
+ *   - a plain hour of 1 or 2 digits, a colon, and a minute of 01 to 59; or of 00 to 59 and then am or pm
+ *   - plain digits and their right suffix: "1st", "11th", "22nd"
+ *   - plain digits and one of  LB ft kg km cm mm ml oz hz KHz MHz GHz KB GB MB TB
+ *   - two or more capitals with single points between: "A.B"
+ *   - two or more letters a to z, other than the words of the number tables: "rack", "to", "hundred", but not "one", "first",
+ *     "thousand"
+ * A name that is not clear may sound like one that is: "9:00" like "9", "5lb" like "5LB". Reads `s`, a name and not a sheet, and
+ * writes nothing.
+ * Tests: HWK_TEXT_TOO_LONG, HWK_NOT_UTF8. */
 hwk_verdict hwk_is_clear(const uint8_t *s, size_t s_len);
 
 #ifdef __cplusplus
