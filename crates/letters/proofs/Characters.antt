@@ -21,7 +21,7 @@ unfolding chars all onto
 chars-run b [] r h k = rw k
 chars-run b (c ∷ s) r h k = let g = and-eq-true-iff (continuation c) (all continuation s) .0 h in rw (g .0) (ap (onto b) (chars-run c s r (g .1) k))
 
--- the first byte of a scalar value is none of them
+-- the first byte of a scalar value is no continuation byte
 first-byte : (c : ℕ) (r : List ℕ) → continuation (getD (encode c ++ r) 0 0) ≡ false
 first-byte c r =
     encode-elim (λ l. continuation (getD (l ++ r) 0 0) ≡ false) c (λ h. rw (lt-leb 0x80 c (omega arith)))
@@ -29,7 +29,7 @@ first-byte c r =
     (λ h. simp (lt-leb (0xE0 + c / 4096) 0xBF (omega arith), and-false))
     (λ h. simp (lt-leb (0xF0 + c / 262144) 0xBF (omega arith), and-false))
 
--- and its others are, so its bytes are one character
+-- its other bytes are continuation bytes, so its bytes are one character
 chars-encode : (c : ℕ) (r : List ℕ) → continuation (getD r 0 0) ≡ false → chars (encode c ++ r) ≡ encode c ∷ chars r
 unfolding all
 chars-encode c r k =
@@ -38,7 +38,7 @@ chars-encode c r k =
     (λ h. chars-run _ _ r (rw (tail-true (c / 64), tail-true c)) k)
     (λ h. chars-run _ _ r (rw (tail-true (c / 4096), tail-true (c / 64), tail-true c)) k)
 
--- the characters of a text of scalar values are theirs
+-- the characters of a text of scalar values are the encodings of these values
 chars-text : (cs : List ℕ) → (chars (textOf cs) ≡ map encode cs) × (continuation (getD (textOf cs) 0 0) ≡ false)
 unfolding chars flatten
 chars-text [] = (refl, refl)
@@ -57,7 +57,7 @@ high-bytes-lower : (s : List ℕ) → Every (λ b. 0x80 ≤ b) s → map toLower
 high-bytes-lower [] h = refl
 high-bytes-lower (b ∷ s) h = let k : code "Z" < b = omega arith in ap₂ _∷_ (simp (lt-leb b (code "Z") k, and-false)) (high-bytes-lower s (h .1))
 
--- the word of a character of several bytes, and of any
+-- the word of a character of several bytes, and then of any character
 several : (a b : ℕ) (s : List ℕ) → Every (λ b. 0x80 ≤ b) (a ∷ b ∷ s) → letterWord (a ∷ b ∷ s) ≡ characterWord (a ∷ b ∷ s)
 unfolding letterWord sameBy
 several a b s h = rw (high-bytes-lower (a ∷ b ∷ s) h) (simp and-false)
@@ -79,7 +79,7 @@ pub letters-utf8 : (s : List ℕ) → utf8 s ≡ true → spelled (letters s) �
 unfolding letters
 letters-utf8 s h = let t = utf8-scalars s .0 h in rw (t .2, chars-text (t .0) .0, text-chars (t .0) (t .1)) (letters-text (t .0))
 
--- as many words as characters
+-- a UTF-8 text has as many words as characters
 pub letters-count : (s : List ℕ) → utf8 s ≡ true → length (letters s) ≡ length (utf8Chars s)
 unfolding letters
 letters-count s h = rw (chars-utf8 s h) (length-map (utf8Chars s) (λ c. other (letterWord c)))

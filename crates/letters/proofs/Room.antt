@@ -37,7 +37,7 @@ chars-count (b ∷ s) =
     cond-elim (λ (cs : List (List ℕ)). length cs ≤ suc (length s)) (continuation (getD s 0 0))
     (λ e. omega (arith, onto-count b (chars s), chars-count s)) (λ e. omega (arith, chars-count s))
 
--- a word a character, "_a" the only one that is longer
+-- at most one word per byte; only "_a" is longer than its character
 pub letters-room : (s : List ℕ) → Room (length s) (3 * length s) (letters s)
 unfolding letters
 letters-room s = omega (arith, chars-count s, length-map (chars s) (λ c. other (letterWord c)), letters-wide (chars s), ap length (chars-join s))

@@ -9,13 +9,14 @@ use Rattle.lists.specs.Bytes.{bytes, same, toLower, onto}
 use Rattle.lists.specs.Classes.{continuation}
 use Rattle.numerals.specs.Words.{Word, other}
 
--- the characters of a text, each a list of its bytes: a byte that no continuation follows is a character's last. In a UTF-8
+-- the characters of a text, each a list of its bytes. A character ends with a byte that no continuation byte follows. In a UTF-8
 -- text they are those of RFC 3629's table (`chars-utf8` of proofs/Characters.antt)
 unfoldable pub chars : List ℕ → List (List ℕ)
 chars [] = []
 chars (b ∷ s) = cond (continuation (getD s 0 0)) (onto b (chars s)) ((b ∷ []) ∷ chars s)
 
--- the letter a is the word _a, another ASCII character itself, A to Z lowered, and a character of several bytes itself
+-- the word of a character: _a for the letter a in either case, and any other single byte itself, with A to Z lowered. A character
+-- of several bytes stays as it is
 unfoldable pub letterWord : List ℕ → List ℕ
 letterWord [] = []
 letterWord (b ∷ []) = cond (eqb (toLower b) (code "a")) (bytes "_a") (toLower b ∷ [])
@@ -24,6 +25,6 @@ letterWord (b ∷ c ∷ s) = b ∷ c ∷ s
 unfoldable pub letters : List ℕ → List Word
 letters s = map (λ c. other (letterWord c)) (chars s)
 
--- the same of a whole character, for `letters-utf8`: "_a" of the letter a in either case, else the character lowered
+-- the same for a whole character, used by `letters-utf8`: "_a" for the letter a in either case, else the character lowered
 abbrev pub characterWord : List ℕ → List ℕ
 characterWord c = cond (same (map toLower c) (bytes "a")) (bytes "_a") (map toLower c)

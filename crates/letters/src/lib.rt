@@ -1,4 +1,4 @@
-// Letters: one word a character.
+// Letters: one word per character.
 use lists::CONTINUATION;
 use lists::byte_at;
 use lists::front;
@@ -14,7 +14,7 @@ ghost use Rattle.numerals.specs.Words.{spelled};
 ghost use Rattle.letters.specs.Letters.{letterWord, letters};
 ghost use Rattle.letters.specs.Walk.{charSpan};
 
-// The first character of s, nothing where there is none.
+// The first character of s; empty if s is empty.
 fn first_char(s: &[u8]) -> &[u8]
     ensures { λ r. ⌜ now r ≡ take (charSpan (now (s .entry))) (now (s .entry)) ⌝ }
 {

@@ -18,7 +18,7 @@ use Rattle.numbers.specs.Calls.{wordsAs}
 use Rattle.numbers.specs.declared.SayAs.{SayAs}
 use Rattle.numbers.specs.declared.SayAs.the-variants.{Cardinal, Ordinal, Year, Digits, Real, Letters}
 
--- a text of n bytes has at most 2 n + 1 words of together at most 11 n + 8 bytes
+-- a text of n bytes has at most 2 n + 1 words. With a space before each, they take at most 11 n + 8 bytes
 pub words-room : (r : SayAs) (s : List ℕ) → RoomFor (length s) (wordsAs r s)
 words-room Cardinal s = omega (arith, cardinal-room s)
 words-room Ordinal s = ordinal-room s
@@ -27,7 +27,7 @@ words-room Digits s = omega (arith, digits-room s)
 words-room Real s = real-room s
 words-room Letters s = omega (arith, letters-room s)
 
--- what the code tests before it measures
+-- if the code's test for ample room passes, no buffer is too short
 pub ample-room-fits : (r : SayAs) (s : List ℕ) (a b : ℕ) → (ltb (length s) (a / 11) && ltb (length s) (b / 16)) ≡ true
     → tooShortFor (length (flatten (spelled (wordsAs r s)))) (length (spelled (wordsAs r s))) a b ≡ false
 ample-room-fits r s a b e =

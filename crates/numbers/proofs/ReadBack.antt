@@ -15,7 +15,7 @@ use Rattle.numbers.specs.Calls.{wordsAs}
 use Rattle.numbers.specs.declared.SayAs.{SayAs}
 use Rattle.numbers.proofs.Bounds.{words-room}
 
--- a reading of the text s, where its call is accepted
+-- a reading of the text s whose call is accepted
 module _ (r : SayAs) (s store table : List ℕ) (accepted : wordsCall s (spelled (wordsAs r s)) store table .refusal ≡ 0) where
   abbrev words : List (List ℕ)
   words = spelled (wordsAs r s)

@@ -16,7 +16,7 @@ use Rattle.numbers.specs.declared.RomanValue.{RomanValue}
 abbrev pub asRomanValue : RomanValue → Call ℕ
 asRomanValue r = record { refusal = r .refusal; value = r .value }
 
--- roman_value: "every count and value 0" where it is refused; it lends no buffer
+-- roman_value: "every count and value 0" if it is refused; no buffer is lent to it
 abbrev pub romanCall : List ℕ → Call ℕ
 romanCall s = call 0 (textRefusal textLimit s) (romanValue s)
 

@@ -1,5 +1,5 @@
-// The public functions of numbers.rs, in its order and under its names: each takes all bytes and all buffer lengths, and answers
-// its words or the one refusal that it earns.
+// The public functions of numbers.rs, in its order and under its names. Each takes any bytes and buffers of any length. It answers
+// its result, or the first refusal whose condition holds.
 use admit::Refusal;
 use admit::refusal_of;
 use letters::say_letters;
@@ -36,7 +36,7 @@ pub enum SayAs {
     Letters,
 }
 
-// A roman numeral's value: the refusal's number or 0, and the value, 0 where the call is refused.
+// The answer for a roman numeral: the refusal's number or 0, and the value, which is 0 if the call is refused.
 #[repr(C)]
 pub struct RomanValue {
     pub refusal: u8,
@@ -64,19 +64,19 @@ fn say_as(
     }
 }
 
-// Room in store and table that each byte of a text needs at most.
+// The words of n bytes take at most n + 1 times this many bytes of the store and of the table.
 const STORE_ROOM: usize = 11;
 
 const TABLE_ROOM: usize = 16;
 
-// Whether buffers of these lengths hold the words of every text of n bytes.
+// Whether buffers of these lengths are surely long enough for the words of n bytes. Then the words need not be measured.
 fn has_ample_room(n: usize, store: usize, table: usize) -> bool
     ensures { λ r. ⌜ r ≡ (ltb n (store / 11) && ltb n (table / 16)) ⌝ }
 {
     (n < store / STORE_ROOM) & (n < table / TABLE_ROOM)
 }
 
-// Whether a buffer is too short for the words of s: they are measured by the walk that writes them, on empty buffers.
+// Whether a buffer is too short for the words of s. They are measured by the function that writes them, on empty buffers.
 fn too_short(interpretation: SayAs, s: &[u8], store: usize, table: usize) -> bool
     requires { ⌜ (store < usizeMax) × (table < usizeMax) ⌝ }
     ensures { λ r. ⌜ r
@@ -98,7 +98,7 @@ fn too_short(interpretation: SayAs, s: &[u8], store: usize, table: usize) -> boo
     measured.exceeds(store, table)
 }
 
-// The words of s in store and table: measured first, and then written.
+// Writes the words of s to store and table. They are measured first, so that a refused call writes nothing.
 fn write_words(interpretation: SayAs, s: &[u8], store: &mut [u8], table: &mut [u8]) -> WordCounts
     ensures { λ r. ⌜ asWords r (now (store .exit)) (now (table .exit))
         ≡ wordsCall (now (s .entry)) (spelled (wordsAs interpretation (now (s .entry)))) (now (store .entry)) (now (table .entry)) ⌝ }

@@ -1,4 +1,4 @@
--- `shortCardinal` is its own step, at each length; what holds of the words of every number follows by one induction. Assumes nothing.
+-- The equations of `shortCardinal`, one for each length, and an induction over the words of all numbers. Assumes nothing.
 use mathlib.Core.Path.{_≡_, refl, ap, _∙_, subst⁻¹}
 use mathlib.Core.Bool.{Bool, true, false, cond, _&&_, or-false}
 use mathlib.Core.Logic.{⊎-elim}
@@ -19,14 +19,14 @@ use Rattle.numerals.specs.Cardinal.{pairWords, scaleFor, joinAtScale, sp
 use Rattle.numerals.specs.Walk.{numberOf, HeldWriter, holdWord, holdWords, isZeroGroup}
 use Rattle.numerals.proofs.Holding.{holdWords-words, pair-tests}
 
--- a scale governs some digits of a longer string, and leaves some; up to three where there are at most twelve
+-- n digits are split at a scale: both parts have digits, and the left part has at most three if n is at most twelve
 pub record ScaleSplit (n : ℕ) : Type 0 where
   pub right : 3 * scaleFor n < n
   pub left : splitAt n < n
   pub whole : splitAt n + 3 * scaleFor n ≡ n
   pub left-short : n ≤ 12 → splitAt n ≤ 3
 
--- a string of more than three digits is split so
+-- a string of more than three digits is split like this
 pub scale-split : (n : ℕ) → 3 < n → ScaleSplit n
 scale-split n h =
     ⊎-elim
@@ -52,14 +52,14 @@ cardinal-local f g (a ∷ b ∷ c ∷ d ∷ s) h =
       h (drop (splitAt (length t)) t) (omega (arith, length-drop (splitAt (length t)) t, p .whole, p .right)),
     )
 
--- `shortCardinal` reads a string by its own step
+-- `shortCardinal` reads a string by one step, and its parts by itself
 pub cardinal-eq : (s : List ℕ) → shortCardinal s ≡ cardinalStep shortCardinal s
 unfolding shortCardinal
 cardinal-eq s = recur-eq [] cardinalStep cardinal-local s
 
 -- ---- what holds of the words of every number
 
--- what is to be shown of the words of n digits: of up to three, and of two parts with a scale's word between them
+-- the cases of a proof about the words of n digits: up to three digits, and two parts with a scale's word between them
 pub record Cases (D : ℕ → Type 0) (P : ℕ → List Word → Type 0) : Type 0 where
   pub none : P 0 []
   pub single : (a : ℕ) → D a → P 1 (one a ∷ [])
@@ -68,7 +68,8 @@ pub record Cases (D : ℕ → Type 0) (P : ℕ → List Word → Type 0) : Type 
   pub triple : (a b c : ℕ) → D a → D b → D c → P 3 (one a ∷ hundred ∷ pairWords b c)
   pub joined : (n : ℕ) (left right : List Word) → 3 < n → P (splitAt n) left → P (n - splitAt n) right → P n (joinAtScale left (scale (scaleFor n)) right)
 
--- then it holds of the words of all digits that have D, since the parts of a number are shorter
+-- if all cases hold, P holds of the words of every string whose digits have D. The parts of a string are shorter, so this is an
+-- induction
 pub shortCardinal-induct : (D : ℕ → Type 0) (P : ℕ → List Word → Type 0) → Cases D P → (s : List ℕ) → Every D s → P (length s) (shortCardinal s)
 unfolding shortCardinal cardinalStep byScale
 shortCardinal-induct D P r = recur-induct (λ s ws. Every D s → P (length s) ws) [] cardinalStep step
@@ -91,7 +92,7 @@ shortCardinal-induct D P r = recur-induct (λ s ws. Every D s → P (length s) w
         let y = i (drop n t) (omega arith) (every-drop D n t h) in
         r .joined (length t) (f (take n t)) (f (drop n t)) (omega arith) (rw j at x) (rw k at y)
 
--- a number of more than twelve digits has one word per digit
+-- what holds in both cases holds of `cardinalOf`: up to twelve digits, and one word per digit
 pub cardinalOf-elim : (P : List Word → Type 0) (s : List ℕ) → (length s ≤ 12 → P (shortCardinal s)) → P (map one s) → P (cardinalOf s)
 unfolding cardinalOf
 cardinalOf-elim P s f g = cond-elim P (leb (length s) 12) (λ e. f (leb-true (length s) 12 e)) (λ e. g)
@@ -164,7 +165,7 @@ three-nil : (t u : Bool) (w v : Word) (ws : List Word) → nil ws ≡ u → nil 
 three-nil true u w v ws e = e
 three-nil false u w v ws e = refl
 
--- up to three digits
+-- of one to three digits, `isZeroGroup` says which have no words
 pub zero-group-nil : (s : List ℕ) → 0 < length s → length s ≤ 3 → isZeroGroup s ≡ nil (shortCardinal s)
 unfolding isZeroGroup
 zero-group-nil [] z h = absurd (omega arith)
@@ -185,7 +186,7 @@ cardinal-long-digits (a ∷ b ∷ []) h = absurd (omega arith)
 cardinal-long-digits (a ∷ b ∷ c ∷ []) h = absurd (omega arith)
 cardinal-long-digits (a ∷ b ∷ c ∷ d ∷ s) h = cardinal-eq (a ∷ b ∷ c ∷ d ∷ s)
 
--- the scale's word, where the left part has words
+-- the scale's word; none if the left part has no words
 abbrev pub scaleWord : List ℕ → ℕ → List Word
 scaleWord left k = cond (isZeroGroup left) [] (scale k ∷ [])
 
@@ -201,7 +202,7 @@ cardinal-more s h m =
     cardinal-long-digits s h ∙ join-parts (shortCardinal (take n s)) (scale (scaleFor (length s))) (shortCardinal (drop n s))
     ∙ rw (zero-group-nil (take n s) (omega (arith, p .whole, p .right)) (omega (arith, p .left-short m)))
 
--- ---- the same as what is held
+-- ---- the same equations for words that are held
 
 module _ (s : List ℕ) (h : HeldWriter) where
   -- no digits: nothing more is held

@@ -29,31 +29,31 @@ pub digitValues-append : ByParts digitValues
 unfolding digitValues
 digitValues-append s t = ap (map digitValue) (filterIf-append digit s t) ∙ map-append digitValue (filterIf digit s) (filterIf digit t)
 
--- the digits from byte i on are those of this byte and those from the next on
+-- the digits from byte i on: that byte, if it is a digit, and the digits from the next byte on
 pub digitValues-at : (s : List ℕ) (i : ℕ) → i < length s → digitValues (drop i s) ≡ digitValues (getD s i 0 ∷ []) ++ digitValues (drop (i + 1) s)
 digitValues-at = next-byte digitValues digitValues-append
 
--- the byte is a digit, or none
+-- a byte that is a digit gives its value
 pub digitValues-digit : (b : ℕ) → 48 ≤ b → b ≤ 57 → digitValues (b ∷ []) ≡ digitValue b ∷ []
 unfolding digitValues filterIf
 digitValues-digit b h k = rw (le-leb 48 b h, le-leb b 57 k)
 
--- a byte below the digits
+-- a byte below the digits gives no value
 pub digitValues-low : (b : ℕ) → b < 48 → digitValues (b ∷ []) ≡ []
 unfolding digitValues filterIf
 digitValues-low b h = rw (lt-leb 48 b h)
 
--- a byte above the digits
+-- a byte above the digits gives no value
 pub digitValues-high : (b : ℕ) → 48 ≤ b → 57 < b → digitValues (b ∷ []) ≡ []
 unfolding digitValues filterIf
 digitValues-high b h k = rw (le-leb 48 b h, lt-leb b 57 k)
 
--- words one after the other are spelled so
+-- two lists of words are spelled one after the other
 pub spelled-append : (ws vs : List Word) → spelled (ws ++ vs) ≡ spelled ws ++ spelled vs
 unfolding spelled
 spelled-append ws vs = map-append spell ws vs
 
--- the words of two texts' digits
+-- the words of the digits of two texts, one after the other
 pub digits-append : ByParts (λ t. spelled (digits t))
 unfolding digits
 digits-append s t = rw (digitValues-append s t, map-append one (digitValues s) (digitValues t)) (spelled-append _ _)
@@ -67,7 +67,7 @@ pub no-digits : spelled (digits []) ≡ []
 unfolding digits digitValues filterIf spelled
 no-digits = refl
 
--- commas are no digits
+-- without its commas a text has the same digits
 pub digitValues-commas : (s : List ℕ) → digitValues (filterIf (except 44) s) ≡ digitValues s
 unfolding digitValues filterIf
 digitValues-commas [] = refl
@@ -91,7 +91,7 @@ no-last-digit (b ∷ s) e = go (digit b) (eqb (afterLast digit s) 0) refl refl e
     go false true d z e r = digitValues-cons b s ∙ rw d (r (eqb-true (afterLast digit s) 0 z))
     go t false d z e r = absurd (omega arith)
 
--- the digits of a text end in its last one
+-- the digits of a text: those before its last digit, and that digit
 pub digitValues-last : (s : List ℕ) → (afterLast digit s ≡ 0 → ⊥)
     → digitValues s ≡ digitValues (take (afterLast digit s - 1) s) ++ digitValue (getD s (afterLast digit s - 1) 0) ∷ []
 unfolding afterLast
@@ -116,7 +116,7 @@ digitValues-last (b ∷ s) n = go (digit b) (eqb (afterLast digit s) 0) refl ref
     go false true d z n r = absurd (n refl)
     go t false d z n r = more (k - 1) (let q = eqb-false k 0 z in omega arith) (r (eqb-false k 0 z))
 
--- a text with digits has a last one
+-- a text with digits has a last digit
 pub last-some : (s : List ℕ) → 0 < length (digitValues s) → afterLast digit s ≡ 0 → ⊥
 last-some s h e = let q = ap length (no-last-digit s e) in omega arith
 

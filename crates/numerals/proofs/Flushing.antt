@@ -66,7 +66,7 @@ ordinal-short : (s : List ℕ) → length (digitValues s) ≤ 12 → ordinal s �
 unfolding ordinal cardinal cardinalOf
 ordinal-short s h = rw (digitValues-commas s, le-leb (length (digitValues s)) 12 h)
 
--- so are those of an ordinal number, the last one in its ordinal form
+-- the words of an ordinal number of up to twelve digits are all written, the last one in its ordinal form
 pub ordinal-said : (s ds : List ℕ) (σ : Writer) {h : HeldWriter} {τ : Writer} → ds ≡ digitValues s → length (digitValues s) ≤ 12
     → h ≡ holdWords (map numberOf (shortCardinal ds)) (noneHeld σ) → (k : ℕ) → k ≡ ordinalNumber (h .last) → τ ≡ putWord (wordOf k) (h .writer)
     → τ ≡ putWords (spelled (ordinal s)) σ

@@ -16,12 +16,12 @@ use Rattle.numerals.specs.Ordinal.{formIn, ordinalForm, orZero}
 use Rattle.numerals.specs.Walk.{numberOf, ordinalNumber}
 use Rattle.numerals.proofs.NumberWords.{NumberWord, number-word-test, number-word-same, one-number-word, hundred-number-word, cardinal-number-words}
 
--- a word's spelling is that of its number
+-- a word is spelled as the vocabulary has it at the word's number
 pub spell-number : (w : Word) → NumberWord w → spell w ≡ wordOf (numberOf w)
 unfolding numberWords consecutiveWords spell numberOf unfoldVocabulary
 spell-number = number-word-same spell (λ w. wordOf (numberOf w)) refl
 
--- 0 can say that no word is held
+-- no word of a number has the number 0, so 0 can mean that no word is held
 pub number-some : (w : Word) → NumberWord w → 0 < numberOf w
 unfolding numberWords consecutiveWords numberOf all
 number-some w n = ltb-true 0 (numberOf w) (number-word-test (λ w. ltb 0 (numberOf w)) refl w n)
@@ -31,16 +31,17 @@ pub form-number : (w : Word) → NumberWord w → ordinalForm (spell w) ≡ word
 unfolding numberWords consecutiveWords spell numberOf unfoldVocabulary ordinalForm formIn ordinalNumber
 form-number = number-word-same (λ w. ordinalForm (spell w)) (λ w. wordOf (ordinalNumber (numberOf w))) refl
 
--- the words of a digit and of the hundreds
+-- the word of a digit, by its number
 pub digit-number : (d : ℕ) → d < 10 → spell (one d) ≡ wordOf (onesAt + d)
 unfolding numberOf
 digit-number d h = spell-number (one d) (one-number-word d h)
 
+-- the word "hundred", by its number
 pub hundred-number : spell hundred ≡ wordOf scalesAt
 unfolding numberOf
 hundred-number = spell-number hundred hundred-number-word
 
--- the ordinal form of a digit's word
+-- the ordinal form of a digit's word, by its number
 pub digit-form : (d : ℕ) → d < 10 → ordinalForm (spell (one d)) ≡ wordOf (onesAt + ordinalStep + d)
 unfolding numberOf ordinalNumber
 digit-form d h =
@@ -48,7 +49,7 @@ digit-form d h =
     form-number (one d) (one-number-word d h)
     ∙ rw (le-leb onesAt (onesAt + d) (omega arith), lt-ltb (onesAt + d) (onesAt + ordinalStep) (omega arith)) (ap wordOf e)
 
--- the word stands in the first table, and its form at the same place of the second
+-- the word stands in `cardinals`, and its ordinal form at the same place in `ordinals`
 pub record Listed (w : Word) : Type 0 where
   pub place : ℕ
   pub within : place < ordinalStep
@@ -68,7 +69,7 @@ number-word-listed w n =
       form = number-word-same (λ w. ordinalForm (spell w)) (λ w. bytes (getD ordinals (placeOf w) "")) refl w n;
     }
 
--- so no last word takes "th" at its end
+-- each word of a number stands in `cardinals`, so `ordinal` never puts "th" at the end of a word
 pub no-th : (s : List ℕ) → Every Listed (orZero (cardinal s))
 unfolding orZero
 no-th s = go (cardinal s) (cardinal-number-words s)

@@ -1,4 +1,4 @@
--- The words that numbers are read with, and what each of them passes. Assumes nothing.
+-- The words that numbers are read with. What is computed for their list holds for each of them. Assumes nothing.
 use mathlib.Core.Path.{_≡_, refl, sym, ap, _∙_}
 use mathlib.Core.Bool.{Bool, true, false, cond, _&&_}
 use mathlib.Core.List.{List, [], _∷_, _++_, map, cons-eq-cons}
@@ -23,17 +23,17 @@ use Rattle.numerals.proofs.Cardinal.{shortCardinal-induct, cardinalOf-e
 abbrev pub NumberWord : Word → Type 0
 NumberWord w = (k : ℕ) × (k < length numberWords) × (w ≡ getD numberWords k hundred)
 
--- what the number words pass, each of them passes: a computed test is a rule
+-- each number word passes a test that the whole list passes; so one computation proves it for all
 pub number-word-test : (p : Word → Bool) → all p numberWords ≡ true → (w : Word) → NumberWord w → p w ≡ true
 number-word-test p h w n = rw (n .2) (all-at p hundred numberWords (n .0) h (n .1))
 
--- two functions that are the same at a whole list are the same at each of its places
+-- two functions that agree on a whole list agree at each of its places
 map-same-at : {A B : Type 0} (f g : A → B) (vs : List A) (k : ℕ) (d : A) → map f vs ≡ map g vs → k < length vs → f (getD vs k d) ≡ g (getD vs k d)
 map-same-at f g [] k d e h = absurd (omega arith)
 map-same-at f g (v ∷ vs) zero d e h = cons-eq-cons .0 e .0
 map-same-at f g (v ∷ vs) (suc k) d e h = map-same-at f g vs k d (cons-eq-cons .0 e .1) (omega arith)
 
--- so what is the same at the number words is the same at each of them: a table that antt computes is a rule
+-- two functions that agree on the list of number words agree on each of them; so one computation proves it for all
 pub number-word-same : {A : Type 0} (f g : Word → A) → map f numberWords ≡ map g numberWords → (w : Word) → NumberWord w → f w ≡ g w
 number-word-same f g e w n = rw (n .2) (map-same-at f g numberWords (n .0) hundred e (n .1))
 
@@ -50,7 +50,7 @@ digitValues-below-ten (b ∷ s) = go (leb (code "0") b) (leb b (code "9")) refl 
     go true false e h = h
     go false u e h = h
 
--- so is what is read at any place of them
+-- so is the value at any place; past the end it is 0
 pub digit-at : (ds : List ℕ) (i : ℕ) → BelowTen ds → {b : ℕ} → b ≡ getD ds i 0 → b < 10
 digit-at [] i h e = omega arith
 digit-at (d ∷ ds) zero h e = omega (arith, h .0)
@@ -58,7 +58,7 @@ digit-at (d ∷ ds) (suc i) h e = digit-at ds i (h .1) e
 
 -- ---- the words of a number
 
--- counted words, in front of others
+-- one of k consecutive words, and what stands after them
 consecutive-in : (f : ℕ → Word) (n k i : ℕ) (r : List Word) → i < k → getD (consecutiveWords f n k ++ r) i hundred ≡ f (n + i)
 unfolding consecutiveWords
 consecutive-in f n zero i r h = absurd (omega arith)
@@ -76,7 +76,7 @@ fromTens = consecutiveWords ten 1 9 ++ (hundred ∷ consecutiveWords scale 1 3)
 abbrev fromTeens : List Word
 fromTeens = consecutiveWords teen 1 9 ++ fromTens
 
--- the words of digits, of tens, of hundreds and of scales are such words
+-- the word of a digit is a number word
 pub one-number-word : (d : ℕ) → d < 10 → NumberWord (one d)
 unfolding numberWords consecutiveWords
 one-number-word d h = (d, omega arith, sym (consecutive-in one 0 10 d fromTeens h ∙ ap one (zero-add d)))
@@ -96,6 +96,7 @@ ten-number-word d h =
           ∙ consecutive-in ten 1 9 d (hundred ∷ consecutiveWords scale 1 3) (omega arith) ∙ ap ten (omega arith)),
     )
 
+-- "hundred" is a number word
 pub hundred-number-word : NumberWord hundred
 unfolding numberWords consecutiveWords
 hundred-number-word = (28, omega arith, refl)
@@ -119,7 +120,7 @@ unfolding joinAtScale
 join-number-words [] w r p q h = h
 join-number-words (v ∷ l) w r p q h = every-append NumberWord (v ∷ l) (w ∷ r) p (q, h)
 
--- so are the words of up to twelve digits
+-- the words of up to twelve digits are number words
 pub short-number-words : (s : List ℕ) → BelowTen s → Every NumberWord (shortCardinal s)
 short-number-words = shortCardinal-induct (λ d. d < 10) (λ n ws. Every NumberWord ws) (record {
   none = tt;
@@ -130,12 +131,12 @@ short-number-words = shortCardinal-induct (λ d. d < 10) (λ n ws. Every NumberW
   joined = λ n left right l h k. join-number-words left (scale (scaleFor n)) right h (scale-number-word n) k;
 })
 
--- those of digits one by one
+-- the words of digits one by one are number words
 pub digits-number-words : (s : List ℕ) → Every NumberWord (digits s)
 unfolding digits
 digits-number-words s = every-map (λ d. d < 10) NumberWord one one-number-word (digitValues s) (digitValues-below-ten s)
 
--- and those of any number
+-- the words of any cardinal number are number words
 pub cardinal-number-words : (s : List ℕ) → Every NumberWord (cardinal s)
 unfolding cardinal digits
 cardinal-number-words s = cardinalOf-elim (Every NumberWord) (digitValues s) (λ l. short-number-words (digitValues s) (digitValues-below-ten s))

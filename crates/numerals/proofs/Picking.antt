@@ -14,7 +14,7 @@ use Rattle.numerals.specs.Walk.{padded, firstDigits}
 use Rattle.numerals.specs.declared.digit_values.FirstDigits.{FirstDigits}
 use Rattle.numerals.proofs.Digits.{digitValues-append, digitValues-at, digitValues-digit}
 
--- up to k values stand in front
+-- up to k values stand at the front of the padded list
 padded-front : (k : ℕ) (ds : List ℕ) → length ds ≤ k → take (length ds) (padded k ds) ≡ ds
 unfolding padded
 padded-front k [] h = refl
@@ -67,7 +67,7 @@ module _ (s d : List ℕ) (n i : ℕ) (h : i < length s) (p : PickedDigits s d n
           values = rw (e, p .values, p .count) (padded-snoc 12 (digitValues (take i s)) b);
         }
 
-    -- where twelve are picked, there are more
+    -- a digit after twelve others: there are more than twelve
     pub pick-beyond : n ≡ 12 → record { values = d; count = 13 } ≡ firstDigits s
     unfolding firstDigits
     pick-beyond k =
@@ -94,7 +94,7 @@ module _ (s : List ℕ) (f : FirstDigits) (e : f ≡ firstDigits s) where
   unfolding firstDigits
   firstDigits-digits h = rw (e, le-leb (length (digitValues s)) 12 h) (padded-front 12 (digitValues s) h)
 
-  -- the number tells whether there are more
+  -- a count above twelve means that there are more than twelve digits
   pub firstDigits-more : 12 < f .count → 12 < length (digitValues s)
   unfolding firstDigits
   firstDigits-more h =
@@ -102,6 +102,7 @@ module _ (s : List ℕ) (f : FirstDigits) (e : f ≡ firstDigits s) where
       (λ (l : 12 < length (digitValues s)). l)
       (le-or-lt (length (digitValues s)) 12)
 
+  -- a count of at most twelve means that there are no more
   pub firstDigits-all : f .count ≤ 12 → length (digitValues s) ≤ 12
   unfolding firstDigits
   firstDigits-all h =

@@ -20,28 +20,28 @@ use Rattle.numerals.specs.Walk.{BelowTen}
 use Rattle.numerals.proofs.Cardinal.{scale-split, shortCardinal-induct, cardinalOf-elim, cardinal-2}
 use Rattle.numerals.proofs.NumberWords.{NumberWord, number-word-test, cardinal-number-words, digitValues-below-ten}
 
--- the bytes that the words take of a line, where a space stands before each
+-- the bytes that words take in a line, with a space before each
 abbrev pub width : List Word → ℕ
 width [] = 0
 width (w ∷ ws) = suc (length (spell w) + width ws)
 
--- at most a words, which take at most b bytes of a line
+-- at most a words, which take at most b bytes in a line
 pub record Room (a b : ℕ) (ws : List Word) : Type 0 where
   pub count : length ws ≤ a
   pub wide : width ws ≤ b
 
--- the room that a text of n bytes is given
+-- the room for the words of a text of n bytes
 abbrev pub RoomFor : ℕ → List Word → Type 0
 RoomFor n = Room (2 * n + 1) (11 * n + 8)
 
--- the same as a test that computes
+-- `Room` as a test that can be computed
 abbrev fits : ℕ → ℕ → List Word → Bool
 fits a b ws = leb (length ws) a && leb (width ws) b
 
 fits-room : (a b : ℕ) (ws : List Word) → fits a b ws ≡ true → Room a b ws
 fits-room a b ws t = let y = and-eq-true-iff (leb (length ws) a) (leb (width ws) b) .0 t in record { count = leb-true _ _ (y .0); wide = leb-true _ _ (y .1) }
 
--- words and further words
+-- the counts of two lists of words add up, and so do the bytes
 pub together : (ws vs : List Word) → (length (ws ++ vs) ≡ length ws + length vs) × (width (ws ++ vs) ≡ width ws + width vs)
 together [] vs = omega arith
 together (w ∷ ws) vs = omega (arith, together ws vs)
@@ -51,12 +51,12 @@ unfolding flatten spelled
 store-width [] = omega arith
 store-width (w ∷ ws) = omega (arith, length-append (spell w) (flatten (spelled ws)), store-width ws)
 
--- the counts of a call
+-- so both counts of a call are bounded: its words, and their bytes
 pub room-counts : {a b : ℕ} {ws : List Word} → Room a b ws → (length (spelled ws) ≤ a) × (length (flatten (spelled ws)) ≤ b)
 unfolding spelled
 room-counts {ws = ws} r = omega (arith, length-map ws spell, store-width ws)
 
--- the word of a digit
+-- the word of a digit takes at most 6 bytes
 pub one-room : (d : ℕ) → d < 10 → Room 1 6 (one d ∷ [])
 unfolding spell unfoldVocabulary
 one-room d h = fits-room 1 6 (one d ∷ []) (below (λ d. fits 1 6 (one d ∷ [])) 10 refl d h)
@@ -67,16 +67,16 @@ pair-room a b h k =
     let f : ℕ → ℕ → Bool = λ a b. fits 2 14 (pairWords a b) in
     fits-room 2 14 (pairWords a b) (below (f a) 10 (below (λ a. upto (f a) 10) 10 refl a h) b k)
 
--- the word "hundred"
+-- the word "hundred" takes 8 bytes
 pub hundred-room : Room 1 8 (hundred ∷ [])
 unfolding spell unfoldVocabulary
 hundred-room = omega arith
 
--- the most bytes of a line that up to twelve digits take
+-- the most bytes that the words of n digits take in a line, for n up to twelve
 most : ℕ → ℕ
 most n = getD (0 ∷ 6 ∷ 14 ∷ 28 ∷ 43 ∷ 51 ∷ 65 ∷ 79 ∷ 87 ∷ 101 ∷ 115 ∷ 123 ∷ 137 ∷ []) n 0
 
--- with the word of a scale between two parts
+-- the same for two parts with the word of a scale between them
 abbrev joined : ℕ → ℕ
 joined n = most (splitAt n) + width (scale (scaleFor n) ∷ []) + most (n - splitAt n)
 
@@ -93,7 +93,7 @@ unfolding joinAtScale
 join-room [] w r p q = omega arith
 join-room (v ∷ l) w r p q = omega (arith, together (v ∷ l) (w ∷ r))
 
--- two words a digit, less a place for the word of a scale
+-- at most two words per digit, less one, so that two parts leave room for the word of a scale between them
 short-room : (s : List ℕ) → BelowTen s → length s ≤ 12 → Room (2 * length s - 1) (most (length s)) (shortCardinal s)
 unfolding most
 short-room = shortCardinal-induct (λ d. d < 10) (λ n ws. n ≤ 12 → Room (2 * n - 1) (most n) ws) (record {
@@ -108,21 +108,21 @@ short-room = shortCardinal-induct (λ d. d < 10) (λ n ws. n ≤ 12 → Room (2 
       omega (arith, join-room left (scale (scaleFor n)) right (h (omega arith)) (k (omega arith)), most-joined n z l);
 })
 
--- the words of two digits
+-- the words of two digits take at most 14 bytes
 pub two-room : (a b : ℕ) → a < 10 → b < 10 → Room 2 14 (cardinalOf (a ∷ b ∷ []))
 unfolding cardinalOf
 two-room a b h k = rw (cardinal-2 (a ∷ b ∷ []) refl) (pair-room a b h k)
 
--- one word per digit
+-- one word per digit takes at most 6 bytes per digit
 pub ones-room : (s : List ℕ) → BelowTen s → Room (length s) (6 * length s) (map one s)
 ones-room [] h = omega arith
 ones-room (d ∷ s) h = omega (arith, one-room d (h .0), ones-room s (h .1))
 
--- what a number of so many digits is given
+-- the room for the words of a number of n digits
 abbrev pub RoomForNumber : ℕ → List Word → Type 0
 RoomForNumber n = Room (2 * n) (11 * n + 5)
 
--- the words of a number are within that
+-- the words of a number fit in it
 pub cardinalOf-room : (s : List ℕ) → BelowTen s → RoomForNumber (length s) (cardinalOf s)
 unfolding cardinalOf
 cardinalOf-room s h =
@@ -133,12 +133,12 @@ pub digitValues-le : (s : List ℕ) → length (digitValues s) ≤ length s
 unfolding digitValues
 digitValues-le s = omega (arith, length-map (filterIf digit s) digitValue, filterIf-le digit s)
 
--- the words of a text's number
+-- the words of a text's cardinal number fit in the room for as many digits as the text has bytes
 pub cardinal-room : (s : List ℕ) → RoomForNumber (length s) (cardinal s)
 unfolding cardinal
 cardinal-room s = omega (arith, cardinalOf-room (digitValues s) (digitValues-below-ten s), digitValues-le s)
 
--- the words of its digits, one by one
+-- the words of a text's digits, one by one, take at most 6 bytes per byte of the text
 pub digits-room : (s : List ℕ) → Room (length s) (6 * length s) (digits s)
 unfolding digits
 digits-room s = omega (arith, ones-room (digitValues s) (digitValues-below-ten s), digitValues-le s)
@@ -159,7 +159,7 @@ unfolding orZero onLast spell ordinalForm formIn unfoldVocabulary
 zero-room n [] h r = omega arith
 zero-room n (w ∷ ws) h r = omega (arith, last-room (w ∷ ws) h)
 
--- the words of its ordinal number
+-- the words of a text's ordinal number fit in the room for a text
 pub ordinal-room : (s : List ℕ) → RoomFor (length s) (ordinal s)
 unfolding ordinal
 ordinal-room s =

@@ -23,7 +23,7 @@ use Rattle.numerals.proofs.Digits.{digitValues-commas}
 use Rattle.numerals.proofs.Cardinal.{scale-split, cardinal-eq, cardinal-1}
 use Rattle.numerals.proofs.NumberWords.{NumberWord, number-word-same, one-number-word, cardinal-number-words, digits-number-words}
 
--- the value of words that follow others, by what each stands for
+-- `valueFrom` for words by their kind
 abbrev wordsValueFrom : ℕ → ℕ → List Word → ℕ
 wordsValueFrom t c ws = valueFrom t c (map meaningOf ws)
 
@@ -39,7 +39,7 @@ two-value : (t a b : ℕ) (ws : List Word) → wordsValueFrom t 0 (shortCardinal
 unfolding cardinalStep
 two-value t a b ws = rw (cardinal-eq (a ∷ b ∷ [])) (pair-value t 0 a b ws ∙ ap (λ (x : ℕ). wordsValueFrom t x ws) (omega arith))
 
--- up to three digits add to what a scale word then closes
+-- the words of up to three digits add the value of these digits
 group-value : (t : ℕ) (s : List ℕ) (ws : List Word) → length s ≤ 3 → wordsValueFrom t 0 (shortCardinal s ++ ws) ≡ wordsValueFrom t (decimal s) ws
 unfolding valueFrom cardinalStep decimal decimalFrom
 group-value t [] ws h = rw (cardinal-eq [])
@@ -67,7 +67,7 @@ unfolding decimalFrom
 decimalFrom-append [] b n = refl
 decimalFrom-append (d ∷ a) b n = decimalFrom-append a b (n * 10 + d)
 
--- digits before others stand for as many powers of ten
+-- the value of the digits a is multiplied by ten for each digit that follows them
 pub decimal-append : (a b : List ℕ) → decimal (a ++ b) ≡ decimal a * 10 ^ length b + decimal b
 unfolding decimal
 decimal-append a b = decimalFrom-append a b 0 ∙ decimalFrom-split b (decimalFrom 0 a)
@@ -87,7 +87,7 @@ pow-thousand : (k : ℕ) → 1000 ^ k ≡ 10 ^ (3 * k)
 pow-thousand zero = refl
 pow-thousand (suc k) = pow-suc 1000 k ∙ ap (λ (x : ℕ). x * 1000) (pow-thousand k) ∙ sym (pow-add 10 (3 * k) 3) ∙ ap (λ (x : ℕ). 10 ^ x) (omega arith)
 
--- the digits before i, with the power of ten of the k scales after them
+-- a number cut before its last 3 * k digits: the digits before them count 1000 ^ k times
 cut-value : (s : List ℕ) (i k : ℕ) → i + 3 * k ≡ length s → decimal (take i s) * 1000 ^ k + decimal (drop i s) ≡ decimal s
 cut-value s i k e =
     let l : length (drop i s) ≡ 3 * k = length-drop i s ∙ omega arith in
@@ -97,7 +97,7 @@ group-end : (t : ℕ) (s : List ℕ) → length s ≤ 3 → wordsValueFrom t 0 (
 unfolding valueFrom
 group-end t s h = rw append-nil at (group-value t s [] h)
 
--- for strings shorter than m, since the parts of a string are shorter
+-- by induction on m, a bound of the length: the parts of a string are shorter
 shorter-value : (m t : ℕ) (s : List ℕ) → length s < m → length s ≤ 12 → wordsValueFrom t 0 (shortCardinal s) ≡ t + decimal s
 unfolding valueFrom cardinalStep byScale
 shorter-value zero t s l h = absurd (omega arith)
@@ -144,8 +144,8 @@ last-means w [] h = rw (form-means w (h .0))
 last-means w (v ∷ []) h = rw (spell-means w (h .0), form-means v (h .1 .0))
 last-means w (v ∷ u ∷ ws) h = rw (spell-means w (h .0), last-means v (u ∷ ws) (h .1))
 
--- "For 1 to 12 digits without a leading zero ("0" itself counts as such) the words are proved to name the decimal value": a
--- leading zero adds nothing, and an empty list of words names 0, so neither is left out here
+-- "For 1 to 12 digits without a leading zero ("0" itself counts as such) the words are proved to name the decimal value". A
+-- leading zero adds nothing, and an empty list of words names 0. So the law also holds with leading zeros and without digits
 pub cardinal-names : (s : List ℕ) → length (digitValues s) ≤ 12 → valueOf (spelled (cardinal s)) ≡ some (decimal (digitValues s))
 unfolding valueOf wordsValue
 cardinal-names s h = rw (spelled-mean (cardinal s) (cardinal-number-words s), ← cardinal-value s h)
@@ -155,7 +155,7 @@ unfolding decimalFrom
 decimal-least [] n = omega arith
 decimal-least (d ∷ s) n = omega (arith, decimal-least s (n * 10 + d))
 
--- and where there is no leading zero, there are words, for "0" too
+-- a number without a leading zero has words, and so has "0"
 pub cardinal-some : (s : List ℕ) → 0 < length (digitValues s) → length (digitValues s) ≤ 12
     → (getD (digitValues s) 0 0 ≡ 0 → length (digitValues s) ≡ 1) → 0 < length (cardinal s)
 unfolding cardinal cardinalOf valueFrom decimal decimalFrom
@@ -172,7 +172,7 @@ cardinal-some s z h n = rw (le-leb (length (digitValues s)) 12 h)
     go (zero ∷ ds) z n e = rw (cardinal-1 (zero ∷ ds) (n refl)) (omega arith)
     go (suc d ∷ ds) z n e = first (suc d) ds (shortCardinal (suc d ∷ ds)) (omega arith) e
 
--- so do those of an ordinal number
+-- the words of an ordinal number of up to twelve digits name its decimal value
 pub ordinal-names : (s : List ℕ) → length (digitValues s) ≤ 12 → ordinalValueOf (spelled (ordinal s)) ≡ some (decimal (digitValues s))
 unfolding ordinal ordinalValueOf wordsValue valueFrom orZero
 ordinal-names s h =
@@ -184,7 +184,7 @@ ordinal-names s h =
     go [] h e = rw (last-means (one 0) [] (one-number-word 0 (omega arith), tt), ← e)
     go (w ∷ ws) h e = rw (last-means w ws h, ← e)
 
--- each word of a text's digits adds its digit
+-- if a text is read digit by digit, each word means its digit
 pub digits-name : (s : List ℕ) → meaningsOf (spelled (digits s)) ≡ some (map adds (digitValues s))
 unfolding digits
 digits-name s = spelled-mean (digits s) (digits-number-words s) ∙ ap {B = Option (List Meaning)} some (go (digitValues s))

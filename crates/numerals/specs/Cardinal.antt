@@ -34,7 +34,7 @@ unfoldable pub joinAtScale : List Word → Word → List Word → List Word
 joinAtScale [] w right = right
 joinAtScale (v ∷ left) w right = (v ∷ left) ++ w ∷ right
 
--- "splits it": the digits before those that the scale governs, and those
+-- "splits it": how many digits the left part has; the scale governs the others
 abbrev pub splitAt : ℕ → ℕ
 splitAt n = n - 3 * scaleFor n
 

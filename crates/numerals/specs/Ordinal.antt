@@ -10,7 +10,8 @@ use Rattle.vocabulary.specs.Vocabulary.{cardinals, ordinals}
 use Rattle.numerals.specs.Words.{Word, one, other, spell}
 use Rattle.numerals.specs.Cardinal.{cardinal}
 
--- the form that stands where w stands in the first table; "a last word that the Rust leaves as it is takes "th" at its end"
+-- the form of w: it stands in the second table at the place where w stands in the first. If w is not in the first: "a last word
+-- that the Rust leaves as it is takes "th" at its end"
 unfoldable pub formIn : List String → List String → List ℕ → List ℕ
 formIn [] fs w = w ++ bytes "th"
 formIn (c ∷ cs) [] w = w ++ bytes "th"

@@ -1,4 +1,4 @@
--- Document 01: what the words of a number name. Definitions only.
+-- Document 01, "Number words": the value that the words of a number name. Definitions only.
 use mathlib.Core.Bool.{cond}
 use mathlib.Core.List.{List, [], _∷_, map}
 use mathlib.Core.Option.{Option, none, some, Option·map}
@@ -28,7 +28,7 @@ cardinalMeanings =
     ∷ "hundred" means multiplies 100
     ∷ "thousand" means scalesBy (10 ^ 3) ∷ "million" means scalesBy (10 ^ 6) ∷ "billion" means scalesBy (10 ^ 9) ∷ []
 
--- the ordinal forms, of which an ordinal number has one, its last word
+-- the ordinal forms; only the last word of an ordinal number is one
 unfoldable pub ordinalMeanings : List WordMeaning
 ordinalMeanings =
     "zeroth" means adds 0 ∷ "first" means adds 1 ∷ "second" means adds 2 ∷ "third" means adds 3 ∷ "fourth" means adds 4
@@ -40,12 +40,12 @@ ordinalMeanings =
     ∷ "hundredth" means multiplies 100
     ∷ "thousandth" means scalesBy (10 ^ 3) ∷ "millionth" means scalesBy (10 ^ 6) ∷ "billionth" means scalesBy (10 ^ 9) ∷ []
 
--- none where the word is not in the table
+-- the meaning of a word; none if it is not in the table
 unfoldable pub meaningIn : List WordMeaning → List ℕ → Option Meaning
 meaningIn [] w = none
 meaningIn (t means m ∷ es) w = cond (same (bytes t) w) (some m) (meaningIn es w)
 
--- the meaning of a word in front of those of others, none where one of them has none
+-- the meaning of a word before the meanings of others; none if one of the words has no meaning
 unfoldable pub prepend : Option Meaning → Option (List Meaning) → Option (List Meaning)
 prepend none r = none
 prepend (some m) none = none
@@ -61,21 +61,21 @@ ordinalMeaningsOf [] = none
 ordinalMeaningsOf (w ∷ []) = prepend (meaningIn ordinalMeanings w) (some [])
 ordinalMeaningsOf (w ∷ v ∷ ws) = prepend (meaningIn cardinalMeanings w) (ordinalMeaningsOf (v ∷ ws))
 
--- t is what the scale words so far have closed, c what stands after the last of them
+-- t is the value up to the last scale word, and c the value of the words after it
 unfoldable pub valueFrom : ℕ → ℕ → List Meaning → ℕ
 valueFrom t c [] = t + c
 valueFrom t c (adds n ∷ ms) = valueFrom t (c + n) ms
 valueFrom t c (multiplies n ∷ ms) = valueFrom t (c * n) ms
 valueFrom t c (scalesBy n ∷ ms) = valueFrom (t + c * n) 0 ms
 
--- the value that words name, none where one of them means nothing
+-- the value that words name; none if one of them has no meaning
 unfoldable pub valueOf : List (List ℕ) → Option ℕ
 valueOf ws = Option·map (valueFrom 0 0) (meaningsOf ws)
 
 unfoldable pub ordinalValueOf : List (List ℕ) → Option ℕ
 ordinalValueOf ws = Option·map (valueFrom 0 0) (ordinalMeaningsOf ws)
 
--- the decimal value of digits, with n before them
+-- the decimal value of digits that follow digits of the value n
 unfoldable pub decimalFrom : ℕ → List ℕ → ℕ
 decimalFrom n [] = n
 decimalFrom n (d ∷ s) = decimalFrom (n * 10 + d) s
@@ -85,7 +85,7 @@ decimal s = decimalFrom 0 s
 
 -- ---- no public promise is made of these
 
--- what a word means by what it stands for
+-- what a word means, by its kind and not by its spelling
 abbrev pub meaningOf : Word → Meaning
 meaningOf (one d) = adds d
 meaningOf (teen d) = adds (10 + d)

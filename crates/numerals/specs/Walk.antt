@@ -1,4 +1,4 @@
--- What the walkers of this crate pass on to each other. Definitions only; no public promise is made of them.
+-- What the functions of this crate pass on to each other. Definitions only; no public promise is made of them.
 use mathlib.Core.Bool.{Bool, cond, _&&_, _||_}
 use mathlib.Core.List.{List, [], _∷_}
 use Prim.Native.Nat.{ℕ, zero, suc, _+_, _<_}
@@ -22,7 +22,7 @@ padded zero ds = []
 padded (suc k) [] = 0 ∷ padded k []
 padded (suc k) (d ∷ ds) = d ∷ padded k ds
 
--- the values of a text's first twelve digits, and how many digits it has, 13 where they are more
+-- the values of a text's first twelve digits, and how many digits it has, or 13 if it has more than twelve
 unfoldable pub firstDigits : List ℕ → FirstDigits
 firstDigits s = record { values = padded 12 (digitValues s); count = cond (leb (length (digitValues s)) 12) (length (digitValues s)) 13 }
 
@@ -35,7 +35,7 @@ numberOf hundred = scalesAt
 numberOf (scale k) = scalesAt + k
 numberOf (other w) = 0
 
--- a writer that is one word behind: the last word, by its number, is held back; 0 where there is none
+-- a writer that holds back the last word, by its number; 0 if no word is held
 pub record HeldWriter : Type 0 where
   pub writer : Writer
   pub last : ℕ
@@ -47,7 +47,7 @@ held s t h = record { writer = writer s t (h .cursor); last = h .last }
 unfoldable pub flushed : HeldWriter → Writer
 flushed h = cond (eqb (h .last) 0) (h .writer) (putWord (wordOf (h .last)) (h .writer))
 
--- the next word is held instead
+-- the word that is held is written, and word k is held
 unfoldable pub holdWord : ℕ → HeldWriter → HeldWriter
 holdWord k h = record { writer = flushed h; last = k }
 
@@ -55,12 +55,12 @@ unfoldable pub holdWords : List ℕ → HeldWriter → HeldWriter
 holdWords [] h = h
 holdWords (k ∷ ks) h = holdWords ks (holdWord k h)
 
--- up to three digits that have no words
+-- two or three zeros: of one to three digits, only they have no words
 unfoldable pub isZeroGroup : List ℕ → Bool
 isZeroGroup s =
     (eqb (length s) 2 && (eqb (getD s 0 0) 0 && eqb (getD s 1 0) 0))
     || (eqb (length s) 3 && (eqb (getD s 0 0) 0 && (eqb (getD s 1 0) 0 && eqb (getD s 2 0) 0)))
 
--- the number of the ordinal form of word k, or that of "zeroth"
+-- the number of the ordinal form of word k; that of "zeroth" if k is no cardinal word
 unfoldable pub ordinalNumber : ℕ → ℕ
 ordinalNumber k = cond (leb onesAt k && ltb k (onesAt + ordinalStep)) (k + ordinalStep) (onesAt + ordinalStep)

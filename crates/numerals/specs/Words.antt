@@ -12,7 +12,7 @@ pub data Word : Type 0 where
   scale : ℕ → Word
   other : List ℕ → Word
 
--- nothing where the table has no such place
+-- the bytes of a word; none if the table has no such place
 unfoldable pub spell : Word → List ℕ
 spell (one d) = bytes (getD ones d "")
 spell (teen d) = bytes (getD teens d "")
@@ -26,7 +26,7 @@ spelled = map spell
 
 -- ---- no public promise is made of these
 
--- the words f n, f (n + 1), .. of which there are k
+-- k words: f n, f (n + 1) and so on
 unfoldable pub consecutiveWords : (ℕ → Word) → ℕ → ℕ → List Word
 consecutiveWords f n zero = []
 consecutiveWords f n (suc k) = f n ∷ consecutiveWords f (suc n) k

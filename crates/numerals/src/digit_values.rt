@@ -1,17 +1,17 @@
-// The values of a text's first digits, picked from its own bytes.
+// The values of a text's first digits, read from the text itself and not from a cleaned copy.
 ghost use mathlib.Core.Path.{_≡_};
 ghost use Rattle.numerals.specs.Walk.{firstDigits};
 
-// The most digits of a number that is read by scales.
+// The most digits that a cardinal number has. More digits are read one by one.
 pub const MAX_CARDINAL_DIGITS: usize = 12;
 
-// The values of at most twelve digits; the count is 13 where there are more.
+// The values of the first twelve digits, and how many digits there are. The count is 13 if there are more than twelve.
 pub struct FirstDigits {
     pub values: [u8; 12],
     pub count: usize,
 }
 
-// The values of the digits of s.
+// The first digits of s.
 pub fn first_digits(s: &[u8]) -> FirstDigits
     ensures { λ r. ⌜ r ≡ firstDigits (now (s .entry)) ⌝ }
 {

@@ -1,4 +1,4 @@
-// A writer of vocabulary words that is one word behind, since an ordinal number changes its last word.
+// A writer that holds back the last word of a number, since an ordinal number changes its last word.
 use crate::saying::say;
 use vocabulary::HUNDRED;
 use vocabulary::ONES;
@@ -15,7 +15,7 @@ ghost use Rattle.numerals.specs.Words.{one, hundred, scale};
 ghost use Rattle.numerals.specs.Cardinal.{pairWords};
 ghost use Rattle.numerals.specs.Walk.{numberOf, held, flushed, holdWord, holdWords, ordinalNumber};
 
-// No word is held. It is the number of a unit's word, which is never held.
+// No word is held. Word 0 of the vocabulary is a unit's word, which is never held.
 pub const NONE: usize = 0;
 
 pub struct Held {
@@ -41,7 +41,7 @@ pub fn hold(k: usize, store: &mut [u8], table: &mut [u8], h: Held) -> Held
     Held { cursor, last: k }
 }
 
-// A pair of digits as tens and ones.
+// Holds the words of a pair of digits, tens and ones.
 pub fn hold_pair(t: u8, n: u8, store: &mut [u8], table: &mut [u8], h: Held) -> Held
     ensures { λ r. ⌜ held (now (store .exit)) (now (table .exit)) r ≡ holdWords (map numberOf (pairWords t n)) (held (now (store .entry)) (now (table .entry)) h) ⌝ }
 {
@@ -61,7 +61,7 @@ pub fn hold_pair(t: u8, n: u8, store: &mut [u8], table: &mut [u8], h: Held) -> H
     hold(ONES + n as usize, store, table, g)
 }
 
-// The hundreds of three digits, nothing where they are 0.
+// Holds the words of the hundreds digit d; none if it is 0.
 pub fn hold_hundreds(d: u8, store: &mut [u8], table: &mut [u8], h: Held) -> Held
     ensures { λ r. ⌜ held (now (store .exit)) (now (table .exit)) r
         ≡ holdWords (map numberOf (cond (eqb d 0) [] (one d ∷ hundred ∷ []))) (held (now (store .entry)) (now (table .entry)) h) ⌝ }
@@ -73,7 +73,7 @@ pub fn hold_hundreds(d: u8, store: &mut [u8], table: &mut [u8], h: Held) -> Held
     hold(HUNDRED, store, table, g)
 }
 
-// The word of scale k, nothing where what stands before it has no words.
+// Holds the word of scale k; none if the digits before it have no words.
 pub fn hold_scale(wordless: bool, k: u8, store: &mut [u8], table: &mut [u8], h: Held) -> Held
     ensures { λ r. ⌜ held (now (store .exit)) (now (table .exit)) r
         ≡ holdWords (map numberOf (cond wordless [] (scale k ∷ []))) (held (now (store .entry)) (now (table .entry)) h) ⌝ }
@@ -84,7 +84,7 @@ pub fn hold_scale(wordless: bool, k: u8, store: &mut [u8], table: &mut [u8], h: 
     hold(HUNDRED + k as usize, store, table, h)
 }
 
-// The number of the ordinal form of word k; "zeroth" for no word.
+// The number of the ordinal form of word k; that of "zeroth" if k is no cardinal word.
 pub fn ordinal_number(k: usize) -> usize
     ensures { λ r. ⌜ r ≡ ordinalNumber k ⌝ }
 {

@@ -1,4 +1,4 @@
-// Words of whole numbers, said into the writing layer: digits one by one, cardinal and ordinal numbers.
+// Words of whole numbers, given to the writing layer: digits one by one, cardinal and ordinal numbers.
 pub mod digit_values;
 pub mod held;
 pub mod number;

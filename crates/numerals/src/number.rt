@@ -30,7 +30,7 @@ ghost use Rattle.numerals.specs.Cardinal.{digitValues, scaleFor, shortCa
 ghost use Rattle.numerals.specs.Ordinal.{ordinal};
 ghost use Rattle.numerals.specs.Walk.{BelowTen, numberOf, held, holdWords, isZeroGroup};
 
-// Whether up to three digits have no words.
+// Whether these are two or three zeros. Of one to three digits, only they have no words.
 fn is_zero_group(ds: &[u8]) -> bool
     ensures { λ r. ⌜ r ≡ isZeroGroup (now (ds .entry)) ⌝ }
 {
@@ -40,7 +40,7 @@ fn is_zero_group(ds: &[u8]) -> bool
     ((ds.len() == 2) & (a & b)) | ((ds.len() == 3) & (a & (b & c)))
 }
 
-// The largest scale with fewer digits than n: 3 billion, 2 million, 1 thousand.
+// The largest scale with fewer digits than n: 3 for billion, 2 for million, 1 for thousand.
 fn scale_for(n: usize) -> u8
     ensures { λ r. ⌜ (r ≡ scaleFor n) × (r ≤ 3) ⌝ }
 {
@@ -53,7 +53,8 @@ fn scale_for(n: usize) -> u8
     1
 }
 
-// Holds the words of a string of digits' values: "the rest read again", and both parts of a split.
+// Holds the words of up to twelve digits, given by their values. It calls itself for "the rest read again", and for both parts
+// of a split.
 fn hold_cardinal(ds: &[u8], store: &mut [u8], table: &mut [u8], h: Held) -> Held
     requires { ⌜ length (now ds) ≤ 12 ⌝ }
     ensures { λ r. ⌜ held (now (store .exit)) (now (table .exit)) r
@@ -105,7 +106,7 @@ pub fn say_cardinal(s: &[u8], store: &mut [u8], table: &mut [u8], cursor: Cursor
     say_short_cardinal(front(&d, digits.count), store, table, cursor)
 }
 
-// Says more digits than have a cardinal reading one by one, the last of them in its ordinal form.
+// Says more than twelve digits: one word per digit, the last one in its ordinal form.
 fn say_long_ordinal(s: &[u8], store: &mut [u8], table: &mut [u8], cursor: Cursor) -> Cursor
     requires { ⌜ 12 < length (digitValues (now s)) ⌝ }
     ensures { λ r. ⌜ writer (now (store .exit)) (now (table .exit)) r

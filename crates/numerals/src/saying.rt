@@ -1,4 +1,4 @@
-// A word of the vocabulary, and one word a digit.
+// Says a word of the vocabulary, and digits one by one.
 use lists::unpacked;
 use vocabulary::ONES;
 use word_writer::Cursor;
@@ -18,7 +18,7 @@ pub fn say(k: usize, store: &mut [u8], table: &mut [u8], cursor: Cursor) -> Curs
     put_word(store, table, cursor, unpacked(&packed))
 }
 
-// Says the word of a digit, and nothing of another byte.
+// Says the word of a digit, and nothing for any other byte.
 fn say_digit(b: u8, store: &mut [u8], table: &mut [u8], cursor: Cursor) -> Cursor
     ensures { λ r. ⌜ writer (now (store .exit)) (now (table .exit)) r
         ≡ putWords (spelled (digits (b ∷ []))) (writer (now (store .entry)) (now (table .entry)) cursor) ⌝ }

@@ -1,4 +1,4 @@
--- `real` is its own step, and goes on a sign or a part at a time. Assumes nothing.
+-- The equations of `real`: by its own step, and by one sign or one part at a time. Assumes nothing.
 use mathlib.Core.Path.{_≡_, refl, sym, ap, ap₂, _∙_}
 use mathlib.Core.Bool.{Bool, true, false, cond}
 use mathlib.Core.List.{List, [], _∷_, _++_, append-nil}
@@ -25,7 +25,7 @@ startsWith-some : (c : ℕ) (s : List ℕ) → startsWith c s ≡ true → 0 < l
 startsWith-some c [] e = let z : _≡_ {A = ℕ} 0 1 = cc in omega arith
 startsWith-some c (b ∷ s) e = omega arith
 
--- where a text does not start with a byte, no part of it does
+-- if a text does not start with a byte, its first n bytes do not either
 startsWith-take : (c n : ℕ) (s : List ℕ) → startsWith c s ≡ false → startsWith c (take n s) ≡ false
 startsWith-take c zero s e = refl
 startsWith-take c (suc n) [] e = refl
@@ -43,6 +43,7 @@ real-local f g s h =
     (h (drop (eAt s + 1) s) (simp length-drop (omega arith))))
     (λ k. refl)))
 
+-- `real` reads a text by one step, and what is left by itself
 pub real-eq : (s : List ℕ) → real s ≡ realStep real s
 unfolding real
 real-eq s = recur-eq [] realStep real-local s
@@ -51,11 +52,12 @@ real-none : real [] ≡ []
 unfolding real realStep recur recurAt pointed span cardinal cardinalOf digitValues filterIf shortCardinal cardinalStep
 real-none = refl
 
+-- an empty text has no words
 pub real-end : spelled (real []) ≡ []
 unfolding spelled
 real-end = ap spelled real-none
 
--- neither sign nor "e"
+-- a text with no leading sign and no "e"
 pub real-plain : (s : List ℕ) → startsWith (code "-") s ≡ false → startsWith (code "+") s ≡ false → length s ≤ eAt s → real s ≡ pointed s
 unfolding realStep
 real-plain s m p h = real-eq s ∙ rw (m, p, le-ltb (eAt s) (length s) h)
@@ -77,7 +79,7 @@ real-part s = real-eq s ∙ go (startsWith (code "-") s) (startsWith (code "+") 
         let h : length s ≤ eAt s = ltb-false _ _ r in
         rw (m, q, r, take-all (eAt s) s h, drop-of-length-le s {i = eAt s} h, real-none) (sym (append-nil (pointed s ++ []) ∙ append-nil (pointed s)))
 
--- a step reads some bytes, and no more than there are
+-- a step reads at least one byte, and no more than there are
 part-bytes : (s : List ℕ) → 0 < length s → (0 < partSize s) × (partSize s ≤ length s)
 unfolding partSize
 part-bytes s h = go (startsWithSign s) (ltb (eAt s) (length s)) refl (span-le notE s)
@@ -90,12 +92,14 @@ part-bytes s h = go (startsWithSign s) (ltb (eAt s) (length s)) refl (span-le no
 
 -- a step reads n bytes from i, where the text t starts
 module _ (s : List ℕ) (i : ℕ) {t : List ℕ} {n : ℕ} (g : t ≡ drop i s) (e : n ≡ partSize t) where
+  -- the step moves on, and stays within the text
   pub part-more : i < length s → (0 < n) × (i + n ≤ length s)
   part-more h =
       let l : length t ≡ length s - i = ap length g ∙ length-drop i s in
       let b = part-bytes t (omega arith) in
       (omega arith, omega arith)
 
+  -- the words of the step, and those of what is left
   pub real-at : spelled (real (drop i s)) ≡ spelled (partWords t) ++ spelled (real (drop (i + n) s))
   real-at =
       ap (λ (l : List ℕ). spelled (real l)) (sym g)

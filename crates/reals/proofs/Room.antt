@@ -15,7 +15,7 @@ use Rattle.numerals.specs.Cardinal.{cardinal, digits}
 use Rattle.numerals.proofs.Room.{RoomFor, together, cardinal-room, digits-room}
 use Rattle.reals.specs.Real.{pointAt, eAt, pointed, realStep, real}
 
--- what stands before and after a byte of a text
+-- the bytes before byte n, that byte and the bytes after it are the whole text
 around : (s : List ℕ) (n : ℕ) → ltb n (length s) ≡ true → length (take n s) + 1 + length (drop (n + 1) s) ≡ length s
 around s n e = omega (arith, ltb-true, length-take n s, length-drop (n + 1) s)
 
@@ -48,6 +48,7 @@ realStep-room f (b ∷ s) h =
       h (drop (n + 1) t) (omega arith),
     )) (λ e. pointed-room t)))
 
+-- the words of a text's real number fit in the room for a text
 pub real-room : (s : List ℕ) → RoomFor (length s) (real s)
 unfolding real
 real-room = recur-induct (λ s. RoomFor (length s)) [] realStep realStep-room

@@ -11,7 +11,7 @@ use Rattle.lists.specs.Recur.{recur}
 use Rattle.numerals.specs.Words.{Word, other}
 use Rattle.numerals.specs.Cardinal.{cardinal, digits}
 
--- the place of the first point, and of the first "e" or "E"; the text's length where there is none
+-- the place of the first point, and of the first "e" or "E"; the text's length if there is none
 abbrev pub pointAt : List ℕ → ℕ
 pointAt s = span (except (code ".")) s
 

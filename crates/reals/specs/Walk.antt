@@ -1,4 +1,4 @@
--- What the walkers of this crate pass on to each other. Definitions only; no public promise is made of them.
+-- What the functions of this crate pass on to each other. Definitions only; no public promise is made of them.
 use mathlib.Core.Bool.{Bool, cond, _||_}
 use mathlib.Core.List.{List, [], _∷_, _++_}
 use Prim.Native.Nat.{ℕ, _+_}
@@ -9,11 +9,11 @@ use Rattle.lists.specs.Bytes.{bytes, startsWith}
 use Rattle.numerals.specs.Words.{Word, other}
 use Rattle.reals.specs.Real.{eAt, pointed}
 
--- a sign leads the text
+-- the text starts with a sign
 abbrev pub startsWithSign : List ℕ → Bool
 startsWithSign s = startsWith (code "-") s || startsWith (code "+") s
 
--- the words that one step says, a sign or the part up to the next "e" and that, and the bytes that it reads
+-- one step says a sign, or else the part up to the next "e", and then "e" if there is one: its words, and how many bytes it reads
 unfoldable pub partWords : List ℕ → List Word
 partWords s =
     cond (startsWith (code "-") s) (other (bytes "minus") ∷ [])

@@ -1,4 +1,4 @@
-// Real numbers: signs, parts between "e", each with a point or none.
+// Real numbers: signs, and parts with "e" between them. A part may have a point.
 use lists::NOT;
 use lists::NOT_E;
 use lists::front;
@@ -20,7 +20,7 @@ ghost use Rattle.numerals.specs.Words.{spelled};
 ghost use Rattle.reals.specs.Real.{pointed, real};
 ghost use Rattle.reals.specs.Walk.{partWords, partSize};
 
-// Says a number without sign and "e".
+// Says a number that has no sign and no "e".
 fn say_pointed(s: &[u8], store: &mut [u8], table: &mut [u8], cursor: Cursor) -> Cursor
     ensures { λ r. ⌜ writer (now (store .exit)) (now (table .exit)) r
         ≡ putWords (spelled (pointed (now (s .entry)))) (writer (now (store .entry)) (now (table .entry)) cursor) ⌝ }
@@ -34,7 +34,7 @@ fn say_pointed(s: &[u8], store: &mut [u8], table: &mut [u8], cursor: Cursor) -> 
     say_digits(tail(s, at + 1), store, table, q)
 }
 
-// Says a leading sign, or the part up to the first "e" and that.
+// Says a leading sign, or else the part up to the first "e", and then "e" if there is one.
 fn say_part(s: &[u8], store: &mut [u8], table: &mut [u8], cursor: Cursor) -> Progress
     ensures { λ r. ⌜ (writer (now (store .exit)) (now (table .exit)) (r .cursor)
         ≡ putWords (spelled (partWords (now (s .entry)))) (writer (now (store .entry)) (now (table .entry)) cursor))

@@ -19,11 +19,12 @@ neither : (b x y : ℕ) → ((b ≡ x) ⊎ (b ≡ y) → ⊥) → elem b (x ∷ 
 unfolding any
 neither b x y n = rw (ne-eqb x b (λ e. n (inl (sym e))), ne-eqb y b (λ e. n (inr (sym e))))
 
--- what the last arm of `letter_value` knows: b is neither letter of each pair
+-- what holds in the last arm of `letter_value`: b is neither letter of any pair
 abbrev Neither : ℕ → List String → Type 0
 Neither b [] = Unit
 Neither b (p ∷ ps) = Neither b ps × ((b ≡ getD (bytes p) 0 0) ⊎ (b ≡ getD (bytes p) 1 0) → ⊥)
 
+-- such a byte has the value 0
 pub no-letter : (b : ℕ) → Neither b ("Mm" ∷ "Dd" ∷ "Cc" ∷ "Ll" ∷ "Xx" ∷ "Vv" ∷ "Ii" ∷ []) → 0 ≡ romanLetterValue b
 unfolding romanLetterValue
 no-letter b (((((((u, i), v), x), l), c), d), m) = rw
@@ -46,7 +47,8 @@ unfolding any maximum
 anyLarger-max v [] = sym (le-ltb v 0 (omega arith))
 anyLarger-max v (w ∷ vs) = rw (anyLarger-max v vs) (ltb-max v w (maximum vs))
 
--- what the loop keeps at i: the bytes from i on are letters, and what their values add, take away and reach at most
+-- what the loop keeps at i: the bytes from i on are roman letters; a is the sum that they add, u the sum that they subtract,
+-- and m the largest of their values
 pub record Summed (s : List ℕ) (i a u m : ℕ) : Type 0 where
   pub within : i ≤ length s
   pub letters : elem 0 (map romanLetterValue (drop i s)) ≡ false
@@ -55,6 +57,7 @@ pub record Summed (s : List ℕ) (i a u m : ℕ) : Type 0 where
   pub most : m ≡ maximum (map romanLetterValue (drop i s))
   pub bound : a + u + 1000 * i ≤ 1000 * length s
 
+-- at the right end nothing is summed yet
 pub summed-none : (s : List ℕ) → Summed s (length s) 0 0 0
 unfolding any sumAdded sumSubtracted maximum
 summed-none s = record { within = omega arith; letters = rw drop-length; adds = rw drop-length; takes = rw drop-length; most = rw drop-length; bound = omega arith }
@@ -71,6 +74,7 @@ rest-of false v = omega arith
 
 -- the letter before i
 module _ (s : List ℕ) (i v : ℕ) (z : 0 < i) (h : i ≤ length s) (e : v ≡ romanLetterValue (getD s (i - 1) 0)) where
+  -- a byte that is no roman letter makes the value 0
   pub foreign : v ≡ 0 → 0 ≡ romanValue s
   unfolding romanValue
   foreign n = rw (foreign-elem s (i - 1) (omega arith) (sym e ∙ n))
@@ -80,6 +84,7 @@ module _ (s : List ℕ) (i v : ℕ) (z : 0 < i) (h : i ≤ length s) (e : v ≡ 
       let n : suc (i - 1) ≡ i = omega arith in
       ap (map romanLetterValue) (drop-cons s (i - 1) 0 (omega arith)) ∙ ap₂ (λ (x k : ℕ). x ∷ map romanLetterValue (drop k s)) (sym e) n
 
+  -- a roman letter is added or subtracted
   pub summed-more : {a u m t n : ℕ} → Summed s i a u m → (v ≡ 0 → ⊥) → v ≤ 1000 → (t ≡ cond (ltb v m) v 0) × (t ≤ v) → n ≡ max v m
       → Summed s (i - 1) (a + (v - t)) (u + t) n
   unfolding any sumAdded sumSubtracted maximum
@@ -94,6 +99,7 @@ module _ (s : List ℕ) (i v : ℕ) (z : 0 < i) (h : i ≤ length s) (e : v ≡ 
         bound = omega (arith, r .bound);
       }
 
+-- at the left end the difference of the sums is the numeral's value
 pub summed-all : (s : List ℕ) (i a u m : ℕ) → Summed s i a u m → i ≤ 0 → a - u ≡ romanValue s
 unfolding romanValue
 summed-all s i a u m r h = let z : i ≡ 0 = omega arith in let q : Summed s 0 a u m = rw z at r in rw (q .letters, q .adds, q .takes)

@@ -1,4 +1,4 @@
--- A standard roman numeral is read as its number; and what gives 0. Assumes nothing.
+-- A standard roman numeral is read as its number; and which texts give 0. Assumes nothing.
 use mathlib.Core.Path.{_≡_, refl, sym, ap, _∙_}
 use mathlib.Core.Bool.{Bool, true, false, cond, _&&_, or-false, or-true, and-eq-true-iff}
 use mathlib.Core.List.{List, [], _∷_, _++_, map, map-append}
@@ -18,17 +18,17 @@ use Rattle.admit.specs.Utf8.{inRange}
 use Rattle.admit.proofs.Scalars.{bounds}
 use Rattle.roman.specs.Roman.{romanLetterValue, anyLarger, sumAdded, sumSubtracted, romanValue, romanThousands, romanHundreds, romanTens, romanOnes, romanDigit, standardNumeral}
 
--- no value is larger than v where each is at most v
+-- no value is larger than v if each is at most v
 none-larger : (v : ℕ) (vs : List ℕ) → Every (λ w. w ≤ v) vs → anyLarger v vs ≡ false
 unfolding any
 none-larger v [] h = refl
 none-larger v (w ∷ vs) h = rw (le-ltb v w (h .0), none-larger v vs (h .1))
 
--- v before x and y, where y has none larger than v
+-- if y has no value larger than v, x alone decides whether a larger one follows v
 anyLarger-append : (v : ℕ) (x y : List ℕ) → Every (λ w. w ≤ v) y → anyLarger v (x ++ y) ≡ anyLarger v x
 anyLarger-append v x y h = any-append (ltb v) x y ∙ rw (none-larger v y h) (or-false (anyLarger v x))
 
--- values of at least m before others of at most m: the sums are those of the parts
+-- values of at least m before others of at most m: the sums of both parts add up
 sums-append : (m : ℕ) (x y : List ℕ) → Every (λ v. m ≤ v) x → Every (λ w. w ≤ m) y → (sumAdded (x ++ y) ≡ sumAdded x + sumAdded y)
     × (sumSubtracted (x ++ y) ≡ sumSubtracted x + sumSubtracted y)
 unfolding sumAdded sumSubtracted
@@ -37,12 +37,12 @@ sums-append m (v ∷ x) y h k =
     let i = sums-append m x y (h .1) k in
     rw (anyLarger-append v x y (every-imply (λ w. w ≤ m) (λ w. w ≤ v) (λ w l. omega arith) y k), i .0, i .1) (omega arith)
 
--- values from lo to hi that come to n
+-- values from lo to hi; what they add is n more than what they subtract
 record ComesTo (lo hi n : ℕ) (vs : List ℕ) : Type 0 where
   sizes : Every (λ v. (lo ≤ v) × (v ≤ hi)) vs
   sum : sumAdded vs ≡ sumSubtracted vs + n
 
--- smaller ones after larger ones come to the sum of both
+-- if smaller values follow larger ones, the numbers that both come to add up
 comes-to-append : {l m h a b : ℕ} {x y : List ℕ} → (l ≤ m) × (m ≤ h) → ComesTo m h a x → ComesTo l m b y → ComesTo l h (a + b) (x ++ y)
 comes-to-append {l} {m} {h} {a} {b} {x} {y} o r q =
     let s = sums-append m x y (every-imply _ _ (λ v k. k .0) x (r .sizes)) (every-imply _ _ (λ v k. k .1) y (q .sizes)) in
@@ -51,7 +51,7 @@ comes-to-append {l} {m} {h} {a} {b} {x} {y} o r q =
       sum = omega (arith, s, r .sum, q .sum);
     }
 
--- a digit of the place `unit`, tested at each numeral of its row
+-- the numerals of one decimal place: a test is computed for each, so each comes to its digit times `unit`
 module _ (lo hi unit : ℕ) (table : List String) where
   digitTest : ℕ → Bool
   digitTest d =
@@ -64,7 +64,7 @@ module _ (lo hi unit : ℕ) (table : List String) where
       let k = and-eq-true-iff (all (inRange lo hi) (map romanLetterValue (romanDigit table d))) _ .0 (below digitTest n t d h) in
       record { sizes = every-tested _ _ (bounds lo hi) _ (k .0); sum = eqb-true _ _ (k .1) }
 
--- no letter is foreign where each value is at least 1, so the numeral's value is what they come to
+-- if each value is at least 1, no letter is foreign, so the numeral's value is the number that they come to
 comes-to-value : (s : List ℕ) (n hi : ℕ) → ComesTo 1 hi n (map romanLetterValue s) → romanValue s ≡ n
 unfolding romanValue any
 comes-to-value s n hi r = rw (no-zero (map romanLetterValue s) (r .sizes)) (omega (arith, r .sum))
@@ -92,11 +92,11 @@ standard-value n h =
 
 -- ---- what gives 0
 
--- where no element passes p, none of a part does
+-- if no element passes p, no element of a part does
 any-split : (p : ℕ → Bool) (n : ℕ) (s : List ℕ) → any p s ≡ false → (any p (take n s) ≡ false) × (any p (drop n s) ≡ false)
 any-split p n s h = or-false-both (any p (take n s)) (any p (drop n s)) (sym (any-append p (take n s) (drop n s)) ∙ ap (any p) (take-append-drop n s) ∙ h)
 
--- a byte that is no letter of a numeral
+-- a byte that is no roman letter has the value 0
 no-roman-letter : (b : ℕ) → elem b (bytes "IiVvXxLlCcDdMm") ≡ false → romanLetterValue b ≡ 0
 unfolding romanLetterValue
 no-roman-letter b h = rw (pair 0, pair 2, pair 4, pair 6, pair 8, pair 10, pair 12)
@@ -112,7 +112,7 @@ pub foreign-zero : (x : List ℕ) (b : ℕ) (y : List ℕ) → elem b (bytes "Ii
 unfolding romanValue any
 foreign-zero x b y h = rw (map-append, any-append, no-roman-letter b h, or-true)
 
--- "below 0 gives 0": the letters that subtract come to as much as the others, or to more
+-- "below 0 gives 0": the letters subtract as much as they add, or more
 pub below-zero : (s : List ℕ) → sumAdded (map romanLetterValue s) ≤ sumSubtracted (map romanLetterValue s) → romanValue s ≡ 0
 unfolding romanValue
 below-zero s h = cond-elim (λ n. n ≡ 0) (elem 0 (map romanLetterValue s)) (λ e. refl) (λ e. omega arith)
@@ -120,7 +120,7 @@ below-zero s h = cond-elim (λ n. n ≡ 0) (elem 0 (map romanLetterValue s)) (λ
 sameValueLowered : ℕ → Bool
 sameValueLowered k = eqb (romanLetterValue (toLower (k + 65))) (romanLetterValue (k + 65))
 
--- a letter has one value in both cases
+-- a letter has the same value in both cases
 letter-value-lower : (b : ℕ) → romanLetterValue (toLower b) ≡ romanLetterValue b
 unfolding sameValueLowered romanLetterValue any
 letter-value-lower b = go (leb 65 b) (leb b 90) refl refl
@@ -134,7 +134,7 @@ letter-value-lower b = go (leb 65 b) (leb b 90) refl refl
     go true false p q = refl
     go false u p q = refl
 
--- so small letters are read as capitals are
+-- so small letters are read like capitals
 pub lower-value : (s : List ℕ) → romanValue (map toLower s) ≡ romanValue s
 unfolding romanValue
 lower-value s = rw (go s)

@@ -7,7 +7,7 @@ use lib.Dec.{ltb}
 use lib.ListN.{getD}
 use Rattle.lists.specs.Bytes.{bytes, any, elem}
 
--- the value of a character, in either case; 0 for a foreign one, each byte of a longer character among them
+-- the value of a roman letter, in either case; 0 for any other byte, and so for each byte of a longer character
 unfoldable pub romanLetterValue : ℕ → ℕ
 romanLetterValue b =
     cond (elem b (bytes "Ii")) 1 (cond (elem b (bytes "Vv")) 5 (cond (elem b (bytes "Xx")) 10 (cond (elem b (bytes "Ll")) 50
@@ -26,11 +26,11 @@ unfoldable pub sumSubtracted : List ℕ → ℕ
 sumSubtracted [] = 0
 sumSubtracted (v ∷ vs) = cond (anyLarger v vs) v 0 + sumSubtracted vs
 
--- "below 0 gives 0; one foreign character gives 0": `-` of numbers stays at 0
+-- "below 0 gives 0; one foreign character gives 0": `-` of natural numbers gives 0 if the result would be below 0
 unfoldable pub romanValue : List ℕ → ℕ
 romanValue s = cond (elem 0 (map romanLetterValue s)) 0 (sumAdded (map romanLetterValue s) - sumSubtracted (map romanLetterValue s))
 
--- ---- the standard numerals: proofs/Standard.antt has that each is read as its number
+-- ---- the standard numerals: proofs/Standard.antt proves that each is read as its number
 
 abbrev pub romanThousands : List String
 romanThousands = "" ∷ "M" ∷ "MM" ∷ "MMM" ∷ []

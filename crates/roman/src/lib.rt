@@ -22,7 +22,7 @@ fn letter_value(b: u8) -> u32
     }
 }
 
-// What v takes away where the largest value after it is `most`.
+// What v subtracts if the largest value after it is `most`.
 fn subtracted(v: u32, most: u32) -> u32
     ensures { λ r. ⌜ (r ≡ cond (ltb v most) v 0) × (r ≤ v) ⌝ }
 {
@@ -35,7 +35,8 @@ fn larger_of(v: u32, most: u32) -> u32
     if v < most { most } else { v }
 }
 
-// The value of a numeral, 0 for another text.
+// The value of a roman numeral; 0 if a byte is no roman letter, or if more is subtracted than added. The length of s must be
+// admitted, at most 65,536 bytes, so that no sum overflows.
 pub fn roman_value(s: &[u8]) -> u32
     requires { ⌜ length (now s) ≤ 65536 ⌝ }
     ensures { λ r. ⌜ r ≡ romanValue (now (s .entry)) ⌝ }

@@ -1,4 +1,4 @@
--- The state that a token leaves tells all that the tests ask of it, so the two forms mark the same tokens. Assumes nothing.
+-- The state after a token has all that the tests ask about the token, so the two forms mark the same tokens. Assumes nothing.
 use mathlib.Core.Path.{_≡_, refl, sym, ap, ap₂, _∙_}
 use mathlib.Core.Bool.{Bool, true, false, _&&_, _||_}
 use mathlib.Core.List.{List, [], _∷_}
@@ -13,7 +13,7 @@ use Rattle.tokens.specs.Tokens.{Token}
 use Rattle.sentences.specs.Sentences.{breakAfter, leftContext, isSentenceBreak, sentenceStartsAfter, sentenceStarts, isSet, flag, fresh, headOf, kept, stateContext, breaks}
 use Rattle.sentences.specs.declared.State.{State}
 
--- a flag says what it was made of
+-- a flag is read as the answer that it was made from
 pub set-flag : (b : Bool) → isSet (flag b) ≡ b
 set-flag true = refl
 set-flag false = refl
@@ -28,7 +28,7 @@ head-five (a ∷ b ∷ c ∷ d ∷ []) h = absurd (omega arith)
 head-five (a ∷ b ∷ c ∷ d ∷ f ∷ []) h = refl
 head-five (a ∷ b ∷ c ∷ d ∷ f ∷ g ∷ s) h = absurd (omega arith)
 
--- the length and the first five bytes tell whether it is a word of five
+-- the length and the first five bytes are enough to compare a name with a word of five bytes
 head-same : (s w : List ℕ) → length w ≡ 5 → (eqb (length s) 5 && sameBy toLower (headOf s) w) ≡ sameBy toLower s w
 head-same s w l = go (eqb (length s) 5) refl
   where
@@ -36,11 +36,11 @@ head-same s w l = go (eqb (length s) 5) refl
     go true e = ap (λ (h : List ℕ). sameBy toLower h w) (head-five s (eqb-true (length s) 5 e))
     go false e = sym (same-long toLower s w (λ k. eqb-false (length s) 5 e (k ∙ l)))
 
--- the state that a token leaves tells all that the tests ask of it
+-- the state after a token has all that the tests ask about the token
 pub context-kept : (t : Token) → stateContext (kept (t .name) (t .punctuation)) ≡ leftContext t
 context-kept t = rw (head-same (t .name) (bytes "yahoo") refl) (simp set-flag)
 
--- so a step from it breaks where a sentence ends between the two tokens
+-- so a step from that state breaks exactly if a sentence ends between the two tokens
 pub breaks-kept : (t u : Token) → breaks (kept (t .name) (t .punctuation)) (u .whitespace) (u .name) ≡ isSentenceBreak t u
 breaks-kept t u = rw context-kept
 
@@ -49,11 +49,13 @@ unfoldable pub sentenceStartsFrom : State → List Token → List Bool
 sentenceStartsFrom s [] = []
 sentenceStartsFrom s (t ∷ ts) = (isSet (s .fresh) || breakAfter (stateContext s) (t .whitespace) (t .name)) ∷ sentenceStartsFrom (kept (t .name) (t .punctuation)) ts
 
+-- from the state after the token t, these are the starts that the whole-text form gives after t
 pub startsFrom-after : (t : Token) (us : List Token) → sentenceStartsFrom (kept (t .name) (t .punctuation)) us ≡ sentenceStartsAfter t us
 unfolding sentenceStartsFrom sentenceStartsAfter
 startsFrom-after t [] = refl
 startsFrom-after t (u ∷ us) = ap₂ _∷_ (breaks-kept t u) (startsFrom-after u us)
 
+-- from a fresh state, these are all the starts that the whole-text form gives
 pub startsFrom-fresh : (ts : List Token) → sentenceStartsFrom fresh ts ≡ sentenceStarts ts
 unfolding sentenceStartsFrom sentenceStarts
 startsFrom-fresh [] = refl

@@ -17,7 +17,7 @@ use Rattle.sentences.specs.declared.State.{State}
 use Rattle.sentences.proofs.Kept.{sentenceStartsFrom, startsFrom-fresh}
 use Rattle.sentences.proofs.Starts.{starts-each}
 
--- the mark of the first token that is left, as the code makes it, and those of the others, which what is kept of it tells
+-- the mark of the first token that is left, as the code makes it, and those of the others, from the state after that token
 pub startsFrom-next : {s : List ℕ} {at : ℕ} {p : Places} → Next s at p → (st : State) {st′ : State} {w m q : List ℕ}
     → w ≡ take (p .prepunctuation - at) (drop at s) → m ≡ take (p .punctuation - p .name) (drop (p .name) s)
     → q ≡ take (p .end - p .punctuation) (drop (p .punctuation) s)
@@ -33,33 +33,36 @@ pub starts-step : (l : List ℕ) (n : ℕ) {x : ℕ} {b : Bool} {ms bs : List Bo
 unfolding flags
 starts-step l n m f k = rw (f, add-one) (ap (λ (xs : List Bool). sets l n (flags xs)) (sym m) ∙ k)
 
--- nothing is left
+-- no token is left
 pub starts-end : (l : List ℕ) (n : ℕ) (st : State) (us : List Token) → us ≡ [] → {z : List ℕ} → sets l n (flags (sentenceStartsFrom st us)) ≡ z → l ≡ z
 unfolding flags sentenceStartsFrom
 starts-end l n st us u k = ap (λ (vs : List Token). sets l n (flags (sentenceStartsFrom st vs))) (sym u) ∙ k
 
--- at the start all is left
+-- at the start all tokens are left
 pub starts-whole : (l s : List ℕ) (st : State) → st ≡ fresh → sets l 0 (flags (sentenceStartsFrom st (tokens s))) ≡ sets l 0 (startBytes s)
 starts-whole l s st e = ap (λ (r : State). sets l 0 (flags (sentenceStartsFrom r (tokens s)))) e
     ∙ ap (λ (bs : List Bool). sets l 0 (flags bs)) (startsFrom-fresh (tokens s))
 
--- a byte for each token
+-- a byte for each answer
 flags-length : (bs : List Bool) → length (flags bs) ≡ length bs
 unfolding flags
 flags-length [] = refl
 flags-length (b ∷ bs) = ap suc (flags-length bs)
 
+-- a byte for each token
 pub starts-length : (s : List ℕ) → length (startBytes s) ≡ length (tokens s)
 starts-length s = flags-length (sentenceStarts (tokens s)) ∙ starts-each (tokens s)
 
 -- ---- a step
 
--- k is the number that the code has for the three texts
+-- k is the refusal number that the code finds for the three texts
 module _ (st : State) (w n p : List ℕ) (k : ℕ) (refusal-eq : k ≡ firstRefusal (stepTests w n p)) where
+  -- the step is refused
   pub step-refused : (k ≡ 0 → ⊥) → asStep (record { refusal = k; breaks = false; state = st }) ≡ stepCall st w n p
   unfolding stepCall
   step-refused z = call-refused _ _ k (firstRefusal (stepTests w n p)) z refusal-eq
 
+  -- the step is accepted
   pub step-done : k ≡ 0 → {b : Bool} {st′ : State} → b ≡ breaks st w n → st′ ≡ kept n p
       → asStep (record { refusal = 0; breaks = b; state = st′ }) ≡ stepCall st w n p
   unfolding stepCall

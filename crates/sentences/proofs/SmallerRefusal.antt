@@ -1,4 +1,4 @@
--- Of several texts the refusal is the smallest that one of them earns. Assumes nothing.
+-- The refusal of several texts is the smallest that one of them gets. Assumes nothing.
 use mathlib.Core.Path.{_≡_, refl, ap, _∙_}
 use mathlib.Core.Bool.{Bool, true, false, cond, _||_}
 use mathlib.Core.List.{List, [], _∷_, _++_}
@@ -9,13 +9,13 @@ use Rattle.lists.proofs.Scan.{any-append}
 use Rattle.admit.specs.Refusals.{refusalNumber, Test, _when_, firstRefusal, textLimit, textTests, textRefusal, inOrder}
 use Rattle.sentences.specs.Calls.{stepTests, smallerRefusal}
 
--- the tests of two lists, each of which holds where it does in one of them
+-- two lists of tests as one list: each test holds if it holds in one of the two
 abbrev eitherHolds : List Test → List Test → List Test
 eitherHolds (r when h ∷ a) (q when k ∷ b) = r when (h || k) ∷ eitherHolds a b
 eitherHolds (r when h ∷ a) [] = []
 eitherHolds [] b = []
 
--- the lists test for the same, by numbers that rise from n
+-- both lists have the same refusal numbers, which rise and are above n
 abbrev SameTests : ℕ → List Test → List Test → Type 0
 SameTests n (r when h ∷ a) (q when k ∷ b) = (n < refusalNumber r) × (refusalNumber r ≡ refusalNumber q) × SameTests (refusalNumber r) a b
 SameTests n (r when h ∷ a) [] = ⊥
@@ -38,7 +38,7 @@ later-refusal n (r when h ∷ a) [] e = absurd e
 later-refusal n [] (q when k ∷ b) e = absurd e
 later-refusal n [] [] e = (λ z. absurd (z refl), λ z. absurd (z refl))
 
--- so n is the first of the two, and of itself
+-- so n is the smaller of n and m, and of n and n
 smaller-first : (n m : ℕ) → 0 < n → LaterRefusal n m → (smallerRefusal n m ≡ n) × (smallerRefusal m n ≡ n) × (smallerRefusal n n ≡ n)
 smaller-first n zero h l = rw (ne-eqb n 0 (λ e. omega arith), le-leb n n (omega arith)) (refl, refl, refl)
 smaller-first n (suc m) h l =
@@ -73,6 +73,7 @@ texts-refusal : (limit : ℕ) (ss ts : List (List ℕ))
 unfolding textTests
 texts-refusal limit ss ts = either-refusal 0 (textTests limit ss) (textTests limit ts) (omega arith, refl, (omega arith, refl, tt)) ∙ simp any-append
 
+-- the code's refusal number for three texts is that of a step's tests
 pub three-texts-refusal : (w n p : List ℕ)
     → smallerRefusal (smallerRefusal (textRefusal textLimit w) (textRefusal textLimit n)) (textRefusal textLimit p) ≡ firstRefusal (stepTests w n p)
 three-texts-refusal w n p =

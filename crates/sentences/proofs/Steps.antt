@@ -1,4 +1,4 @@
--- The step form, fed the tokens of a text, breaks where the whole-text form marks. Assumes nothing.
+-- The step form, fed the tokens of a text, breaks before the tokens that the whole-text form marks, except the first. Assumes nothing.
 use mathlib.Core.Path.{_≡_, refl, ap, ap₂}
 use mathlib.Core.Bool.{Bool, true, false}
 use mathlib.Core.List.{List, [], _∷_, map}
@@ -14,7 +14,7 @@ use Rattle.sentences.specs.declared.State.{State}
 use Rattle.sentences.proofs.Kept.{breaks-kept}
 use Rattle.sentences.proofs.SmallerRefusal.{three-texts-refusal}
 
--- "its first step from a fresh state answers no break": whatever else the state holds, accepted or refused
+-- "its first step from a fresh state answers no break": whatever else the state holds, and whether the step is accepted or refused
 pub fresh-step : (s : State) (w n p : List ℕ) → isSet (s .fresh) ≡ true → stepCall s w n p .value .breaks ≡ false
 unfolding stepCall
 fresh-step s w n p f = go (firstRefusal (stepTests w n p))

@@ -9,7 +9,7 @@ use Rattle.sentences.specs.Sentences.{sentenceStarts, flag, kept, breaks
 use Rattle.sentences.specs.declared.State.{State}
 use Rattle.sentences.specs.declared.Step.{Step}
 
--- a byte for each token: 1 where it starts a sentence, else 0
+-- a byte for each token: 1 if it starts a sentence, else 0
 unfoldable pub flags : List Bool → List ℕ
 flags [] = []
 flags (b ∷ bs) = flag b ∷ flags bs
@@ -38,6 +38,6 @@ asStep r = record { refusal = r .refusal; value = record { breaks = r .breaks; s
 
 -- ---- no public promise is made of this
 
--- of two numbers of refusals the one that is tested first, where 0 is none
+-- of two refusal numbers, the one that is tested first; 0 means no refusal
 abbrev pub smallerRefusal : ℕ → ℕ → ℕ
 smallerRefusal a b = cond (eqb a 0) b (cond (eqb b 0) a (cond (leb a b) a b))

@@ -10,14 +10,14 @@ use Rattle.lists.specs.Classes.{only}
 use Rattle.tokens.specs.Tokens.{Token}
 use Rattle.sentences.specs.declared.State.{State}
 
--- the first and the last byte, 0 where there is none
+-- the first and the last byte; 0 if the text is empty
 abbrev pub firstByte : List ℕ → ℕ
 firstByte s = getD s 0 0
 
 abbrev pub lastByte : List ℕ → ℕ
 lastByte s = getD s (length s - 1) 0
 
--- what the tests ask of the token before
+-- what the tests ask about the token before
 pub record LeftContext : Type 0 where
   pub yahoo : Bool
   pub exclamation : Bool
@@ -27,7 +27,7 @@ pub record LeftContext : Type 0 where
   pub abbreviation : Bool
 
 -- "`is_sentence_break` decides between neighbours; its tests run in the Rust's order, blank line first, then "yahoo". Lengths
--- are bytes." Of the next token they ask its whitespace and its name.
+-- are bytes." The tests look at the whitespace and the name of the next token.
 unfoldable pub breakAfter : LeftContext → List ℕ → List ℕ → Bool
 breakAfter t whitespace name =
     cond (ltb 1 (countIf (only (code "\n")) whitespace)) true
@@ -38,7 +38,7 @@ breakAfter t whitespace name =
     (cond (ltb 1 (length whitespace)) true
     (not (t .abbreviation)))))))
 
--- `looks_like_abbreviation` of the Rust, of a name with this last byte, length and first byte
+-- `looks_like_abbreviation` of the Rust, for a name with the last byte l, the length n and the first byte f
 abbrev pub looksLikeAbbreviation : ℕ → ℕ → ℕ → Bool
 looksLikeAbbreviation l n f = uppercase l || (ltb n 4 && uppercase f)
 
@@ -68,7 +68,7 @@ sentenceStarts (t ∷ ts) = true ∷ sentenceStartsAfter t ts
 
 -- ---- the step form
 
--- a flag: 0 no, else yes; yes is written as 1
+-- a flag: 0 means no, any other byte yes; yes is written as 1
 abbrev pub isSet : ℕ → Bool
 isSet b = not (eqb b 0)
 
@@ -97,7 +97,7 @@ kept name punctuation =
       fresh = 0;
     }
 
--- what the tests ask of the token before, as a state has it
+-- what the tests ask about the token before, read from a state
 abbrev pub stateContext : State → LeftContext
 stateContext s =
     record {

@@ -1,5 +1,5 @@
--- Document 01, "Token table and sentences": the step form fed one token after the other, beside the whole-text form: "The step form
--- breaks before every other token that does", which `steps-tie` says with these. Definitions only.
+-- Document 01, "Token table and sentences": the step form, fed one token after the other. `steps-tie` uses these definitions to say:
+-- "The step form breaks before every other token that does". Definitions only.
 use mathlib.Core.Bool.{Bool, false}
 use mathlib.Core.List.{List, [], _∷_}
 use Rattle.admit.specs.Refusals.{Call}
@@ -16,7 +16,7 @@ unfoldable pub fed : State → List Token → List (Call StepResult)
 fed s [] = []
 fed s (t ∷ ts) = stepOf s t ∷ fed (stepOf s t .value .state) ts
 
--- of a step's answer its number and whether it breaks
+-- a step's refusal number, and whether it breaks
 abbrev pub breakVerdict : Call StepResult → Call Bool
 breakVerdict r = record { refusal = r .refusal; value = r .value .breaks }
 
@@ -24,7 +24,7 @@ breakVerdict r = record { refusal = r .refusal; value = r .value .breaks }
 abbrev pub acceptedStep : Bool → Call Bool
 acceptedStep b = record { refusal = 0; value = b }
 
--- the marks, with none at the first token
+-- the same answers, with no for the first token
 unfoldable pub butFirst : List Bool → List Bool
 butFirst [] = []
 butFirst (b ∷ bs) = false ∷ bs

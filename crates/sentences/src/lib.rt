@@ -25,7 +25,7 @@ ghost use Rattle.tokens.specs.Table.{tokensCall, asTokens};
 ghost use Rattle.sentences.specs.Sentences.{breakAfter, isSet, flag, fresh, headOf, kept, stateContext, breaks};
 ghost use Rattle.sentences.specs.Calls.{startBytes, stepTests, stepCall, asStep, smallerRefusal};
 
-// What is kept of the last token: its name's length, first five bytes (0 past its end) and last byte (0 where it is empty), and
+// What is kept of the last token: its name's length, first five bytes (0 past its end) and last byte (0 if it is empty), and
 // whether its punctuation has each of . : ? and !. A flag is 0 for no and any other byte for yes.
 #[repr(C)]
 pub struct State {
@@ -90,7 +90,7 @@ fn head_of(s: &[u8]) -> [u8; 5]
     [a, b, c, d, e]
 }
 
-// Of two numbers of refusals the one that is tested first, where 0 is none.
+// Of two refusal numbers, the one that is tested first. 0 means no refusal.
 fn smaller_refusal(a: u8, b: u8) -> u8
     ensures { λ r. ⌜ r ≡ smallerRefusal a b ⌝ }
 {
@@ -119,7 +119,7 @@ impl State {
         }
     }
 
-    // A step: the token is whitespace, name and punctuation.
+    // One step. The token is given as whitespace, name and punctuation.
     pub fn push(self, whitespace: &[u8], name: &[u8], punctuation: &[u8]) -> Step
         ensures { λ r. ⌜ asStep r ≡ stepCall self (now (whitespace .entry)) (now (name .entry)) (now (punctuation .entry)) ⌝ }
     {
@@ -179,7 +179,7 @@ fn is_sentence_break(state: State, whitespace: &[u8], name: &[u8]) -> bool
         return true;
     }
     let first = byte_at(name, 0);
-    // The one name after which an exclamation mark may go on.
+    // After this one name, an exclamation mark does not end the sentence if a small letter follows.
     if state.is_yahoo() & is_set(state.exclamation) & is_lowercase(first) {
         return false;
     }
@@ -192,14 +192,14 @@ fn is_sentence_break(state: State, whitespace: &[u8], name: &[u8]) -> bool
     if !is_uppercase(first) {
         return false;
     }
-    // After a point more than one byte of whitespace decides, whatever the name before it looks like.
+    // After a point, more than one byte of whitespace ends the sentence, even if the name before it looks like an abbreviation.
     if 1 < whitespace.len() {
         return true;
     }
     !state.looks_like_abbreviation()
 }
 
-// The number of the refusal that the three texts of a step earn.
+// The number of the first refusal that any of the three texts of a step gets, or 0.
 fn refusal_of_step(whitespace: &[u8], name: &[u8], punctuation: &[u8]) -> u8
     ensures { λ r. ⌜ r ≡ firstRefusal (stepTests (now (whitespace .entry)) (now (name .entry)) (now (punctuation .entry))) ⌝ }
 {
@@ -207,7 +207,7 @@ fn refusal_of_step(whitespace: &[u8], name: &[u8], punctuation: &[u8]) -> u8
     smaller_refusal(two, refusal_of(punctuation))
 }
 
-// Whether a token starts a sentence after those that the state was fed.
+// Whether a token starts a sentence, after the tokens that the state was fed.
 pub fn starts_sentence(state: State, whitespace: &[u8], name: &[u8]) -> bool
     ensures { λ r. ⌜ r ≡ (isSet (state .fresh) || breakAfter (stateContext state) (now (whitespace .entry)) (now (name .entry))) ⌝ }
 {
@@ -221,7 +221,7 @@ fn start_flag(state: State, whitespace: &[u8], name: &[u8]) -> u8
     flag(starts_sentence(state, whitespace, name))
 }
 
-// Writes a byte for each token, and answers how many there are.
+// Writes a flag for each token, whether it starts a sentence, and answers how many tokens there are.
 fn write_starts(s: &[u8], starts: &mut [u8]) -> usize
     requires { ⌜ length (tokens (now s)) ≤ length (now starts) ⌝ }
     ensures { λ r. ⌜ (r ≡ length (tokens (now (s .entry)))) × (now (starts .exit) ≡ sets (now (starts .entry)) 0 (startBytes (now (s .entry)))) ⌝ }
@@ -243,7 +243,7 @@ fn write_starts(s: &[u8], starts: &mut [u8]) -> usize
     n
 }
 
-// For each token of s whether it starts a sentence.
+// Writes for each token of s whether it starts a sentence.
 pub fn sentences(s: &[u8], starts: &mut [u8]) -> Tokens
     ensures { λ r. ⌜ asTokens r (now (starts .exit)) ≡ tokensCall (now (s .entry)) (startBytes (now (s .entry))) (now (starts .entry)) ⌝ }
 {

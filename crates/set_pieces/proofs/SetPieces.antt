@@ -13,10 +13,12 @@ use Rattle.roman.specs.Roman.{romanLetterValue, sumAdded, sumSubtracted, romanV
 use Rattle.tokens.specs.Tokens.{cut, tokensStep, tokens}
 use Rattle.set_pieces.specs.SetPieces.{setPieces, readingCorners, sameTexts, pieceHolds}
 
+-- the starred set pieces of document 01 hold
 pub set-pieces : T (all pieceHolds setPieces)
 unfolding sameBy split onto nonEmpty span filterIf any recur recurAt unfoldVocabulary spell spelled digitValues pairWords joinAtScale byScale cardinalStep shortCardinal cardinalOf cardinal digits formIn ordinalForm orZero onLast ordinal yearStep yearOf year pointed realStep real romanLetterValue sumAdded sumSubtracted romanValue flatMap all afterLast cut tokensStep tokens setPieces sameTexts pieceHolds
 set-pieces = tt
 
+-- the corners hold
 pub reading-corners : T (all pieceHolds readingCorners)
 unfolding sameBy split onto nonEmpty span filterIf any recur recurAt unfoldVocabulary spell spelled digitValues pairWords joinAtScale byScale cardinalStep shortCardinal cardinalOf cardinal digits formIn ordinalForm orZero onLast ordinal yearStep yearOf year pointed realStep real romanLetterValue sumAdded sumSubtracted romanValue flatMap all afterLast cut tokensStep tokens readingCorners sameTexts pieceHolds
 reading-corners = tt

@@ -14,7 +14,7 @@ use Rattle.reals.specs.Real.{real}
 use Rattle.roman.specs.Roman.{romanValue}
 use Rattle.tokens.specs.Tokens.{tokens, tokenParts}
 
--- a reading of a text, and the words that it gives; a value of a text, and that value; a text of one token, and that token's
+-- three kinds: a reading, a text and its words; a function, a text and its value; a text of one token, and that token's
 -- whitespace, prepunctuation, name and punctuation
 pub data SetPiece : Type 0 where
   reads-as : (List ℕ → List Word) → String → String → SetPiece
@@ -38,7 +38,7 @@ setPieces =
     ∷ has-parts "?!" "" "" "?" "!"
     ∷ []
 
--- and corners of the Rust that none of them shows
+-- corners of the Rust that no set piece shows
 unfoldable pub readingCorners : List SetPiece
 readingCorners =
     reads-as year "00" "zero zero"
@@ -58,7 +58,7 @@ sameTexts [] (t ∷ ts) = false
 sameTexts (s ∷ ss) [] = false
 sameTexts (s ∷ ss) (t ∷ ts) = same s t && sameTexts ss ts
 
--- what stands between spaces is a word
+-- whether a set piece holds; its words are written with spaces between them
 unfoldable pub pieceHolds : SetPiece → Bool
 pieceHolds (reads-as f s t) = sameTexts (spelled (f (bytes s))) (nonEmpty (split (code " ") (bytes t)))
 pieceHolds (has-value f s n) = eqb (f (bytes s)) n

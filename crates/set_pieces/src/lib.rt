@@ -1,1 +1,1 @@
-// The set pieces of document 01, proved of the definitions in specs/ and proofs/. There is no code.
+// The set pieces of document 01: specs/ states them, and proofs/ proves them. There is no code.

@@ -1,4 +1,4 @@
--- What a call answers that fills a buffer by tokens. Assumes nothing.
+-- The answer of a call that fills a buffer token by token. Assumes nothing.
 use mathlib.Core.Path.{_≡_, sym, _∙_, refl}
 use mathlib.Core.Bool.{Bool, true, false}
 use mathlib.Core.Logic.{⊎-elim}
@@ -18,12 +18,13 @@ use Rattle.tokens.specs.Tokens.{tokens}
 use Rattle.tokens.specs.Table.{recordSize, records, tokensCall, asTokens, tokensTests}
 use Rattle.tokens.proofs.Records.{records-length}
 
--- whether so many records fit
+-- whether n records fit in `len` bytes
 records-fit : (len n : ℕ) → ltb len (recordSize * n) ≡ ltb (len / recordSize) n
 records-fit len n =
     ⊎-elim (λ (h : recordSize * n ≤ len). le-ltb _ _ h ∙ sym (le-ltb (len / recordSize) n (omega arith)))
     (λ (h : len < recordSize * n). lt-ltb _ _ h ∙ sym (lt-ltb (len / recordSize) n (omega arith))) (le-or-lt (recordSize * n) len)
 
+-- a table is too short for the records exactly if it has room for fewer records than there are tokens
 pub records-short : (s old : List ℕ) → ltb (length old) (length (records 0 (tokens s))) ≡ ltb (length old / recordSize) (length (tokens s))
 records-short s old = rw (records-length 0 (tokens s)) (records-fit (length old) (length (tokens s)))
 
@@ -32,11 +33,12 @@ pub tokensCall-in-order : (s result old : List ℕ) → inOrder (tokensTests s r
 unfolding textTests
 tokensCall-in-order s result old = refl
 
--- a call that answers 0 has passed its tests, and gives what an accepted one does
+-- a call that answers 0 has passed its tests, and gives the result
 accepted-given : {A : Type 0} (nothing given : A) (n : ℕ) → call nothing n given .refusal ≡ 0 → (n ≡ 0) × (call nothing n given .value ≡ given)
 accepted-given nothing given zero h = (refl, refl)
 accepted-given nothing given (suc n) h = absurd (omega arith)
 
+-- if the call is accepted, so is the text, and the result is written over the buffer
 pub tokensCall-accepted : (s result old : List ℕ) → tokensCall s result old .refusal ≡ 0
     → (textRefusal textLimit s ≡ 0) × (tokensCall s result old .value ≡ record { tokens = length (tokens s); buffer = overwrite result old })
 unfolding tokensCall
@@ -55,14 +57,17 @@ module _ (s result old : List ℕ) (n : ℕ) (refusal-eq : n ≡ textRefusal tex
   abbrev room : List Test
   room = BufferTooShort when isShort ∷ []
 
+  -- the text is refused
   pub fill-refused : (n ≡ 0 → ⊥) → asTokens (record { refusal = n; tokens = 0 }) old ≡ tokensCall s result old
   unfolding tokensCall
   fill-refused z = refused-first text room refusal-eq _ _ z
 
+  -- the buffer is too short
   pub fill-short : n ≡ 0 → isShort ≡ true → asTokens (record { refusal = 5; tokens = 0 }) old ≡ tokensCall s result old
   unfolding tokensCall
   fill-short z t = rw (passed-first text room refusal-eq z, t)
 
+  -- the result is written
   pub fill-done : n ≡ 0 → isShort ≡ false → {k : ℕ} {new : List ℕ} → k ≡ length (tokens s) → new ≡ sets old 0 result
       → asTokens (record { refusal = 0; tokens = k }) new ≡ tokensCall s result old
   unfolding tokensCall

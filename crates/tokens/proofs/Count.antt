@@ -14,7 +14,7 @@ use Rattle.lists.proofs.Scan.{all-span, span-short, span-fails}
 use Rattle.tokens.specs.Tokens.{afterWhitespace, afterRun, tokens}
 use Rattle.tokens.proofs.Forward.{tokens-none, tokens-more, tokens-induct}
 
--- the starts of runs; `white` says that whitespace or nothing stands before the text
+-- how many runs start in a text; `white` says that whitespace or nothing stands before it
 unfoldable pub runStarts : Bool → List ℕ → ℕ
 runStarts white [] = 0
 runStarts white (b ∷ s) = cond (white && not (whitespace b)) 1 0 + runStarts (whitespace b) s
@@ -55,18 +55,20 @@ runs-none : (s : List ℕ) → all whitespace s ≡ true → runStarts true s �
 unfolding runStarts
 runs-none s h = runs-white s ∙ ap (λ (k : ℕ). runStarts true (drop k s)) (all-span whitespace s h) ∙ ap (runStarts true) (drop-length s)
 
+-- a text has as many tokens as starts of runs
 pub runs-tokens : (s : List ℕ) → runStarts true s ≡ length (tokens s)
 runs-tokens =
     tokens-induct (λ (s : List ℕ). runStarts true s ≡ length (tokens s))
     (λ s e. runs-none s e ∙ rw (tokens-none s e))
     (λ s e i. runs-more s e ∙ ap suc i ∙ rw (tokens-more s e))
 
--- what the count keeps
+-- one step of the loop: n is the count so far
 pub runs-on : (white : Bool) (s : List ℕ) (i n : ℕ) → i < length s
     → n + runStarts white (drop i s) ≡ (n + cond (white && not (whitespace (getD s i 0))) 1 0) + runStarts (whitespace (getD s i 0)) (drop (i + 1) s)
 unfolding runStarts
 runs-on white s i n h = rw (add-one, drop-cons s i 0) (omega arith)
 
+-- at the end nothing more is counted
 pub runs-end : (white : Bool) (s : List ℕ) (i n : ℕ) → length s ≤ i → n + runStarts white (drop i s) ≡ n
 unfolding runStarts
 runs-end white s i n h = rw (drop-of-length-le s {i = i} h) (omega arith)
@@ -82,5 +84,6 @@ runs-bound (b ∷ s) = go (whitespace b) (runs-bound s)
     go true i = (omega arith, omega arith)
     go false i = (omega arith, omega arith)
 
+-- so a text of n bytes has at most (n + 1) / 2 tokens
 pub tokens-bound : (s : List ℕ) → 2 * length (tokens s) ≤ length s + 1
 tokens-bound s = omega (arith, runs-tokens s, runs-bound s .0)

@@ -29,12 +29,12 @@ cut-marks run m e h =
       record { name = omega arith; punctuation = rw r (omega arith); within = omega arith },
     )
 
--- how much of some bytes is the name, as the code finds it
+-- the length of the name, as the code finds it
 name-size : (s : List ℕ) → 0 < length s → nameSize s ≡ suc (afterLast nonPostpunctuation (drop 1 s))
 name-size [] h = absurd (omega arith)
 name-size (b ∷ s) h = refl
 
--- another one
+-- any other run
 pub cut-named : (run : List ℕ) (ends : Bool) (m k : ℕ) → m ≡ span prepunctuationMark run → (m ≡ length run → ⊥)
     → k ≡ afterLast nonPostpunctuation (drop (m + 1) run) → CutAt run ends m ((m + 1) + k)
 unfolding cut
@@ -54,7 +54,7 @@ cut-named run ends m k e h q =
     go true x = absurd (h (e ∙ all-span prepunctuationMark run x))
     go false x = x
 
--- the places of a token whose run is cut so
+-- the places of a token, by the places of the cut in its run
 pub cut-places : (at : ℕ) (w run : List ℕ) (ends : Bool) (n p : ℕ) → CutAt run ends n p
     → record {
       whitespace = at;
@@ -110,6 +110,7 @@ module _ (s : List ℕ) (at q m r : ℕ) (eq : q ≡ span whitespace (drop at s)
   run-takeWhile : run ≡ takeWhile nonWhitespace (afterWhitespace (drop at s))
   run-takeWhile = run-take ∙ ap (λ (d : List ℕ). takeWhile nonWhitespace d) run-white
 
+  -- the run starts with m leading marks
   pub run-marks : m ≡ span prepunctuationMark run
   run-marks = em ∙ sym (ap (span prepunctuationMark) run-take ∙ span-takeWhile prepunctuationMark nonWhitespace marks-nonWhitespace (drop (at + q) s))
 
@@ -122,13 +123,14 @@ module _ (s : List ℕ) (at q m r : ℕ) (eq : q ≡ span whitespace (drop at s)
       (⊎-elim (λ (h : length s ≤ end). le-leb _ _ h ∙ sym (eq-eqb (length s - end) 0 (omega arith)))
       (λ (h : end < length s). lt-leb _ _ h ∙ sym (ne-eqb (length s - end) 0 (λ z. omega arith))) (le-or-lt (length s) end))
 
-  -- no sum of the places is too large
+  -- the run does not end past the text's end, or past `at` if that is larger, so no sum of the places is too large
   pub run-within : end ≤ at + (length s - at)
   run-within =
       let a : span whitespace (drop at s) ≤ length s - at = rw length-drop at (span-le whitespace (drop at s)) in
       let b : span nonWhitespace (drop (at + q) s) ≤ length s - (at + q) = rw length-drop at (span-le nonWhitespace (drop (at + q) s)) in
       omega (arith, run-size)
 
+  -- the cut falls within the run
   pub run-fits : (ends : Bool) (n p : ℕ) → CutAt run ends n p → (n ≤ m + r) × (p ≤ m + r)
   run-fits ends n p c =
       let l : length run ≤ m + r = simp length-take (omega arith) in
@@ -136,6 +138,7 @@ module _ (s : List ℕ) (at q m r : ℕ) (eq : q ≡ span whitespace (drop at s)
       let b : p ≡ n + length (cut [] run ends .name) = c .punctuation in
       (omega arith, omega arith)
 
+  -- the places that the code finds are those of the first token
   pub first-places : (n p : ℕ) → CutAt run (leb (length s) end) n p
       → record { whitespace = at; prepunctuation = at + q; name = at + q + n; punctuation = at + q + p; end = end } ≡ placesOf at (firstToken (drop at s))
   first-places n p c =

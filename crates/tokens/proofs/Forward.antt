@@ -1,4 +1,4 @@
--- The tokens of a text from its front, and how a token's parts make up what it took. Assumes nothing.
+-- The tokens of a text from its front; a token's parts, joined, are the bytes that it takes. Assumes nothing.
 use mathlib.Core.Path.{_≡_, refl, sym, ap, ap₂, _∙_}
 use mathlib.Core.Bool.{Bool, true, false, cond, _&&_}
 use mathlib.Core.List.{List, [], _∷_, _++_, append-nil, flatten}
@@ -16,7 +16,7 @@ use Rattle.lists.proofs.Scan.{span-le, span-short, span-fails, span-some}
 use Rattle.tokens.specs.Tokens.{Token, peel, nameSize, cut, afterWhitespace, afterRun, firstToken, tokensStep, tokens, tokenParts}
 use Rattle.tokens.specs.Table.{tokenSize}
 
--- after the whitespace a run follows, where the text is not whitespace alone
+-- a run follows the whitespace if the text is not whitespace alone
 pub run-some : (s : List ℕ) → all whitespace s ≡ false → 0 < span nonWhitespace (afterWhitespace s)
 run-some s h =
     let n : span whitespace s < length s = span-short whitespace s h in
@@ -51,7 +51,7 @@ tokens-eq : (s : List ℕ) → tokens s ≡ tokensStep tokens s
 unfolding tokens
 tokens-eq s = recur-eq [] tokensStep tokens-local s
 
--- nothing but whitespace is left
+-- a text of whitespace alone has no tokens
 pub tokens-none : (s : List ℕ) → all whitespace s ≡ true → tokens s ≡ []
 unfolding tokensStep
 tokens-none s h = tokens-eq s ∙ rw h
@@ -61,7 +61,7 @@ pub tokens-more : (s : List ℕ) → all whitespace s ≡ false → tokens s ≡
 unfolding tokensStep
 tokens-more s h = tokens-eq s ∙ rw h
 
--- a run's parts are joined behind its whitespace
+-- a token's parts, joined, are its whitespace and its run
 pub cut-joined : (white run : List ℕ) (ends : Bool) → flatten (tokenParts (cut white run ends)) ≡ white ++ run
 unfolding cut flatten
 cut-joined white run ends = go (ends && all prepunctuationMark run)
@@ -77,23 +77,26 @@ cut-joined white run ends = go (ends && all prepunctuationMark run)
         ∙ ap (λ (r : List ℕ). white ++ (takeWhile prepunctuationMark run ++ r)) (take-append-drop (nameSize rest) rest)
         ∙ ap (λ (r : List ℕ). white ++ r) (take-append-drop (span prepunctuationMark run) run)
 
--- the bytes of a token's parts
+-- the length of a token is the sum of its parts' lengths
 pub size-parts : (t : Token) → length (flatten (tokenParts t)) ≡ length (t .whitespace) + (length (t .prepunctuation) + (length (t .name) + length (t .punctuation)))
 unfolding flatten
 size-parts t = simp (length-append, append-nil) refl
 
--- the bytes that the first token takes
+-- how many bytes the first token takes
 abbrev pub firstSize : List ℕ → ℕ
 firstSize s = span whitespace s + span nonWhitespace (afterWhitespace s)
 
+-- what follows the first token starts after these bytes
 pub afterRun-drop : (s : List ℕ) → afterRun s ≡ drop (firstSize s) s
 afterRun-drop s = drop-drop (span nonWhitespace (afterWhitespace s)) (span whitespace s) s
 
+-- the first token's parts, joined, are these bytes
 pub first-take : (s : List ℕ) → flatten (tokenParts (firstToken s)) ≡ take (firstSize s) s
 first-take s =
     cut-joined (takeWhile whitespace s) (takeWhile nonWhitespace (afterWhitespace s)) (eqb (length (afterRun s)) 0)
     ∙ sym (take-add (span whitespace s) (span nonWhitespace (afterWhitespace s)) s)
 
+-- so this is the first token's size
 pub first-size : (s : List ℕ) → tokenSize (firstToken s) ≡ firstSize s
 first-size s =
     let a = span-le whitespace s in
@@ -104,7 +107,7 @@ first-size s =
 pub first-joined : (s : List ℕ) → flatten (tokenParts (firstToken s)) ++ afterRun s ≡ s
 first-joined s = ap₂ (λ (x y : List ℕ). x ++ y) (first-take s) (afterRun-drop s) ∙ take-append-drop (firstSize s) s
 
--- the whitespace before a run has no say in its cut
+-- the whitespace before a run does not change how the run is cut
 pub cut-white : (w run : List ℕ) (ends : Bool)
     → cut w run ends
     ≡ record { whitespace = w; prepunctuation = cut [] run ends .prepunctuation; name = cut [] run ends .name; punctuation = cut [] run ends .punctuation }

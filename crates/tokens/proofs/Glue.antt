@@ -1,4 +1,4 @@
--- The tokens of a text behind another, where whitespace stands between them. Assumes nothing.
+-- The tokens of two texts, one after the other, with whitespace between them. Assumes nothing.
 use mathlib.Core.Path.{_≡_, refl, sym, ap, ap₂, _∙_}
 use mathlib.Core.Bool.{Bool, true, false, not, _&&_}
 use mathlib.Core.List.{List, [], _∷_, _++_}
@@ -26,15 +26,15 @@ widen w [] = []
 widen w (t ∷ ts) =
     record { whitespace = w ++ t .whitespace; prepunctuation = t .prepunctuation; name = t .name; punctuation = t .punctuation } ∷ ts
 
--- the run that ends a text, empty where whitespace ends it
+-- the run at the end of a text; empty if the text ends in whitespace
 abbrev pub lastRun : List ℕ → List ℕ
 lastRun s = drop (afterLast whitespace s) s
 
--- a text that ends in a run made wholly of leading marks: its last token is cut otherwise where whitespace follows
+-- the text ends in a run wholly of leading marks. Its last token is cut differently if whitespace follows
 unfoldable pub endsInPrepunctuation : List ℕ → Bool
 endsInPrepunctuation s = not (eqb (length (lastRun s)) 0) && all prepunctuationMark (lastRun s)
 
--- a token's cut looks at the text's end only where its run is wholly leading marks
+-- a run that is not wholly of leading marks is cut in the same way, whether the text ends there or not
 pub cut-alike : (white run : List ℕ) → all prepunctuationMark run ≡ false → cut white run true ≡ cut white run false
 unfolding cut
 cut-alike white run h = rw h
@@ -72,7 +72,7 @@ tokens-white w s h = go (all whitespace s) refl
         ∙ cut-widen w (takeWhile whitespace s) (takeWhile nonWhitespace (afterWhitespace s)) (eqb (length (afterRun s)) 0) (tokens (afterRun s))
         ∙ ap (widen w) (sym (tokens-more s e))
 
--- the first token of a text with whitespace behind it
+-- the first token of a text with whitespace after it
 tokens-front : (a : List ℕ) (c : ℕ) (y : List ℕ) → whitespace c ≡ true → all whitespace a ≡ false
     → tokens (a ++ c ∷ y) ≡ cut (takeWhile whitespace a) (takeWhile nonWhitespace (afterWhitespace a)) false ∷ tokens (afterRun a ++ c ∷ y)
 tokens-front a c y w h =
@@ -87,18 +87,18 @@ tokens-front a c y w h =
     let g : eqb (length (afterRun a ++ z)) 0 ≡ false = rw (length-append (afterRun a) z) (ne-eqb (length (afterRun a) + suc (length y)) 0 (omega arith)) in
     tokens-more (a ++ z) (all-append whitespace a z ∙ rw h) ∙ rw (l, d, r, f, g)
 
--- what follows the last byte that passes p, with the first token taken off
+-- what follows the last byte that passes p is the same after the first token is taken off
 tail-alike : (p : ℕ → Bool) (s : List ℕ) → afterLast p s ≡ firstSize s + afterLast p (afterRun s)
     → drop (afterLast p s) s ≡ drop (afterLast p (afterRun s)) (afterRun s)
 tail-alike p s e = rw e (sym (drop-drop (afterLast p (afterRun s)) (firstSize s) s) ∙ ap (drop (afterLast p (afterRun s))) (sym (afterRun-drop s)))
 
--- whitespace behind whitespace
+-- whitespace after whitespace
 none-behind : (a : List ℕ) (c : ℕ) → whitespace c ≡ true → all whitespace a ≡ true → tokens (a ++ c ∷ []) ≡ []
 unfolding all
 none-behind a c w h = tokens-none (a ++ c ∷ []) (all-append whitespace a (c ∷ []) ∙ rw (h, w))
 
--- a text behind another, with whitespace between: the first one's tokens as they are cut where whitespace follows, and the
--- second one's with the first one's trailing whitespace before them
+-- a text after another, with whitespace between them: the tokens of the first, as they are cut if whitespace follows, and then
+-- those of the second, with the first one's trailing whitespace before them
 pub tokens-glue : (a : List ℕ) (c : ℕ) (y : List ℕ) → whitespace c ≡ true
     → tokens (a ++ c ∷ y) ≡ tokens (a ++ c ∷ []) ++ widen (trailingWhitespace a) (tokens (c ∷ y))
 tokens-glue a c y w =
@@ -111,7 +111,7 @@ tokens-glue a c y w =
 run-closed : (s : List ℕ) → 0 < length (afterRun s) → 0 < afterLast whitespace (afterRun s)
 run-closed s h = omega (arith, last-span whitespace (afterRun s), run-stops s h)
 
--- the first run is the last one where nothing follows it
+-- the first run is the last one if nothing follows it
 last-run : (s : List ℕ) → length (afterRun s) ≡ 0 → lastRun s ≡ takeWhile nonWhitespace (afterWhitespace s)
 last-run s h =
     let x : List ℕ = afterWhitespace s in
@@ -119,14 +119,14 @@ last-run s h =
     let z : afterLast whitespace x ≡ 0 = last-none whitespace nonWhitespace (λ b. not-true (whitespace b)) x (rw t at (span-all nonWhitespace x)) in
     ap (λ (k : ℕ). drop k s) (last-span whitespace s ∙ ap (λ (k : ℕ). span whitespace s + k) z ∙ add-zero (span whitespace s)) ∙ sym t
 
--- and where something does, the last run is in that
+-- if something follows the first run, the last run is in it
 later-run : (s : List ℕ) → 0 < length (afterRun s) → lastRun s ≡ lastRun (afterRun s)
 later-run s h =
     let d : afterRun s ≡ drop (firstSize s) s = afterRun-drop s in
     let q : 0 < afterLast whitespace (drop (firstSize s) s) = rw d at (run-closed s h) in
     tail-alike whitespace s (last-drop whitespace s (firstSize s) q ∙ ap (λ (t : List ℕ). firstSize s + afterLast whitespace t) (sym d))
 
--- the first text's tokens are its own where it has no open end
+-- if a text does not end in a run wholly of leading marks, whitespace after it leaves its tokens as they are
 pub tokens-closed : (a : List ℕ) (c : ℕ) → whitespace c ≡ true → endsInPrepunctuation a ≡ false → tokens (a ++ c ∷ []) ≡ tokens a
 unfolding endsInPrepunctuation all
 tokens-closed a c w =

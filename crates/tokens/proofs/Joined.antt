@@ -1,5 +1,5 @@
--- What a caller reads from the token table: each part is where its pair says, each pair starts where the one before it ends, and
--- joined, the pairs give the text less its trailing whitespace. Assumes nothing.
+-- What a caller reads from the token table. Each part is where its pair says. Each pair starts where the one before it ends.
+-- Joined, the pairs give the text less its trailing whitespace. Assumes nothing.
 use mathlib.Core.Path.{_≡_, refl, sym, ap, ap₂, _∙_}
 use mathlib.Core.Bool.{true, false}
 use mathlib.Core.Logic.{⊎-elim}
@@ -23,10 +23,11 @@ use Rattle.tokens.specs.Table.{tokenSize, recordOf, records, pairsJoined
 use Rattle.tokens.proofs.Forward.{firstSize, afterRun-drop, first-take, run-some, tokens-none, tokens-more, tokens-induct}
 use Rattle.tokens.proofs.Answers.{tokensCall-accepted}
 
--- where a text's trailing whitespace starts
+-- in a text of whitespace alone, the trailing whitespace starts at 0
 pub last-white : (s : List ℕ) → all whitespace s ≡ true → afterLast nonWhitespace s ≡ 0
 last-white s h = last-none nonWhitespace whitespace (λ b e. rw e) s h
 
+-- in any other text, it is the trailing whitespace of what follows the first token
 pub last-first : (s : List ℕ) → all whitespace s ≡ false → afterLast nonWhitespace s ≡ firstSize s + afterLast nonWhitespace (afterRun s)
 last-first s h =
     let r = run-some s h in
@@ -36,17 +37,18 @@ last-first s h =
 
 -- ---- several texts, one after the other
 
+-- two lists of texts, joined
 pub flatten-append : (xs ys : List (List ℕ)) → flatten (xs ++ ys) ≡ flatten xs ++ flatten ys
 unfolding flatten
 flatten-append [] ys = refl
 flatten-append (x ∷ xs) ys = rw (flatten-append xs ys) (sym (append-assoc x (flatten xs) (flatten ys)))
 
--- what stands before one of them, it, and what stands after it
+-- the texts before text k, text k itself, and the texts after it
 pub flatten-at : (ws : List (List ℕ)) (k : ℕ) → k < length ws → flatten ws ≡ flatten (take k ws) ++ (getD ws k [] ++ flatten (drop (suc k) ws))
 unfolding flatten
 flatten-at ws k h = ap flatten (split-at ws k [] h) ∙ flatten-append (take k ws) (getD ws k [] ∷ drop (suc k) ws)
 
--- those up to one of them
+-- the texts up to text k
 flatten-suc : (ws : List (List ℕ)) (k : ℕ) → k < length ws → flatten (take (suc k) ws) ≡ flatten (take k ws) ++ getD ws k []
 unfolding flatten
 flatten-suc ws k h = rw (take-suc ws k [] h, flatten-append, append-nil)
@@ -58,14 +60,14 @@ table-append at (x ∷ xs) ys =
     rw (table-append (at + length x) xs ys, length-append x (flatten xs), ← add-assoc at (length x) (length (flatten xs)))
     (sym (append-assoc (pairOf at (length x)) (tableOf (at + length x) xs) (tableOf (at + length x + length (flatten xs)) ys)))
 
--- ---- the pairs of a table of texts that are below 4 GiB together; u stands past it
+-- ---- the pairs of a table of texts that have less than 4 GiB together; u is what follows the table
 
 module _ (ws : List (List ℕ)) (u : List ℕ) (below : length (flatten ws) < 256 ^ 4) where
-  -- its pair k: the text k starts where those before it end, and has its length
+  -- pair k says where text k starts, which is where those before it end, and its length
   pair-at : (k : ℕ) → k < length ws → PairIs 0 ws (tableOf 0 ws ++ u) k
   pair-at k h = pair-from 0 ws u k h (omega arith)
 
-  -- those that the first n pairs name, joined
+  -- the texts that the first n pairs name, joined
   words-joined : (z : List ℕ) (n : ℕ) → n ≤ length ws → pairsJoined n (tableOf 0 ws ++ u) (flatten ws ++ z) ≡ flatten (take n ws)
   unfolding flatten
   words-joined z zero h = refl
@@ -87,7 +89,7 @@ tokens-joined =
     rw (tokens-more s h, last-first s h, take-add (firstSize s), ← afterRun-drop s, flatten-append, i)
     (ap (λ (x : List ℕ). x ++ take (afterLast nonWhitespace (afterRun s)) (afterRun s)) (first-take s)))
 
--- the records are one table of all parts
+-- the records of the tokens are one table of all their parts
 pub records-table : (at : ℕ) (ts : List Token) → records at ts ≡ tableOf at (allParts ts)
 unfolding records recordOf flatMap tableOf
 records-table at [] = refl
@@ -107,7 +109,7 @@ parts-at (t ∷ ts) none (suc i) j h k =
     let e : 4 * suc i + j ≡ 4 + (4 * i + j) = omega arith in
     rw e (getD-append-add (tokenParts t) (allParts ts) (4 * i + j) [] ∙ parts-at ts none i j (omega arith) k)
 
--- ---- the table that an accepted call leaves, whatever stands past it
+-- ---- the table that an accepted call leaves, whatever follows it in the buffer
 
 module _ (s old : List ℕ) (accepted : tableCall s old .refusal ≡ 0) where
   -- the count that it answers, and the table as it leaves it
@@ -123,7 +125,7 @@ module _ (s old : List ℕ) (accepted : tableCall s old .refusal ≡ 0) where
   abbrev rest : List ℕ
   rest = drop (afterLast nonWhitespace s) s
 
-  -- the parts are the text up to its trailing whitespace, and so few that each number fits
+  -- the parts are the text up to its trailing whitespace, and so short that four bytes hold each number
   whole : flatten ws ++ rest ≡ s
   whole = ap (λ (x : List ℕ). x ++ rest) (tokens-joined s) ∙ take-append-drop (afterLast nonWhitespace s) s
 
@@ -131,7 +133,7 @@ module _ (s old : List ℕ) (accepted : tableCall s old .refusal ≡ 0) where
   short = let a = text-valid textLimit s (tokensCall-accepted s _ old accepted .0) .within-limit in omega
       (arith, sym (length-append (flatten ws) rest) ∙ ap length whole)
 
-  -- four pairs a token are the table of all parts
+  -- the table of all parts has four pairs per token
   count-is : 4 * count ≡ length ws
   count-is = ap (λ (f : TokensResult). 4 * f .tokens) (tokensCall-accepted s _ old accepted .1) ∙ sym (parts-length (tokens s))
 
@@ -153,11 +155,12 @@ module _ (s old : List ℕ) (accepted : tableCall s old .refusal ≡ 0) where
       ap₂ (λ (n : ℕ) (t : List ℕ). pairsJoined n t s) count-is table-is ∙ ap (pairsJoined (length ws) (tableOf 0 ws ++ past)) (sym whole)
       ∙ words-joined ws past short rest (length ws) (omega arith) ∙ ap flatten (take-length ws) ∙ tokens-joined s
 
-  -- "Each starts where the one before it ends, empty ones too", and the first at the start of the text
+  -- the first pair starts at the start of the text
   pub first-pair : 0 < count → offsetAt 0 table ≡ 0
   unfolding flatten
   first-pair h = rw table-is (pair-at ws past short 0 (omega (arith, count-is)) .offset)
 
+  -- "Each starts where the one before it ends, empty ones too."
   pub next-pair : (k : ℕ) → suc k < 4 * count → offsetAt (suc k) table ≡ offsetAt k table + lengthAt k table
   next-pair k h =
       let p = pair-at ws past short k (omega (arith, count-is)) in

@@ -1,4 +1,4 @@
--- What holds of the parts of every token of a text, by the sentences of document 01. Assumes nothing.
+-- The parts of every token of a text are as document 01 says. Assumes nothing.
 use mathlib.Core.Path.{_≡_, refl, sym, ap, _∙_}
 use mathlib.Core.Bool.{Bool, true, false, cond, _&&_, and-false, true≢false}
 use mathlib.Core.List.{List, [], _∷_, _++_, append-nil, flatten}
@@ -18,7 +18,7 @@ use Rattle.tokens.proofs.Walks.{first-white}
 use Rattle.tokens.proofs.Joined.{last-white, last-first}
 
 module _ (white : List ℕ) (w : all whitespace white ≡ true) where
-  -- a run that is not wholly leading marks: the marks before its first other byte b, and what follows that
+  -- a run that is not wholly of leading marks: the leading marks, the first other byte b, and what follows b
   named-peeled : (ends : Bool) (pre : List ℕ) (b : ℕ) (r : List ℕ) → all prepunctuationMark pre ≡ true → prepunctuationMark b ≡ false
       → all nonWhitespace (pre ++ b ∷ r) ≡ true
       → Peeled ends (record { whitespace = white; prepunctuation = pre; name = take (nameSize (b ∷ r)) (b ∷ r); punctuation = drop (nameSize (b ∷ r)) (b ∷ r) })
@@ -44,7 +44,7 @@ module _ (white : List ℕ) (w : all whitespace white ≡ true) where
           let l : suc (length (take (suc j) r)) - 1 ≡ suc j = omega (arith, length-take-le (suc j) r (omega (arith, last-le nonPostpunctuation r))) in
           rw (l, getD-take (suc j) r j 0 (omega arith)) (not-true _ (last-passes nonPostpunctuation r j (sym e)))
 
-  -- a run that is wholly leading marks
+  -- a run that is wholly of leading marks
   whole-peeled : (ends : Bool) (run : List ℕ) → all prepunctuationMark run ≡ true → 0 < length run → all nonWhitespace run ≡ true
       → Peeled ends (record { whitespace = white; prepunctuation = cond ends [] run; name = cond ends run []; punctuation = [] })
   unfolding all
@@ -67,7 +67,7 @@ module _ (white : List ℕ) (w : all whitespace white ≡ true) where
       leads true = refl
       leads false = m
 
-  -- a run, cut
+  -- any run, after it is cut
   cut-peeled : (run : List ℕ) (ends : Bool) → 0 < length run → all nonWhitespace run ≡ true → Peeled ends (cut white run ends)
   unfolding cut
   cut-peeled run ends l n = go (all prepunctuationMark run) refl ends

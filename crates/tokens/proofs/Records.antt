@@ -31,7 +31,7 @@ four-pairs l i a1 b1 a2 b2 a3 b3 a4 b4 =
     sym (sets-append l i x1 (x2 ++ (x3 ++ x4)) ∙ sets-append l1 (i + 8) x2 (x3 ++ x4) ∙ ap (λ (k : ℕ). sets l2 k (x3 ++ x4)) e2
     ∙ sets-append l2 (i + 16) x3 x4 ∙ ap (λ (k : ℕ). sets (sets l2 (i + 16) x3) k x4) e3)
 
--- what is added and taken away again
+-- a sum less its first number is the second
 add-sub : (a b : ℕ) → (a + b) - a ≡ b
 add-sub a b = omega arith
 
@@ -48,6 +48,7 @@ record-length : (at : ℕ) (t : Token) → length (recordOf at t) ≡ recordSize
 unfolding recordOf tableOf pairOf leBytes
 record-length at t = refl
 
+-- the records have 32 bytes per token
 pub records-length : (at : ℕ) (ts : List Token) → length (records at ts) ≡ recordSize * length ts
 unfolding records
 records-length at [] = refl
@@ -66,7 +67,7 @@ records-step l n at t ts us p e u k =
     ∙ sym (sets-append l (recordSize * n) (recordOf at t) (records (at + tokenSize t) ts))
     ∙ ap (λ (vs : List Token). sets l (recordSize * n) (records at vs)) (sym u) ∙ k
 
--- nothing is left
+-- no token is left
 pub records-end : (l : List ℕ) (n at : ℕ) (us : List Token) → us ≡ [] → {z : List ℕ} → sets l (recordSize * n) (records at us) ≡ z → l ≡ z
 unfolding records
 records-end l n at us u k = ap (λ (vs : List Token). sets l (recordSize * n) (records at vs)) (sym u) ∙ k

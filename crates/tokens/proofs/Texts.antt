@@ -18,7 +18,7 @@ use Rattle.admit.proofs.Calls.{text-valid, text-accepted}
 use Rattle.tokens.specs.Tokens.{Token, peel, nameSize, cut, afterWhitespace, afterRun, firstToken, tokens}
 use Rattle.tokens.proofs.Forward.{tokens-none, tokens-more, first-joined, tokens-induct}
 
--- each part of a token is P
+-- each part of a token has P
 pub record Each (P : List ℕ → Type 0) (t : Token) : Type 0 where
   pub whitespace : P (t .whitespace)
   pub prepunctuation : P (t .prepunctuation)
@@ -30,17 +30,17 @@ whitespace-ascii : (b : ℕ) → whitespace b ≡ true → ascii b ≡ true
 unfolding all
 whitespace-ascii = oneOf-all ascii whitespaceBytes refl
 
--- the trailing marks of what follows the prepunctuation
+-- the trailing marks after the name are ASCII
 trailing-ascii : (s : List ℕ) → all ascii (drop (nameSize s) s) ≡ true
 unfolding all
 trailing-ascii [] = refl
 trailing-ascii (c ∷ s) = last-rest nonPostpunctuation ascii (λ b e. oneOf-all ascii postpunctuationMarks refl b (not-false (postpunctuationMark b) e)) s
 
--- both parts of a text that is cut before ASCII
+-- both parts of a UTF-8 text that is cut before an ASCII byte are UTF-8
 utf8-both : (x y : List ℕ) → ascii (getD y 0 0) ≡ true → utf8 (x ++ y) ≡ true → (utf8 x ≡ true) × (utf8 y ≡ true)
 utf8-both x y a h = and-eq-true-iff (utf8 x) (utf8 y) .0 (sym (utf8-append x y a) ∙ h)
 
--- what follows bytes of an ASCII class at the front
+-- the bytes of an ASCII class at the front of a UTF-8 text, and what follows them, are UTF-8
 dropWhile-utf8 : (p : ℕ → Bool) → ((b : ℕ) → p b ≡ true → ascii b ≡ true) → (s : List ℕ) → utf8 s ≡ true → (utf8 (takeWhile p s) ≡ true)
     × (utf8 (dropWhile p s) ≡ true)
 dropWhile-utf8 p f s h =
@@ -76,7 +76,7 @@ first-utf8 s h =
 abbrev pub AcceptedText : ℕ → List ℕ → Type 0
 AcceptedText limit s = textRefusal limit s ≡ 0
 
--- the first token and what follows it
+-- the parts of the first token, and what follows it
 first-accepted : (limit : ℕ) (s : List ℕ) → AcceptedText limit s → Each (AcceptedText limit) (firstToken s) × AcceptedText limit (afterRun s)
 unfolding flatten
 first-accepted limit s h =
@@ -94,6 +94,7 @@ first-accepted limit s h =
       text-accepted limit (afterRun s) (record { within-limit = omega (arith, k .within-limit); valid-utf8 = u .1 }),
     )
 
+-- each part of each token of an accepted text is accepted
 pub tokens-accepted : (limit : ℕ) (s : List ℕ) → AcceptedText limit s → Every (Each (AcceptedText limit)) (tokens s)
 tokens-accepted limit =
     tokens-induct (λ (s : List ℕ). AcceptedText limit s → Every (Each (AcceptedText limit)) (tokens s))

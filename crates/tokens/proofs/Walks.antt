@@ -1,4 +1,4 @@
--- The loop over the tokens of a text keeps those of what is left. Assumes nothing.
+-- What a loop over the tokens of a text keeps: the tokens that are left. Assumes nothing.
 use mathlib.Core.Path.{_≡_, refl, sym, ap, _∙_}
 use mathlib.Core.Bool.{Bool, true, false, false≢true}
 use mathlib.Core.List.{List, [], _∷_, _++_, append-assoc, append-nil, flatten}
@@ -21,13 +21,13 @@ use Rattle.tokens.proofs.Forward.{afterRun-less, tokens-none, tokens-mo
 first-after : (s : List ℕ) → drop (tokenSize (firstToken s)) s ≡ afterRun s
 first-after s = ap (λ (k : ℕ). drop k s) (first-size s) ∙ sym (afterRun-drop s)
 
--- its whitespace
+-- the length of its whitespace
 pub first-white : (s : List ℕ) → length (firstToken s .whitespace) ≡ span whitespace s
 first-white s =
     ap (λ (t : Token). length (t .whitespace)) (cut-white (takeWhile whitespace s) (takeWhile nonWhitespace (afterWhitespace s)) (eqb (length (afterRun s)) 0))
     ∙ length-take-le (span whitespace s) s (span-le whitespace s)
 
--- the text in its first token's parts
+-- a text is its first token's parts and what follows them
 first-split : (s : List ℕ) → firstToken s .whitespace ++ (firstToken s .prepunctuation ++ (firstToken s .name ++ (firstToken s .punctuation ++ afterRun s))) ≡ s
 unfolding flatten
 first-split s =
@@ -36,7 +36,7 @@ first-split s =
     simp (append-assoc, append-nil) refl in
     sym j ∙ first-joined s
 
--- the part from a to b, where x stands before it
+-- the part y from a to b; x stands between `at` and a
 part-of : (s x y z : List ℕ) (at a b : ℕ) → x ++ (y ++ z) ≡ drop at s → a ≡ at + length x → b ≡ a + length y → take (b - a) (drop a s) ≡ y
 part-of s x y z at a b e f g =
     let k : b - a ≡ length y = omega arith in
@@ -45,7 +45,7 @@ part-of s x y z at a b e f g =
     ∙ drop-append-seam x (y ++ z) in
     rw (k, d) (take-append-seam y z)
 
--- p is where the parts of the next token are, the first that follows the first `at` bytes; it has these bytes of the text
+-- p says where the parts of the next token are, the first one after the first `at` bytes; these are its parts in the text
 pub record Next (s : List ℕ) (at : ℕ) (p : Places) : Type 0 where
   pub places : p ≡ placesOf at (firstToken (drop at s))
   pub token : tokens (drop at s) ≡ firstToken (drop at s) ∷ tokens (drop (p .end) s)
@@ -86,7 +86,7 @@ module _ (s : List ℕ) (at : ℕ) (p : Places) (h : at ≤ length s) (e : p ≡
             (omega (arith, q .2, m, n)) (omega (arith, q .2, q .3)),
       )
 
-  -- the test that no token is left asks whether only whitespace is
+  -- the code's test for no token left asks whether only whitespace is left
   only-white : noneLeft p (length s) ≡ all whitespace (drop at s)
   only-white = go (all whitespace (drop at s)) refl
     where
@@ -97,11 +97,13 @@ module _ (s : List ℕ) (at : ℕ) (p : Places) (h : at ≤ length s) (e : p ≡
           (λ (f : p .prepunctuation ≡ length s). false≢true
           (sym x ∙ span-full whitespace (drop at s) (omega (arith, white-end, length-drop at s))))
 
-  -- it says that no token follows, or that one does
+  -- `none` is the answer of that test
   module _ {none : Bool} (test : none ≡ noneLeft p (length s)) where
+    -- it says that no token is left
     pub no-more : none ≡ true → tokens (drop at s) ≡ []
     no-more f = tokens-none (drop at s) (sym (test ∙ only-white) ∙ f)
 
+    -- it says that a token is left, which is the next one
     pub one-left : none ≡ false → Next s at p
     one-left f =
         let t : Token = firstToken (drop at s) in
@@ -121,14 +123,14 @@ module _ (s : List ℕ) (at : ℕ) (p : Places) (h : at ≤ length s) (e : p ≡
           punctuation = taken-parts .2;
         }
 
--- past the end nothing is left
+-- past the end no token is left
 pub tokens-past : (s : List ℕ) (at : ℕ) → length s ≤ at → tokens (drop at s) ≡ []
 unfolding all
 tokens-past s at h = rw (drop-of-length-le s {i = at} h) (tokens-none [] refl)
 
 -- ---- a loop that counts the tokens
 
--- after n tokens those are left that follow the first `at` bytes
+-- after n tokens, those that follow the first `at` bytes are left
 pub record Left (s : List ℕ) (n at : ℕ) : Type 0 where
   pub within : at ≤ length s
   pub bounded : n ≤ at
@@ -144,24 +146,24 @@ pub left-all : {s : List ℕ} → Left s 0 0
 left-all {s} = record { within = omega arith; bounded = omega arith; count = zero-add _ }
 
 module _ {s : List ℕ} {n at : ℕ} (l : Left s n at) where
-  -- where no token follows, all are counted
+  -- if no token follows, all are counted
   done : tokens (drop at s) ≡ [] → Done s n at
   done z = let e : length (tokens (drop at s)) ≡ 0 = ap (λ (ts : List Token). length ts) z in record { all = omega (arith, l .count); none = z }
 
-  -- so it is past the end
+  -- so all are counted past the end
   pub left-past : length s ≤ at → Done s n at
   left-past h = done (tokens-past s at h)
 
   module _ {p : Places} (e : p ≡ placesOf at (firstToken (drop at s))) {none : Bool} (test : none ≡ noneLeft p (length s)) where
-    -- and where the test says so
+    -- and if the test says that none is left
     pub left-none : none ≡ true → Done s n at
     left-none f = done (no-more s at p (l .within) e test f)
 
-    -- else one is next
+    -- else a token is next
     pub left-next : none ≡ false → Next s at p
     left-next f = one-left s at p (l .within) e test f
 
-  -- and after it those that follow it are left
+  -- after that token, those that follow it are left
   pub left-on : {p : Places} → Next s at p → Left s (n + 1) (p .end)
   left-on {p} next =
       let c : length (tokens (drop at s)) ≡ suc (length (tokens (drop (p .end) s))) = ap (λ (ts : List Token). length ts) (next .token) in

@@ -1,5 +1,5 @@
--- Document 01, "Token table and sentences": what its sentences say of the parts of every token. Definitions only; theorems speak of them,
--- and no contract.
+-- Document 01, "Token table and sentences": what it says about the parts of every token. Definitions only; theorems use them, and
+-- no contract does.
 use mathlib.Core.Path.{_≡_}
 use mathlib.Core.Bool.{Bool, true, false, cond}
 use mathlib.Core.List.{List, [], _∷_, _++_}
@@ -24,9 +24,10 @@ pub record Peeled (ends : Bool) (t : Token) : Type 0 where
   pub trailing : all postpunctuationMark (t .punctuation) ≡ true
   -- "A run wholly of leading marks has an empty name if whitespace follows and is itself the name if the text ends there."
   pub marks : all prepunctuationMark (runOf t) ≡ true → (t .name ≡ cond ends (runOf t) []) × (t .punctuation ≡ [])
-  -- of another run no leading mark is left: "the first byte of what follows the prepunctuation always stays in the name"
+  -- in any other run, the name starts with a byte that is no leading mark: "the first byte of what follows the prepunctuation
+  -- always stays in the name"
   pub first : all prepunctuationMark (runOf t) ≡ false → (0 < length (t .name)) × (prepunctuationMark (getD (t .name) 0 0) ≡ false)
-  -- nor a trailing mark after that byte
+  -- after that first byte, the name does not end in a trailing mark
   pub last : all prepunctuationMark (runOf t) ≡ false → 1 < length (t .name) → postpunctuationMark (getD (t .name) (length (t .name) - 1) 0) ≡ false
 
 -- tokens one after the other, each but the first with whitespace before it; `ends` says that the text ends with the last one

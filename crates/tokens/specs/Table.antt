@@ -1,5 +1,5 @@
--- Document 01, "Token table and sentences": the token table, and what a call answers that gives so many bytes a token.
--- Definitions only.
+-- Document 01, "Token table and sentences": the token table, and the answer of a call that writes a fixed number of bytes for each
+-- token. Definitions only.
 use mathlib.Core.Path.{_≡_}
 use mathlib.Core.Bool.{Bool}
 use mathlib.Core.List.{List, [], _∷_, _++_, flatten}
@@ -15,7 +15,7 @@ use Rattle.tokens.specs.Tokens.{Token, cut, tokens, tokenParts}
 use Rattle.tokens.specs.declared.Tokens.{Tokens}
 use Rattle.tokens.specs.declared.Places.{Places}
 
--- the bytes that a token takes of its text, from its whitespace to its punctuation
+-- how many bytes of its text a token takes, from its whitespace to its punctuation
 abbrev pub tokenSize : Token → ℕ
 tokenSize t = length (flatten (tokenParts t))
 
@@ -24,7 +24,7 @@ tokenSize t = length (flatten (tokenParts t))
 unfoldable pub recordOf : ℕ → Token → List ℕ
 recordOf at t = tableOf at (tokenParts t)
 
--- the records of tokens of which the first starts at the offset `at`
+-- the records of tokens; the first token starts at the offset `at`
 unfoldable pub records : ℕ → List Token → List ℕ
 records at [] = []
 records at (t ∷ ts) = recordOf at t ++ records (at + tokenSize t) ts
@@ -65,7 +65,7 @@ pairsJoined (suc n) table s = pairsJoined n table s ++ wordAt n table s
 abbrev pub recordSize : ℕ
 recordSize = 32
 
--- where the parts of a token start that starts at the offset `at`, and where the last one ends
+-- where the parts of a token start, and where the last one ends; the token starts at the offset `at`
 abbrev pub placesOf : ℕ → Token → Places
 placesOf at t =
     record {
@@ -76,7 +76,7 @@ placesOf at t =
       end = at + length (t .whitespace) + length (t .prepunctuation) + length (t .name) + length (t .punctuation);
     }
 
--- whether these are the places of no token: the whitespace goes up to the end of the text, which has so many bytes
+-- whether no token is left in a text of n bytes: the whitespace goes up to the text's end
 abbrev pub noneLeft : Places → ℕ → Bool
 noneLeft p n = eqb (p .prepunctuation) n
 

@@ -43,7 +43,7 @@ afterWhitespace s = dropWhile whitespace s
 abbrev pub afterRun : List ℕ → List ℕ
 afterRun s = dropWhile nonWhitespace (afterWhitespace s)
 
--- the first token of a text; where it has none, all of it as whitespace and three empty parts
+-- the first token of a text; if it has none, all of the text is whitespace and the other three parts are empty
 abbrev pub firstToken : List ℕ → Token
 firstToken s = cut (takeWhile whitespace s) (takeWhile nonWhitespace (afterWhitespace s)) (eqb (length (afterRun s)) 0)
 

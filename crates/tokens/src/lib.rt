@@ -37,7 +37,7 @@ pub struct Places {
 }
 
 impl Places {
-    // Whether no token is left, in a text of so many bytes: the whitespace goes up to its end.
+    // Whether no token is left in a text of `len` bytes: the whitespace goes up to the text's end.
     pub fn none_left(self, len: usize) -> bool
         ensures { λ r. ⌜ r ≡ noneLeft self len ⌝ }
     {
@@ -58,7 +58,7 @@ pub struct Tokens {
     pub tokens: usize,
 }
 
-// The run, which has so many leading marks, cut into its parts; `ends` says that the text ends with it.
+// Cuts a run into its parts. The run starts with `marks` leading marks; `ends` says that the text ends with it.
 fn cut_run(run: &[u8], marks: usize, ends: bool) -> Cut
     requires { ⌜ marks ≡ span prepunctuationMark (now run) ⌝ }
     ensures { λ r. ⌜ CutAt (now (run .entry)) ends (r .name) (r .punctuation) ⌝ }
@@ -82,7 +82,7 @@ fn cut_run(run: &[u8], marks: usize, ends: bool) -> Cut
     }
 }
 
-// The first token of what follows the first `at` bytes. Where only whitespace is left, every part after it is empty.
+// The first token of what follows the first `at` bytes. If only whitespace is left, every part after it is empty.
 pub fn token_at(s: &[u8], at: usize) -> Places
     ensures { λ r. ⌜ r ≡ placesOf at (firstToken (drop at (now (s .entry)))) ⌝ }
 {
@@ -100,7 +100,7 @@ pub fn token_at(s: &[u8], at: usize) -> Places
     }
 }
 
-// How many tokens s has: a byte that is no whitespace starts one where it is the first byte or follows whitespace.
+// How many tokens s has. A byte that is no whitespace starts one if it is the first byte or follows whitespace.
 fn count_tokens(s: &[u8]) -> usize
     ensures { λ r. ⌜ r ≡ length (tokens (now (s .entry))) ⌝ }
 {
@@ -116,7 +116,7 @@ fn count_tokens(s: &[u8]) -> usize
     n
 }
 
-// Whether s has more than n tokens. At most every second byte starts one, so where there is ample room nothing is counted.
+// Whether s has more than n tokens. At most every second byte starts one, so nothing is counted if n is large enough.
 pub fn has_more_tokens(s: &[u8], n: usize) -> bool
     ensures { λ r. ⌜ r ≡ ltb n (length (tokens (now (s .entry)))) ⌝ }
 {

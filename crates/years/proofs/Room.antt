@@ -38,6 +38,7 @@ yearStep-room f (a ∷ b ∷ s) h d =
     cond-elim P (leb n 2) (λ e. all) (λ e.
     cond-elim P (eqb (n % 2) 1) (λ e. omega (arith, h (b ∷ s) (omega arith) (d .1))) (λ e. omega (arith, h s (omega arith) (d .1 .1), together pair (f s)))))))))
 
+-- the words of a text's year fit in the room for a number
 pub year-room : (s : List ℕ) → RoomForNumber (length s) (year s)
 unfolding year yearOf
 year-room s = omega (arith, recur-induct RoomForYear [] yearStep yearStep-room (digitValues s) (digitValues-below-ten s), digitValues-le s)

@@ -1,4 +1,4 @@
--- The digits of a text one by one, and how the reading of a year goes on. Assumes nothing.
+-- The digits of a text one by one, and the steps that read a year. Assumes nothing.
 use mathlib.Core.Path.{_≡_, refl, sym, ap, _∙_}
 use mathlib.Core.Bool.{Bool, true, false, cond, not, _&&_}
 use mathlib.Core.List.{List, [], _∷_, _++_, map}
@@ -27,7 +27,7 @@ use Rattle.years.specs.Year.{yearStep, yearOf, year}
 use Rattle.years.specs.Walk.{PickedFrom, leadCount, leadWords}
 use Rattle.years.specs.declared.Picked.{Picked}
 
--- the first digit of a text stands after those bytes that are none
+-- the first digit of a text stands after the bytes at its front that are no digits
 digitValues-some : (s : List ℕ) → span nonDigit s < length s → digitValues s ≡ digitValue (getD s (span nonDigit s) 0) ∷ digitValues (drop (span nonDigit s + 1) s)
 unfolding digitValues filterIf span
 digitValues-some [] h = absurd (omega arith)
@@ -50,6 +50,7 @@ digitValues-none (b ∷ s) h = go (digit b) h (digitValues-none s)
     go true h i = absurd (omega arith)
     go false h i = i (omega arith)
 
+-- a text has as many values as bytes that are digits
 pub digitValues-count : (s : List ℕ) → length (digitValues s) ≡ countIf digit s
 unfolding digitValues filterIf countIf
 digitValues-count [] = refl
@@ -62,11 +63,13 @@ digitValues-count (b ∷ s) = go (digit b) (digitValues-count s)
 
 -- what `pick` answers
 module _ (s : List ℕ) (i v : ℕ) (e : i ≡ span nonDigit s) (d : v ≡ digitValue (getD s i 0)) where
+  -- there is a digit
   pub picked-some : i < length s → PickedFrom s (record { value = v; next = i + 1 })
   picked-some h =
       let l : span nonDigit s < length s = omega arith in
       record { digit = rw (digitValues-some s l, ← e) d; others = rw (digitValues-some s l, ← e); within = omega arith }
 
+  -- there is none
   pub picked-none : length s ≤ i → PickedFrom s (record { value = v; next = i })
   unfolding digitValues filterIf
   picked-none h =
@@ -85,13 +88,14 @@ year-eq : (s : List ℕ) → yearOf s ≡ yearStep yearOf s
 unfolding yearOf
 year-eq s = recur-eq [] yearStep year-local s
 
--- a year of up to four digits
+-- a year of at most one digit
 pub year-short : (s : List ℕ) → length s ≤ 1 → yearOf s ≡ shortCardinal s
 unfolding yearStep cardinalOf
 year-short [] h = year-eq []
 year-short (a ∷ []) h = year-eq (a ∷ [])
 year-short (a ∷ b ∷ s) h = absurd (omega arith)
 
+-- a year of two digits
 pub year-two : (a b : ℕ) → yearOf (a ∷ b ∷ []) ≡ cond (eqb a 0) (cond (eqb b 0) (one 0 ∷ one 0 ∷ []) (other (bytes "oh") ∷ one b ∷ [])) (pairWords a b)
 unfolding yearStep cardinalOf
 year-two a b = year-eq (a ∷ b ∷ []) ∙ rw (cardinal-2 (a ∷ b ∷ []) refl) (go (eqb a 0) (eqb b 0))
@@ -103,10 +107,12 @@ year-two a b = year-eq (a ∷ b ∷ []) ∙ rw (cardinal-2 (a ∷ b ∷ []) refl
     go true false = refl
     go false u = refl
 
+-- a year of three digits
 pub year-three : (a b c : ℕ) → yearOf (a ∷ b ∷ c ∷ []) ≡ cond (not (eqb a 0) && (eqb b 0 && eqb c 0)) (one a ∷ hundred ∷ []) (one a ∷ yearOf (b ∷ c ∷ []))
 unfolding yearStep
 year-three a b c = year-eq (a ∷ b ∷ c ∷ [])
 
+-- a year of four digits
 pub year-four : (s : List ℕ) → length s ≡ 4 → {b c d : ℕ} → b ≡ getD s 1 0 → c ≡ getD s 2 0 → d ≡ getD s 3 0
     → yearOf s ≡ cond (eqb b 0 && eqb c 0) (shortCardinal s) (shortCardinal (take 2 s) ++ cond (eqb c 0 && eqb d 0) (hundred ∷ []) (yearOf (c ∷ d ∷ [])))
 unfolding yearStep cardinalOf
@@ -129,7 +135,7 @@ year-four (a ∷ b ∷ c ∷ d ∷ []) h p q r =
     go false true false ws fs ls = refl
     go false false v ws fs ls = refl
 
--- a longer one: a lone digit where they are odd, else a pair
+-- a year of more than four digits: one digit first if their count is odd, else a pair
 year-long : (s : List ℕ) (n : ℕ) → n ≡ length s → 4 < n → yearOf s ≡ leadWords (eqb (n % 2) 1) s ++ yearOf (drop (leadCount (eqb (n % 2) 1)) s)
 unfolding yearStep cardinalOf
 year-long [] n e h = absurd (omega arith)
@@ -162,13 +168,14 @@ pub oh-word : wordOf othersAt ≡ bytes "oh"
 unfolding unfoldVocabulary
 oh-word = refl
 
--- a list of two, and of three
+-- a list of two is its two elements
 pub as-two : (s : List ℕ) → length s ≡ 2 → getD s 0 0 ∷ getD s 1 0 ∷ [] ≡ s
 as-two [] h = absurd (omega arith)
 as-two (a ∷ []) h = absurd (omega arith)
 as-two (a ∷ b ∷ []) h = refl
 as-two (a ∷ b ∷ c ∷ s) h = absurd (omega arith)
 
+-- a list of three is its three elements
 pub as-three : (s : List ℕ) → length s ≡ 3 → getD s 0 0 ∷ getD s 1 0 ∷ getD s 2 0 ∷ [] ≡ s
 as-three [] h = absurd (omega arith)
 as-three (a ∷ s) h = ap (λ (t : List ℕ). a ∷ t) (as-two s (omega arith))
@@ -189,9 +196,11 @@ module _ (s : List ℕ) (i n left : ℕ) (e : left ≡ length (digitValues (drop
   digitValues-after : digitValues (drop (i + n) s) ≡ drop (leadCount (eqb (left % 2) 1)) (digitValues (drop i s))
   digitValues-after = ap digitValues (sym (drop-drop n i s)) ∙ d
 
+  -- after the step the count is that of the digits from i + n on
   pub left-after : left - (2 - left % 2) ≡ length (digitValues (drop (i + n) s))
   left-after = rw digitValues-after (simp length-drop (omega (arith, lead-count left)))
 
+  -- the words of the step, and those of what is left
   pub year-at : 4 < left → spelled (year (drop i s)) ≡ spelled (leadWords (eqb (left % 2) 1) (digitValues (drop i s))) ++ spelled (year (drop (i + n) s))
   unfolding year
   year-at h = ap spelled (year-long (digitValues (drop i s)) left e h) ∙ rw (spelled-append, digitValues-after)

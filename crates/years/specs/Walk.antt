@@ -1,4 +1,4 @@
--- What the walkers of this crate pass on to each other. Definitions only; no public promise is made of them.
+-- What the functions of this crate pass on to each other. Definitions only; no public promise is made of them.
 use mathlib.Core.Path.{_≡_}
 use mathlib.Core.Bool.{Bool, cond}
 use mathlib.Core.List.{List, [], _∷_}
@@ -14,7 +14,7 @@ pub record PickedFrom (s : List ℕ) (r : Picked) : Type 0 where
   pub others : digitValues (drop (r .next) s) ≡ drop 1 (digitValues s)
   pub within : r .next ≤ length s
 
--- the digits that one step reads, and their words
+-- how many digits one step reads, and their words
 abbrev pub leadCount : Bool → ℕ
 leadCount lone = cond lone 1 2
 

@@ -32,7 +32,7 @@ struct Picked {
     pub next: usize,
 }
 
-// Picks the first digit of s; the value is 0 where there is none.
+// Picks the first digit of s; the value is 0 if there is none.
 fn pick(s: &[u8]) -> Picked
     ensures { λ r. ⌜ PickedFrom (now (s .entry)) r ⌝ }
 {
@@ -152,7 +152,7 @@ fn say_last(ds: &[u8], store: &mut [u8], table: &mut [u8], cursor: Cursor) -> Cu
     say_four(ds, store, table, cursor)
 }
 
-// Says the year of the digits of s: as long as more than four are left, a lone digit where they are odd, else a pair.
+// Says the year of the digits of s. While more than four are left, it says one digit if their count is odd, else a pair.
 pub fn say_year(s: &[u8], store: &mut [u8], table: &mut [u8], cursor: Cursor) -> Cursor
     ensures { λ r. ⌜ writer (now (store .exit)) (now (table .exit)) r
         ≡ putWords (spelled (year (now (s .entry)))) (writer (now (store .entry)) (now (table .entry)) cursor) ⌝ }
