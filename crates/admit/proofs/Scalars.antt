@@ -21,23 +21,24 @@ use Rattle.admit.proofs.Utf8Parts.{char-within}
 
 -- ---- the tests of the table and the bounds that they stand for
 
--- a byte passes where it is within the bounds, and nowhere else
+-- a byte within the bounds passes
 inRange-true : (lo hi b : ℕ) → (lo ≤ b) × (b ≤ hi) → inRange lo hi b ≡ true
 inRange-true lo hi b h = rw (le-leb lo b (h .0), le-leb b hi (h .1))
 
 and-elim : {P : Type 0} (p q : Bool) → (p ≡ true → q ≡ true → P) → (p && q) ≡ true → P
 and-elim p q f h = let k = and-eq-true-iff p q .0 h in f (k .0) (k .1)
 
+-- a byte that passes is within the bounds
 pub bounds : (lo hi b : ℕ) → inRange lo hi b ≡ true → (lo ≤ b) × (b ≤ hi)
 bounds lo hi b = and-elim (leb lo b) (leb b hi) (λ h k. (leb-true lo b h, leb-true b hi k))
 
 -- ---- from a scalar value to its bytes
 
--- six bits after 10 are a tail byte
+-- a byte of the bits 10 and six more is a tail byte
 pub tail-true : (n : ℕ) → utf8Tail (low6 n) ≡ true
 tail-true n = inRange-true 0x80 0xBF (low6 n) (omega arith)
 
--- a test that passes at n numbers from lo on
+-- a test that passes at n numbers from lo on passes at any one of them
 test-from : (f : ℕ → Bool) (lo n : ℕ) → upto (λ k. f (lo + k)) n ≡ true → (w : ℕ) → (lo ≤ w) × (w < lo + n) → f w ≡ true
 test-from f lo n t w h = let e : lo + (w - lo) ≡ w = omega arith in rw e at (below (λ k. f (lo + k)) n t (w - lo) (omega arith))
 
@@ -52,7 +53,7 @@ lead3-high = test-from (λ w. lead3 (0xE0 + w / 64) (low6 w)) 0x380 0x80 refl
 lead4-true : (w : ℕ) → (0x10 ≤ w) × (w < 0x110) → lead4 (0xF0 + w / 64) (low6 w) ≡ true
 lead4-true = test-from (λ w. lead4 (0xF0 + w / 64) (low6 w)) 0x10 0x100 refl
 
--- the bytes of a scalar value, by how many they are
+-- what holds of the bytes of c in each of the four rows holds of its encoding
 pub encode-elim : (P : List ℕ → Type 0) (c : ℕ) → (c ≤ 0x7F → P (c ∷ [])) → ((0x80 ≤ c) × (c ≤ 0x7FF) → P ((0xC0 + c / 64) ∷ low6 c ∷ []))
     → ((0x800 ≤ c) × (c ≤ 0xFFFF) → P ((0xE0 + c / 4096) ∷ low6 (c / 64) ∷ low6 c ∷ []))
     → (0x10000 ≤ c → P ((0xF0 + c / 262144) ∷ low6 (c / 4096) ∷ low6 (c / 64) ∷ low6 c ∷ [])) → P (encode c)
@@ -62,7 +63,7 @@ encode-elim P c one two three four =
     cond-elim P (leb c 0x7FF) (λ h. two (leb-false c 0x7F l, leb-true c 0x7FF h)) (λ m.
     cond-elim P (leb c 0xFFFF) (λ h. three (leb-false c 0x7FF m, leb-true c 0xFFFF h)) (λ n. four (leb-false c 0xFFFF n))))
 
--- they are a character of the table
+-- the encoding of a scalar value is a character of the table
 char-encode : (c : ℕ) → Scalar c → (r : List ℕ) → charLen (encode c ++ r) ≡ length (encode c)
 unfolding sequenceLen
 char-encode c s r =
@@ -100,7 +101,7 @@ encode-some c = encode-elim (λ l. 0 < length l) c (λ h. omega arith) (λ h. om
 
 -- ---- from bytes to the scalar value
 
--- the value of such bytes: what their marks 110, 1110, 11110 and 10 add is taken off
+-- the value that one to four bytes encode: what their leading bits 110, 1110, 11110 and 10 add is subtracted
 abbrev scalarValue : List ℕ → ℕ
 scalarValue [] = 0
 scalarValue (a ∷ []) = a
@@ -118,7 +119,7 @@ scalarValue-encode c =
 pub encode-apart : (c d : ℕ) → encode c ≡ encode d → c ≡ d
 encode-apart c d e = sym (scalarValue-encode c) ∙ ap scalarValue e ∙ scalarValue-encode d
 
--- the text is a scalar value's
+-- the text is the encoding of a scalar value
 abbrev Encoded : List ℕ → Type 0
 Encoded l = (c : ℕ) × Scalar c × (encode c ≡ l)
 
@@ -129,7 +130,7 @@ TailByte b = (0x80 ≤ b) × (b ≤ 0xBF)
 tail-byte : (b : ℕ) → utf8Tail b ≡ true → TailByte b
 tail-byte = bounds 0x80 0xBF
 
--- each row of the table gives one
+-- the bytes of each row of the table are such an encoding
 encoded-1 : (a : ℕ) → ascii a ≡ true → Encoded (a ∷ [])
 unfolding encode
 encoded-1 a h = (a, inl (omega (arith, ltb-true)), rw (le-leb a 0x7F (omega (arith, ltb-true))))
@@ -145,7 +146,7 @@ encoded-2 a b h k = (
     v : ℕ
     v = scalarValue (a ∷ b ∷ [])
 
--- two tests in each row of the table, and some row passes
+-- each row of the table has two tests, and some row passes both
 abbrev anyPair : Bool → List (Bool × Bool) → Bool
 anyPair t [] = t
 anyPair t ((p, q) ∷ rows) = anyPair (t || p && q) rows
@@ -218,7 +219,7 @@ take-bytesAt : (i n : ℕ) (s : List ℕ) → i + n ≤ length s → take n (dro
 take-bytesAt i zero s h = refl
 take-bytesAt i (suc n) s h = rw (drop-cons s i 0 (omega arith)) (ap (λ (l : List ℕ). getD s i 0 ∷ l) (take-bytesAt (suc i) n s (omega arith)))
 
--- the character at the front is a scalar value's
+-- the character at the front is the encoding of a scalar value
 char-scalar : (s : List ℕ) → charLen s ≤ length s → (charLen s ≡ 0 → ⊥) → Encoded (take (charLen s) s)
 unfolding sequenceLen
 char-scalar s l z =
@@ -248,7 +249,7 @@ char-scalar s l z =
 
 -- ---- whole texts
 
--- the character of a scalar value before another text
+-- the encoding of a scalar value, with another text after it
 module _ (c : ℕ) (h : Scalar c) (r : List ℕ) where
   first : length (encode c) ≡ charLen (encode c ++ r)
   first = sym (char-encode c h r)
@@ -262,7 +263,7 @@ module _ (c : ℕ) (h : Scalar c) (r : List ℕ) where
   chars-more : utf8Chars (encode c ++ r) ≡ encode c ∷ utf8Chars r
   chars-more = chars-char (encode c ++ r) _ first (some .0) ∙ rw (ne-eqb _ 0 (some .1), drop-append-seam, take-append-seam)
 
--- so the text of scalar values is UTF-8
+-- so the text that encodes scalar values is UTF-8
 text-utf8 : (cs : List ℕ) → Every Scalar cs → utf8 (textOf cs) ≡ true
 unfolding flatten
 text-utf8 [] h = utf8-end [] 0 (omega arith)
@@ -274,7 +275,7 @@ unfolding flatten
 text-chars [] h = chars-end
 text-chars (c ∷ cs) h = chars-more c (h .0) (textOf cs) ∙ ap (λ (l : List (List ℕ)). encode c ∷ l) (text-chars cs (h .1))
 
--- and there is no other: the characters of the table one by one
+-- the text encodes some scalar values. Every UTF-8 text does, character by character
 abbrev EncodedText : List ℕ → Type 0
 EncodedText s = (cs : List ℕ) × Every Scalar cs × (s ≡ textOf cs)
 
@@ -290,10 +291,10 @@ utf8-text s = recur-induct (λ s t. t ≡ true → EncodedText s) false utf8Step
     more : {A : Type 0} (s : List ℕ) → Encoded (take (charLen s) s) → (A → EncodedText (drop (charLen s) s)) → A → EncodedText s
     more s c f h = let r = f h in (c .0 ∷ r .0, (c .1, r .1), sym (take-append-drop (charLen s) s) ∙ ap₂ _++_ (sym (c .2)) (r .2))
 
--- a text is UTF-8 exactly when it is that of some scalar values
+-- a text is UTF-8 exactly when it encodes some scalar values
 pub utf8-scalars : (s : List ℕ) → (utf8 s ≡ true) ↔ ((cs : List ℕ) × Every Scalar cs × (s ≡ textOf cs))
 utf8-scalars s = (utf8-text s, λ t. rw (t .2) (text-utf8 (t .0) (t .1)))
 
--- its characters join to it
+-- the characters of a UTF-8 text, joined, are the text
 pub utf8-chars-join : (s : List ℕ) → utf8 s ≡ true → flatten (utf8Chars s) ≡ s
 utf8-chars-join s h = let t = utf8-text s h in rw (t .2) (ap flatten (text-chars (t .0) (t .1)))

@@ -1,4 +1,4 @@
--- How the test of UTF-8 goes on, a character at a time or over a run of ASCII. Assumes nothing.
+-- How the test of UTF-8 goes on: past one character, or past a run of ASCII. Assumes nothing.
 use mathlib.Core.Path.{_≡_, refl, ap, _∙_}
 use mathlib.Core.Bool.{Bool, true, false, cond, _&&_, and-assoc, and-true}
 use mathlib.Core.List.{List, [], _∷_}
@@ -14,7 +14,7 @@ use Rattle.lists.proofs.Scan.{all-more, all-append}
 use Rattle.lists.specs.Classes.{ascii}
 use Rattle.admit.specs.Utf8.{sequenceLen, charLen, utf8Step, utf8, utf8CharsStep, utf8Chars, Passed}
 
--- a reading that goes on after the character at the front
+-- a step that goes on after the character at the front reads only shorter texts again
 char-step-local : {A : Type 0} (x y : A) (f : List ℕ → A → A)
     → Local (λ rest s. cond (eqb (length s) 0) x (cond (eqb (charLen s) 0) y (f (take (charLen s) s) (rest (drop (charLen s) s)))))
 char-step-local x y f g h s i =
@@ -30,23 +30,26 @@ chars-eq : (s : List ℕ) → utf8Chars s ≡ utf8CharsStep utf8Chars s
 unfolding utf8Chars utf8CharsStep
 chars-eq s = recur-eq [] utf8CharsStep (char-step-local [] [] (λ c t. c ∷ t)) s
 
+-- at the end of a text nothing is left, and that is UTF-8
 pub utf8-end : (s : List ℕ) (i : ℕ) → length s ≤ i → utf8 (drop i s) ≡ true
 unfolding utf8Step
 utf8-end s i h =
     let e : length (drop i s) ≡ 0 = simp length-drop (omega arith) in
     utf8-eq (drop i s) ∙ rw e
 
--- one character
+-- a text is UTF-8 if a character stands at its front and what follows it is UTF-8
 pub utf8-char : (s : List ℕ) (n : ℕ) → n ≡ charLen s → 0 < length s → utf8 s ≡ cond (eqb n 0) false (utf8 (drop n s))
 unfolding utf8Step
 utf8-char s n e h =
     let k : length s ≡ 0 → ⊥ = λ z. omega arith in
     utf8-eq s ∙ rw (ne-eqb (length s) 0 k, ← e)
 
+-- an empty text has no characters
 pub chars-end : utf8Chars [] ≡ []
 unfolding utf8CharsStep
 chars-end = chars-eq []
 
+-- the characters of a text are the one at its front and those of what follows it
 pub chars-char : (s : List ℕ) (n : ℕ) → n ≡ charLen s → 0 < length s → utf8Chars s ≡ cond (eqb n 0) [] (take n s ∷ utf8Chars (drop n s))
 unfolding utf8CharsStep
 chars-char s n e h =
@@ -57,7 +60,7 @@ utf8-ascii : (a : ℕ) (s : List ℕ) → ascii a ≡ true → utf8 (a ∷ s) �
 unfolding sequenceLen
 utf8-ascii a s h = utf8-char (a ∷ s) 1 (rw h) (omega arith)
 
--- a run of ASCII
+-- a run of ASCII at the front can be passed
 pub utf8-run : (n : ℕ) (s : List ℕ) → all ascii (take n s) ≡ true → utf8 s ≡ utf8 (drop n s)
 unfolding all
 utf8-run zero s h = refl
@@ -68,21 +71,23 @@ utf8-run (suc n) (a ∷ s) h = go (ascii a) refl h (utf8-run n s)
     go true e h i = utf8-ascii a s e ∙ i h
     go false e h i = cc
 
+-- a text that is all ASCII is UTF-8
 pub utf8-all : (s : List ℕ) → all ascii s ≡ true → utf8 s ≡ true
 utf8-all s h = utf8-run (length s) s (rw take-length h) ∙ utf8-end s (length s) (omega arith)
 
--- what the test of a whole run keeps: what was found so far, and the bytes left
+-- what the test for ASCII keeps: the result for the bytes so far, and the bytes that are left
 pub ascii-more : (ok : Bool) (s : List ℕ) (i : ℕ) → i < length s → (ok && all ascii (drop i s)) ≡ ((ok && ascii (getD s i 0)) && all ascii (drop (i + 1) s))
 ascii-more ok s i h = rw (all-more ascii s i h, and-assoc ok (ascii (getD s i 0)) (all ascii (drop (i + 1) s)))
 
+-- at the end no bytes are left, and that result is the answer
 pub ascii-end : (ok : Bool) (s : List ℕ) (i : ℕ) → length s ≤ i → (ok && all ascii (drop i s)) ≡ ok
 unfolding all
 ascii-end ok s i h = rw (drop-of-length-le s {i = i} h) (and-true ok)
 
--- a step from the place i
+-- after a step of n bytes at place i the test goes on at i + n
 pub utf8-on : (s : List ℕ) (i n : ℕ) → i < length s → Passed (drop i s) n → utf8 (drop i s) ≡ cond (eqb n 0) false (utf8 (drop (i + n) s))
 utf8-on s i n h p = p .decides (simp length-drop (omega arith)) ∙ rw drop-drop
 
--- one run of ASCII after another
+-- two runs of ASCII, one after the other, are one run
 pub ascii-runs : (s : List ℕ) (i n : ℕ) → all ascii (take i s) ≡ true → all ascii (take n (drop i s)) ≡ true → all ascii (take (i + n) s) ≡ true
 ascii-runs s i n h k = rw (take-add, all-append, h) k

@@ -29,7 +29,7 @@ module _ (z : ℕ) (h : ascii z ≡ true) where
   unfolding sequenceLen
   char-3 a b c = simp (low 0x80 (omega arith), and-false)
 
--- so the bytes that follow do not tell
+-- so the length of a character does not depend on what follows, if that starts with ASCII
 char-append : (x y : List ℕ) → 0 < length x → ascii (getD y 0 0) ≡ true → charLen (x ++ y) ≡ charLen x
 char-append [] y k h = absurd (omega arith)
 char-append (a ∷ []) y k h = char-1 (getD y 0 0) h a (getD y 1 0) (getD y 2 0) ∙ sym (char-1 0 refl a 0 0)
@@ -41,7 +41,7 @@ cond-le : (t : Bool) {m n k : ℕ} → m ≤ k → n ≤ k → cond t m n ≤ k
 cond-le true h l = h
 cond-le false h l = l
 
--- and the character is within its part
+-- the character at the front is within the text
 pub char-within : (x : List ℕ) → 0 < length x → charLen x ≤ length x
 unfolding sequenceLen
 char-within [] k = absurd (omega arith)
@@ -55,6 +55,7 @@ char-within (a ∷ b ∷ c ∷ d ∷ x) k =
     (cond-le (lead2 a && utf8Tail b) (omega arith)
     (cond-le (lead3 a b && utf8Tail c) (omega arith) (cond-le (lead4 a b && utf8Tail c && utf8Tail d) (omega arith) (omega arith))))
 
+-- if y is empty or starts with ASCII, x and y joined are UTF-8 exactly when both are
 pub utf8-append : (x y : List ℕ) → ascii (getD y 0 0) ≡ true → utf8 (x ++ y) ≡ utf8 x && utf8 y
 utf8-append x y h = at (suc (length x)) x (omega arith)
   where

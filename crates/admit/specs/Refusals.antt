@@ -19,7 +19,7 @@ refusalNumber NoSuchEntry = 3
 refusalNumber NameTooLong = 4
 refusalNumber BufferTooShort = 5
 
--- the number that a call answers, 0 where it is accepted
+-- the number that a call answers, 0 if it is accepted
 abbrev pub answerNumber : Answer → ℕ
 answerNumber Accepted = 0
 answerNumber (Refused r) = refusalNumber r
@@ -29,8 +29,8 @@ infix 70 _when_
 pub data Test : Type 0 where
   _when_ : Refusal → Bool → Test
 
--- "Each refusal is given under its condition and never otherwise": of the tests that a call makes, in the order it makes them, the
--- number of the first one that holds, 0 where none does
+-- "Each refusal is given under its condition and never otherwise": the number of the first test that holds, in the order in which a
+-- call makes its tests; 0 if none holds
 abbrev pub firstRefusal : List Test → ℕ
 firstRefusal [] = 0
 firstRefusal (refusal when holds ∷ tests) = cond holds (refusalNumber refusal) (firstRefusal tests)
@@ -47,7 +47,7 @@ inOrder (refusal when holds ∷ next when too ∷ tests) = ltb (refusalNumber re
 abbrev pub textLimit : ℕ
 textLimit = 65536
 
--- more than the limit of its call
+-- the text has more bytes than the limit of its call
 abbrev pub isTooLong : ℕ → List ℕ → Bool
 isTooLong limit s = ltb limit (length s)
 
@@ -62,19 +62,19 @@ textTests limit texts =
     ∷ NotUtf8 when any isNotUtf8 texts
     ∷ []
 
--- the number that is answered where a call is given one text, and is tested for nothing else
+-- the number that a call answers if it is given one text and makes no other tests
 abbrev pub textRefusal : ℕ → List ℕ → ℕ
 textRefusal limit s = firstRefusal (textTests limit (s ∷ []))
 
 -- ---- what a call answers
 
--- its number, and its values, the buffers' final bytes among them
+-- its number, and its values, which include the final bytes of the buffers
 pub record Call (A : Type 0) : Type 0 where
   pub refusal : ℕ
   pub value : A
 
 -- "A refused call answers its number, with every count and value 0, every verdict no and no part, and writes nothing":
--- nothing is what a refused call gives, and given what an accepted one does
+-- `nothing` is the value of a refused call, and `given` that of an accepted one
 abbrev pub call : {A : Type 0} → A → ℕ → A → Call A
 call nothing zero given = record { refusal = zero; value = given }
 call nothing (suc n) given = record { refusal = suc n; value = nothing }

@@ -1,5 +1,5 @@
--- UTF-8 from the side of the characters: the encoding of Unicode scalar values in RFC 3629, section 3. Definitions only.
--- proofs/Scalars.antt has that the texts so encoded are those of `utf8`.
+-- UTF-8 as the encoding of Unicode scalar values in RFC 3629, section 3. Definitions only.
+-- proofs/Scalars.antt proves that the texts encoded so are those that `utf8` takes.
 use mathlib.Core.Bool.{cond}
 use mathlib.Core.List.{List, [], _∷_, map, flatten}
 use mathlib.Core.Logic.{_⊎_}
@@ -26,6 +26,6 @@ encode c =
     -- 0001 0000-0010 FFFF: 11110xxx 10xxxxxx 10xxxxxx 10xxxxxx
     ((0xF0 + c / 262144) ∷ low6 (c / 4096) ∷ low6 (c / 64) ∷ low6 c ∷ [])))
 
--- the text of some scalar values
+-- the text that encodes some scalar values
 abbrev pub textOf : List ℕ → List ℕ
 textOf cs = flatten (map encode cs)

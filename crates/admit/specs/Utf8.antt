@@ -1,5 +1,5 @@
 -- UTF-8 as the table of byte sequences in RFC 3629, section 4, has it. Definitions only.
--- A byte past the end reads as 0, which is no tail byte, so a character that is cut needs no case of its own.
+-- A byte past the end reads as 0. That is no tail byte, so a character that is cut off needs no case of its own.
 use mathlib.Core.Path.{_≡_}
 use mathlib.Core.Bool.{Bool, true, false, cond, _&&_, _||_}
 use mathlib.Core.List.{List, [], _∷_}
@@ -30,7 +30,7 @@ lead3 a b =
 abbrev pub lead4 : ℕ → ℕ → Bool
 lead4 a b = (eqb a 0xF0 && inRange 0x90 0xBF b) || (inRange 0xF1 0xF3 a && utf8Tail b) || (eqb a 0xF4 && inRange 0x80 0x8F b)
 
--- how many bytes the character takes that starts with a, where b, c and d follow; 0 where there is none. UTF8-1 = %x00-7F
+-- how many of the bytes a, b, c and d, in a row, are the character that starts with a; 0 if no character does. UTF8-1 = %x00-7F
 unfoldable pub sequenceLen : ℕ → ℕ → ℕ → ℕ → ℕ
 sequenceLen a b c d =
     cond (ascii a) 1
@@ -38,7 +38,7 @@ sequenceLen a b c d =
     (cond (lead3 a b && utf8Tail c) 3
     (cond (lead4 a b && utf8Tail c && utf8Tail d) 4 0)))
 
--- how many bytes the character at the front takes, 0 where there is none
+-- how many bytes the character at the front takes, 0 if there is none
 abbrev pub charLen : List ℕ → ℕ
 charLen s = sequenceLen (getD s 0 0) (getD s 1 0) (getD s 2 0) (getD s 3 0)
 
@@ -49,7 +49,7 @@ utf8Step rest s = cond (eqb (length s) 0) true (cond (eqb (charLen s) 0) false (
 unfoldable pub utf8 : List ℕ → Bool
 utf8 = recur false utf8Step
 
--- the UTF8-chars of a text, in order, each a list of its bytes; they end where none stands
+-- the UTF8-chars of a text, in order, each a list of its bytes; they end before the first byte that starts none
 unfoldable pub utf8CharsStep : (List ℕ → List (List ℕ)) → List ℕ → List (List ℕ)
 utf8CharsStep rest s = cond (eqb (length s) 0) [] (cond (eqb (charLen s) 0) [] (take (charLen s) s ∷ rest (drop (charLen s) s)))
 
@@ -58,8 +58,8 @@ utf8Chars = recur [] utf8CharsStep
 
 -- ---- no public promise is made of these
 
--- what a step at the front of s answers: n bytes that the test of the rest decides for, or 0 where s is not UTF-8; and
--- that they are few enough for a sum of places
+-- what a step at the front of s answers: n bytes are passed, and s is UTF-8 exactly if what follows them is; or n is 0, and s is not
+-- UTF-8. n is bounded, so that it can be added to an index without overflow
 pub record Passed (s : List ℕ) (n : ℕ) : Type 0 where
   pub bounded : n ≤ length s + 4
   pub decides : 0 < length s → utf8 s ≡ cond (eqb n 0) false (utf8 (drop n s))

@@ -1,4 +1,4 @@
-// Admission: the refusals of document 01, and the two that every text is tested for.
+// The refusals of document 01, and the tests of a text for the first two of them.
 use lists::ASCII;
 use lists::all_of;
 use lists::byte_at;
@@ -14,13 +14,13 @@ ghost use Rattle.lists.specs.Classes.{ascii};
 ghost use Rattle.admit.specs.Utf8.{utf8Tail, lead2, lead3, lead4, sequenceLen, charLen, utf8, Passed};
 ghost use Rattle.admit.specs.Refusals.{refusalNumber, answerNumber, textLimit, textRefusal};
 
-// The most bytes of a text.
+// The most bytes that a text may have.
 pub const TEXT_LIMIT: usize = 65536;
 
-// The bytes of a block that is passed at once where they are all ASCII.
+// The bytes of a block. A block is passed at once if all of its bytes are ASCII.
 const BLOCK: usize = 32;
 
-// The most bytes of a name that is tested byte by byte first.
+// A text of at most this many bytes is tested for ASCII byte by byte first.
 const SHORT_TEXT: usize = 12;
 
 // Why a call is held back (document 01, "Calls held back").
@@ -59,7 +59,7 @@ pub enum Answer {
 }
 
 impl Answer {
-    // The number of the refusal, 0 where the call is accepted.
+    // The number of the refusal, 0 if the call is accepted.
     pub fn number(self) -> u8
         ensures { λ r. ⌜ r ≡ answerNumber self ⌝ }
     {
@@ -101,7 +101,7 @@ fn is_lead4(a: u8, b: u8) -> bool
         | ((a == 0xF4) & ((0x80 <= b) & (b <= 0x8F)))
 }
 
-// How many bytes the character takes that starts with a, where b, c and d follow; 0 where there is none.
+// How many of the bytes a, b, c and d, in a row, are the character that starts with a; 0 if no character does.
 fn sequence_len(a: u8, b: u8, c: u8, d: u8) -> usize
     ensures { λ r. ⌜ (r ≡ sequenceLen a b c d) × (r ≤ 4) ⌝ }
 {
@@ -120,14 +120,14 @@ fn sequence_len(a: u8, b: u8, c: u8, d: u8) -> usize
     0
 }
 
-// How many bytes the character at the front takes, 0 where there is none.
+// How many bytes the character at the front takes, 0 if there is none.
 fn char_len(s: &[u8]) -> usize
     ensures { λ r. ⌜ (r ≡ charLen (now (s .entry))) × (r ≤ 4) ⌝ }
 {
     sequence_len(byte_at(s, 0), byte_at(s, 1), byte_at(s, 2), byte_at(s, 3))
 }
 
-// Whether every byte is ASCII: the whole of s, with no early exit, so that the compiler can take many bytes at once.
+// Whether every byte is ASCII. The loop has no early exit, so that the compiler can test many bytes at once.
 fn is_ascii(s: &[u8]) -> bool
     ensures { λ r. ⌜ r ≡ all ascii (now (s .entry)) ⌝ }
 {
@@ -140,7 +140,7 @@ fn is_ascii(s: &[u8]) -> bool
     ok
 }
 
-// How many bytes of whole blocks of ASCII stand at the front.
+// How many bytes at the front are ASCII, in whole blocks.
 fn ascii_blocks(s: &[u8]) -> usize
     ensures { λ r. ⌜ (all ascii (take r (now (s .entry))) ≡ true) × (r ≤ length (now (s .entry))) ⌝ }
 {
@@ -184,7 +184,7 @@ fn is_utf8_by_steps(s: &[u8]) -> bool
     true
 }
 
-// Whether s is UTF-8. Most texts are ASCII, and are told by one pass.
+// Whether s is UTF-8. Most texts are ASCII, and one fast pass is enough for these.
 pub fn is_utf8(s: &[u8]) -> bool
     ensures { λ r. ⌜ r ≡ utf8 (now (s .entry)) ⌝ }
 {
@@ -207,15 +207,15 @@ pub fn admit(limit: usize, s: &[u8]) -> Answer
     Answer::Refused(Refusal::NotUtf8)
 }
 
-// The number of the refusal that a text of the library earns, at any length.
+// The number of the refusal of a text of any length, 0 if it is accepted.
 fn refusal_of_any(s: &[u8]) -> u8
     ensures { λ r. ⌜ r ≡ textRefusal textLimit (now (s .entry)) ⌝ }
 {
     admit(TEXT_LIMIT, s).number()
 }
 
-// The number of the refusal that a text of the library earns, 0 where there is none. A short name of ASCII costs a few
-// instructions, which the compiler puts into each caller; the two calls keep the rest out of there.
+// The same number. For a short ASCII text a few instructions are enough, and the compiler puts them into each caller. It leaves
+// `refusal_of_any` out of there, because that is called at two places.
 pub fn refusal_of(s: &[u8]) -> u8
     ensures { λ r. ⌜ r ≡ textRefusal textLimit (now (s .entry)) ⌝ }
 {

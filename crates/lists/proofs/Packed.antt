@@ -1,4 +1,4 @@
--- Numbers as bytes, and packed texts, at every width. Assumes nothing.
+-- Laws of numbers as bytes, at every width, and of packed texts. Assumes nothing.
 use mathlib.Core.Path.{_≡_, refl, ap, _∙_}
 use mathlib.Core.List.{List, [], _∷_, _++_, append-assoc}
 use Prim.Native.Nat.{ℕ, zero, suc, _+_, _-_, _^_, _/_, _≤_, _<_}
@@ -9,6 +9,7 @@ use lib.Seq.{take-append-seam, getD-append-seam}
 use Rattle.lists.specs.LittleEndian.{leValue, leBytes}
 use Rattle.lists.specs.Packed.{pack, unpack}
 
+-- a number in w bytes takes w bytes
 pub leBytes-length : (w n : ℕ) → length (leBytes w n) ≡ w
 unfolding leBytes
 leBytes-length zero n = refl
@@ -23,7 +24,7 @@ leBytes-value (suc w) n h =
     let r : leValue (leBytes w (n / 256)) ≡ n / 256 = leBytes-value w (n / 256) (omega arith) in
     omega arith
 
--- packed bytes give their text back
+-- a text of up to 15 bytes is read back from its packed bytes
 pub unpack-pack : (s : List ℕ) → length s ≤ 15 → unpack (pack s) ≡ s
 unfolding unpack pack
 unpack-pack s h =

@@ -1,4 +1,5 @@
--- How the parts of a text between separators go on, over the separator and the test of a part. Assumes nothing.
+-- Laws of the parts of a text between separators, for loops that take one part after the other. They hold for every separator and
+-- for every test of a part. Assumes nothing.
 use mathlib.Core.Path.{_≡_, refl, sym, _∙_}
 use mathlib.Core.Bool.{Bool, true, false, cond, not, _||_}
 use mathlib.Core.List.{List, [], _∷_}
@@ -25,7 +26,7 @@ split-some c (b ∷ s) = go (eqb b c) (split c s)
     go false [] = omega arith
     go false (p ∷ ps) = omega arith
 
--- a separator after the first n bytes
+-- if there is a separator, the first part stands before it, and the others are the parts of what follows it
 pub split-more : (c : ℕ) (s : List ℕ) → span (except c) s < length s → split c s ≡ take (span (except c) s) s ∷ split c (drop (span (except c) s + 1) s)
 unfolding split span onto
 split-more c [] h = absurd (omega arith)
@@ -38,7 +39,7 @@ split-more c (b ∷ s) h = go (eqb b c) h (split-more c s)
     go true h i = refl
     go false h i = rw (i (omega arith)) (simp add-one)
 
--- no separator
+-- if there is no separator, the text is the only part
 pub split-last : (c : ℕ) (s : List ℕ) → length s ≤ span (except c) s → split c s ≡ s ∷ []
 unfolding split span onto
 split-last c [] h = refl
@@ -50,7 +51,7 @@ split-last c (b ∷ s) h = go (eqb b c) h (split-last c s)
     go true h i = absurd (omega arith)
     go false h i = rw (i (omega arith))
 
--- there is more than one part where there is a separator
+-- there is more than one part exactly if there is a separator
 pub split-two : (c : ℕ) (s : List ℕ) → leb 2 (length (split c s)) ≡ ltb (span (except c) s) (length s)
 split-two c s = go (ltb (span (except c) s) (length s)) refl
   where
@@ -60,7 +61,7 @@ split-two c s = go (ltb (span (except c) s) (length s)) refl
         (le-leb 2 (suc (length (split c (drop (span (except c) s + 1) s)))) (omega (arith, split-some c (drop (span (except c) s + 1) s))))
     go false e = rw (split-last c s (ltb-false _ _ e))
 
--- the first part fails
+-- if the first part fails, not all parts pass
 pub parts-fail : (p : List ℕ → Bool) (c : ℕ) (s : List ℕ) → p (take (span (except c) s) s) ≡ false → all p (split c s) ≡ false
 unfolding all
 parts-fail p c s f = go (ltb (span (except c) s) (length s)) refl
@@ -69,18 +70,18 @@ parts-fail p c s f = go (ltb (span (except c) s) (length s)) refl
     go true e = rw (split-more c s (ltb-true _ _ e), f)
     go false e = rw (split-last c s (ltb-false _ _ e), ← take-all (span (except c) s) s (ltb-false _ _ e), f)
 
--- the first part is the last
+-- if the first part passes and is the last, all parts pass
 pub parts-end : (p : List ℕ → Bool) (c : ℕ) (s : List ℕ) → p (take (span (except c) s) s) ≡ true → length s ≤ span (except c) s → all p (split c s) ≡ true
 unfolding all
 parts-end p c s f h = let q : p s ≡ true = rw (take-all (span (except c) s) s h) at f in rw (split-last c s h, q)
 
--- the first part passes, and the others decide
+-- if the first part passes and others follow, these decide
 pub parts-more : (p : List ℕ → Bool) (c : ℕ) (s : List ℕ) → p (take (span (except c) s) s) ≡ true → span (except c) s < length s
     → all p (split c s) ≡ all p (split c (drop (span (except c) s + 1) s))
 unfolding all
 parts-more p c s f h = rw (split-more c s h, f)
 
--- whether a separator stands in the text
+-- a separator stands in the text exactly if a scan for it stops before the end
 pub elem-span : (c : ℕ) (s : List ℕ) → elem c s ≡ ltb (span (except c) s) (length s)
 unfolding any span
 elem-span c [] = refl
@@ -90,19 +91,20 @@ elem-span c (b ∷ s) = go (eqb b c) (elem-span c s)
     go true i = sym (lt-ltb 0 (suc (length s)) (omega arith))
     go false i = i ∙ sym (leb·suc-suc (suc (span (except c) s)) (length s))
 
--- a part counts where it is not empty
+-- the first part is counted if it is not empty
 nonEmpty-front : (n : ℕ) (s : List ℕ) (ps : List (List ℕ)) → n ≤ length s → length (nonEmpty (take n s ∷ ps)) ≡ min n 1 + length (nonEmpty ps)
 unfolding nonEmpty
 nonEmpty-front zero s ps h = omega arith
 nonEmpty-front (suc n) [] ps h = absurd (omega arith)
 nonEmpty-front (suc n) (b ∷ s) ps h = omega arith
 
--- the count of parts that are not empty: the first part, and the others
+-- if there is a separator, the parts that are not empty are counted: the first part, and then the others
 pub nonEmpty-more : (c : ℕ) (s : List ℕ) (n : ℕ) → n ≡ span (except c) s → n < length s
     → length (nonEmpty (split c s)) ≡ min n 1 + length (nonEmpty (split c (drop (n + 1) s)))
 nonEmpty-more c s n e h = let l : span (except c) s < length s = omega arith in
     rw (split-more c s l, ← e) (nonEmpty-front n s (split c (drop (n + 1) s)) (omega arith))
 
+-- if there is no separator, the only part is counted if it is not empty
 pub nonEmpty-end : (c : ℕ) (s : List ℕ) (n : ℕ) → n ≡ span (except c) s → length s ≤ n → length (nonEmpty (split c s)) ≡ min n 1
 unfolding nonEmpty
 nonEmpty-end c s n e h =

@@ -39,7 +39,7 @@ takeWhile p s = take (span p s) s
 abbrev pub dropWhile : (ℕ → Bool) → List ℕ → List ℕ
 dropWhile p s = drop (span p s) s
 
--- the place after the last byte that passes p, 0 where none does
+-- the place after the last byte that passes p, 0 if none does
 unfoldable pub afterLast : (ℕ → Bool) → List ℕ → ℕ
 afterLast p [] = 0
 afterLast p (b ∷ s) = cond (eqb (afterLast p s) 0) (cond (p b) 1 0) (suc (afterLast p s))
@@ -92,19 +92,19 @@ startsWith c s = not (eqb (length s) 0) && eqb (getD s 0 0) c
 abbrev pub endsWith : ℕ → List ℕ → Bool
 endsWith c s = not (eqb (length s) 0) && eqb (getD s (length s - 1) 0) c
 
--- the text without the byte c at its front, where it stands there
+-- the text, without its first byte if that is c
 abbrev pub stripPrefix : ℕ → List ℕ → List ℕ
 stripPrefix c s = cond (startsWith c s) (drop 1 s) s
 
--- the text without the byte c at its end, where it stands there
+-- the text, without its last byte if that is c
 abbrev pub stripSuffix : ℕ → List ℕ → List ℕ
 stripSuffix c s = cond (endsWith c s) (take (length s - 1) s) s
 
--- the text ends with t, once f is applied to each of its bytes
+-- the text s ends with t after f is applied to each byte of s
 abbrev pub endsWithBy : (ℕ → ℕ) → List ℕ → List ℕ → Bool
 endsWithBy f t s = leb (length t) (length s) && sameBy f (drop (length s - length t) s) t
 
--- a byte more at the front of the first part
+-- the parts, with one more byte at the front of the first
 unfoldable pub onto : ℕ → List (List ℕ) → List (List ℕ)
 onto b [] = (b ∷ []) ∷ []
 onto b (p ∷ ps) = (b ∷ p) ∷ ps
@@ -120,6 +120,6 @@ nonEmpty [] = []
 nonEmpty ([] ∷ ss) = nonEmpty ss
 nonEmpty ((b ∷ s) ∷ ss) = (b ∷ s) ∷ nonEmpty ss
 
--- the new bytes, and what stood past them
+-- the new bytes in place of the first old ones; the old bytes past them stay
 abbrev pub overwrite : List ℕ → List ℕ → List ℕ
 overwrite new old = new ++ drop (length new) old

@@ -37,7 +37,7 @@ except c b = not (eqb b c)
 abbrev pub notE : ℕ → Bool
 notE b = not (eqb b (code "e") || eqb b (code "E"))
 
--- a byte of a character that is not its first
+-- a byte of a character after its first byte
 abbrev pub continuation : ℕ → Bool
 continuation b = leb 0x80 b && leb b 0xBF
 
@@ -83,13 +83,13 @@ digitOrDash b = digit b || eqb b (code "-")
 abbrev pub nonDigit : ℕ → Bool
 nonDigit b = not (digit b)
 
--- the classes by number; c is for `except` and `only` alone
+-- the classes by number; only `except` and `only` use c
 abbrev pub classes : ℕ → List (ℕ → Bool)
 classes c =
     ascii ∷ digit ∷ letter ∷ digitOrComma ∷ digitOrDash ∷ romanTail ∷ notColonOrPoint ∷ except c
     ∷ nonDigit ∷ notE ∷ continuation ∷ whitespace ∷ nonWhitespace ∷ prepunctuationMark ∷ nonPostpunctuation ∷ only c ∷ []
 
--- the class of a number, empty where there is none
+-- the class of number k; if there is none, no byte is in it
 abbrev pub inClass : ℕ → ℕ → ℕ → Bool
 inClass k c = getD (classes c) k (λ b. false)
 

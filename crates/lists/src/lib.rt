@@ -1,5 +1,5 @@
-// Bytes of a text: reads and parts that are total, scans, comparisons and the clipped copy. Nothing here but `copy` demands
-// anything of its caller, and contracts are equations.
+// Bytes of a text: reads, parts, scans, comparisons, and stores that stop at the end of the buffer. Only `copy` demands anything
+// of its caller. Each contract gives what the result is equal to.
 ghost use mathlib.Core.Path.{_≡_};
 ghost use mathlib.Core.Bool.{cond};
 ghost use mathlib.Core.List.{map};
@@ -10,7 +10,7 @@ ghost use Rattle.lists.specs.Bytes.{all, span, countIf, afterLast, sameB
 ghost use Rattle.lists.specs.Classes.{inClass, folded, prepunctuationMark, postpunctuationMark};
 ghost use Rattle.lists.specs.Packed.{unpack};
 
-// The classes of bytes by number. Numbers and no enum: a scan with a constant is then compiled to that class alone.
+// The classes of bytes, by number. They are numbers and no enum: a scan that is given a constant is then compiled for that class alone.
 pub const ASCII: u8 = 0;
 
 pub const DIGIT: u8 = 1;
@@ -24,7 +24,7 @@ pub const DIGIT_OR_DASH: u8 = 4;
 pub const ROMAN_TAIL: u8 = 5;
 
 pub const NOT_COLON_OR_POINT: u8 = 6;
-// Every byte but one, which the scan is given beside the class. For any other class but ONLY it is given 0.
+// Every byte but the one that is given beside the class. Only NOT and ONLY use that byte; for other classes it is 0.
 pub const NOT: u8 = 7;
 
 pub const NON_DIGIT: u8 = 8;
@@ -42,7 +42,7 @@ pub const PREPUNCTUATION: u8 = 13;
 // Every byte but a trailing mark.
 pub const NON_POSTPUNCTUATION: u8 = 14;
 
-// The one byte that the scan is given beside the class.
+// Only the byte that is given beside the class.
 pub const ONLY: u8 = 15;
 
 // What a comparison does to each byte of its first text: nothing, or A to Z are lowered.
@@ -50,7 +50,7 @@ pub const EXACT: bool = false;
 
 pub const LOWERED: bool = true;
 
-// a - b, or 0 where b is larger.
+// a - b, or 0 if b is larger.
 pub fn saturating_sub(a: usize, b: usize) -> usize
     ensures { λ r. ⌜ r ≡ a - b ⌝ }
 {
@@ -64,7 +64,7 @@ pub fn byte_at(s: &[u8], i: usize) -> u8
     if i < s.len() { s[i] } else { 0 }
 }
 
-// The first k bytes, or all of them where there are fewer.
+// The first k bytes, or all of them if there are fewer.
 pub fn front(s: &[u8], k: usize) -> &[u8]
     ensures { λ r. ⌜ now r ≡ take k (now (s .entry)) ⌝ }
 {
@@ -74,7 +74,7 @@ pub fn front(s: &[u8], k: usize) -> &[u8]
     s
 }
 
-// What follows the first k bytes, nothing where there are fewer.
+// What follows the first k bytes, nothing if there are fewer.
 pub fn tail(s: &[u8], k: usize) -> &[u8]
     ensures { λ r. ⌜ now r ≡ drop k (now (s .entry)) ⌝ }
 {
@@ -84,7 +84,7 @@ pub fn tail(s: &[u8], k: usize) -> &[u8]
     &s[..0]
 }
 
-// The bytes from index a up to b, as far as there are such.
+// The bytes from index a to the one before index b, as far as the text has them.
 pub fn part(s: &[u8], a: usize, b: usize) -> &[u8]
     ensures { λ r. ⌜ now r ≡ take (b - a) (drop a (now (s .entry))) ⌝ }
 {
@@ -94,7 +94,7 @@ pub fn part(s: &[u8], a: usize, b: usize) -> &[u8]
     &s[..0]
 }
 
-// The last k bytes, or all of them where there are fewer.
+// The last k bytes, or all of them if there are fewer.
 pub fn back(s: &[u8], k: usize) -> &[u8]
     ensures { λ r. ⌜ now r ≡ drop (length (now (s .entry)) - k) (now (s .entry)) ⌝ }
 {
@@ -104,7 +104,7 @@ pub fn back(s: &[u8], k: usize) -> &[u8]
     s
 }
 
-// All but the last k bytes, nothing where there are fewer.
+// All but the last k bytes, nothing if there are fewer.
 pub fn without_back(s: &[u8], k: usize) -> &[u8]
     ensures { λ r. ⌜ now r ≡ take (length (now (s .entry)) - k) (now (s .entry)) ⌝ }
 {
@@ -258,7 +258,7 @@ pub fn span_of(k: u8, c: u8, s: &[u8]) -> usize
     i
 }
 
-// The place after the last byte of the class k, 0 where there is none.
+// The place after the last byte of the class k, 0 if there is none.
 pub fn after_last(k: u8, c: u8, s: &[u8]) -> usize
     ensures { λ r. ⌜ r ≡ afterLast (inClass k c) (now (s .entry)) ⌝ }
 {
@@ -281,7 +281,7 @@ pub fn fold_byte(lowered: bool, b: u8) -> u8
     }
 }
 
-// Whether t is s, with A to Z lowered where that is asked.
+// Whether t is s. If `lowered` is true, A to Z of s are lowered first.
 pub fn same(lowered: bool, s: &[u8], t: &[u8]) -> bool
     ensures { λ r. ⌜ r ≡ sameBy (folded lowered) (now (s .entry)) (now (t .entry)) ⌝ }
 {
@@ -298,7 +298,7 @@ pub fn same(lowered: bool, s: &[u8], t: &[u8]) -> bool
     true
 }
 
-// Whether s, with A to Z lowered where that is asked, ends with t.
+// Whether s ends with t. If `lowered` is true, A to Z of s are lowered first.
 pub fn ends_same(lowered: bool, s: &[u8], t: &[u8]) -> bool
     ensures { λ r. ⌜ r ≡ endsWithBy (folded lowered) (now (t .entry)) (now (s .entry)) ⌝ }
 {

@@ -16,7 +16,7 @@ use Rattle.shapes.specs.Shapes.{unitAt, hasUnit, unitPart}
 use Rattle.shapes.proofs.Laws.{unit-some}
 use Rattle.patterns.specs.Calls.{noPart, unitFound, storeTests, storeCall, unitWordCall}
 
--- no unit
+-- if the unit is empty, no unit is found
 pub unit-none : (s : List ℕ) → length (unitPart s) ≡ 0 → unitFound s ≡ noPart
 unfolding unitFound
 unit-none s h = go (hasUnit s) refl h
@@ -26,7 +26,7 @@ unit-none s h = go (hasUnit s) refl h
     go true e h = absurd (unit-some s e h)
     go false e h = refl
 
--- a unit
+-- if the unit is not empty, it is found at the end of the name
 pub unit-found : (s : List ℕ) → (length (unitPart s) ≡ 0 → ⊥)
     → record { found = true; offset = length s - length (unitPart s); size = length (unitPart s) } ≡ unitFound s
 unfolding unitFound
@@ -53,6 +53,7 @@ unit-stands s = go (hasUnit s)
     go true = take-length (drop (unitAt s) s)
     go false = refl
 
+-- a unit is not longer than its name
 pub unit-le : (s : List ℕ) → length (unitPart s) ≤ length s
 unit-le s = go (hasUnit s)
   where
@@ -66,14 +67,15 @@ unfolding textTests
 unit-word-in-order s store = refl
 
 module _ (s store : List ℕ) (n : ℕ) (refusal-eq : n ≡ textRefusal textLimit s) where
+  -- if the text is refused, the call answers its number
   pub word-refused : (n ≡ 0 → ⊥) → record { refusal = n; value = record { found = false; size = 0; store = store } } ≡ unitWordCall s store
   word-refused z = refused-first (textTests textLimit (s ∷ [])) (storeTests (unitWord s) store) refusal-eq _ _ z
 
-  -- an accepted text that is a unit
+  -- if the text is accepted and is a unit, the call answers what storing its word answers
   pub word-found : n ≡ 0 → unitIndex s < 22 → storeCall (unitWord s) store ≡ unitWordCall s store
   word-found z h = rw (hit-some s h, passed-first (textTests textLimit (s ∷ [])) (storeTests (unitWord s) store) refusal-eq z)
 
-  -- an accepted text that is none
+  -- if the text is accepted and is no unit, the call answers no word
   pub word-none : n ≡ 0 → 22 ≤ unitIndex s → record { refusal = 0; value = record { found = false; size = 0; store = store } } ≡ unitWordCall s store
   word-none z h =
       let l : ltb (length store) 0 ≡ false = le-ltb (length store) 0 (omega arith) in

@@ -25,7 +25,7 @@ asVerdict r = record { refusal = r .refusal; value = r .yes }
 abbrev pub verdictCall : List ℕ → Bool → Call Bool
 verdictCall s v = call false (textRefusal textLimit s) v
 
--- split_time_meridiem: "answers hour, minute and meridiem, or none", and "no part" where it is refused
+-- split_time_meridiem: "answers hour, minute and meridiem, or none", and "no part" if it is refused
 abbrev pub timeCall : List ℕ → Call TimeParts
 timeCall s = call no-time-parts (textRefusal textLimit s) (timeParts s)
 
@@ -40,7 +40,7 @@ offsetsCall s = call Nothing (textRefusal textLimit s) (timeSplit s)
 abbrev pub asOffsets : SplitTime → Call TimeSplit
 asOffsets r = record { refusal = r .refusal; value = r .split }
 
--- a part of the lent name, or none: no, at 0, of 0 bytes
+-- a part of the lent name; if there is none: no, offset 0 and size 0
 pub record FoundPart : Type 0 where
   pub found : Bool
   pub offset : ℕ
@@ -68,7 +68,7 @@ pub record UnitWordResult : Type 0 where
 abbrev pub asUnitWord : UnitWord → List ℕ → Call UnitWordResult
 asUnitWord r store = record { refusal = r .refusal; value = record { found = r .yes; size = r .len; store = store } }
 
--- "a lent output buffer is smaller than the whole result": the word goes to the store
+-- "a lent output buffer is smaller than the whole result": the buffer is the store, and the result is the word
 abbrev pub storeTests : List ℕ → List ℕ → List Test
 storeTests word store = BufferTooShort when ltb (length store) (length word) ∷ []
 

@@ -1,5 +1,5 @@
-// The public functions of patterns.rs, in its order and under its names: each takes all bytes, and answers its verdict or
-// the one refusal that it earns. Their structs are numbers and flags, as C takes them, save SplitTime.
+// The public functions of patterns.rs, in its order and under its names. Each takes all bytes, and answers its verdict or a refusal.
+// The structs hold numbers and flags, as C takes them; only SplitTime does not.
 use admit::Refusal;
 use admit::refusal_of;
 use lists::put;
@@ -9,7 +9,7 @@ ghost use mathlib.Core.Path.{_≡_};
 ghost use Rattle.shapes.specs.Shapes.{isDigits, isAlpha, isDouble, isCommaInt, isOrdinal, isUsMoney, isIllion, isRoman, isDrOrSt, isNumberS, isLeadingZeroDigits, isSevenDigitPhone, isNDigits, isTime, isDottedAbbrev, isDigitsSlashDigits, isDigitsDashDigits};
 ghost use Rattle.patterns.specs.Calls.{asVerdict, verdictCall, asTime, timeCall, asOffsets, offsetsCall, asUnit, unitCall, asUnitWord, unitWordCall, refusedVerdict, acceptedVerdict, storeCall};
 
-// A shape's verdict: the refusal's number or 0, and the verdict, no where the call is refused.
+// A shape's verdict: the refusal's number or 0, and the verdict, which is no if the call is refused.
 #[repr(C)]
 pub struct Verdict {
     pub refusal: u8,
@@ -22,7 +22,7 @@ pub struct SplitTime {
     pub split: TimeSplit,
 }
 
-// The unit's place in the name; no, 0 and 0 where there is none.
+// The unit's place in the name; no, 0 and 0 if there is none.
 #[repr(C)]
 pub struct SplitUnit {
     pub refusal: u8,
@@ -269,7 +269,7 @@ pub fn split_unit(s: &[u8]) -> SplitUnit
     }
 }
 
-// Writes the word to the front of the store where it fits.
+// Writes the word to the front of the store, if it fits.
 fn store_word(word: &[u8], store: &mut [u8]) -> UnitWord
     ensures { λ r. ⌜ asUnitWord r (now (store .exit)) ≡ storeCall (now (word .entry)) (now (store .entry)) ⌝ }
 {

@@ -1,4 +1,4 @@
--- Document 01's corners of the shape verdicts: the definitions are evaluated. Assumes nothing.
+-- Document 01's corners of the shape verdicts, proved by evaluating the definitions. Assumes nothing.
 use mathlib.Core.Path.{_≡_, refl}
 use mathlib.Core.Bool.{Bool, true, not}
 use mathlib.Core.List.{List, [], _∷_}
@@ -16,7 +16,8 @@ cornerHolds (accepts shape s) = shape (bytes s)
 cornerHolds (rejects shape s) = not (shape (bytes s))
 
 -- "`is_double` takes one leading minus and no plus; "1." and ".5" pass, "." and "1e" don't. `is_us_money` passes "$,". `is_ordinal` passes
--- "1,,th". `is_digits_dash_digits` drops empty parts, so "-5-6" passes."; and, from the Rust, corners of the shapes that no form tells
+-- "1,,th". `is_digits_dash_digits` drops empty parts, so "-5-6" passes."; and, from the Rust, corners of shapes that have no form in
+-- specs/Grammar.antt
 unfoldable pub verdictCorners : List VerdictCorner
 verdictCorners =
     accepts isDouble "-1" ∷ rejects isDouble "--1" ∷ rejects isDouble "+1" ∷ accepts isDouble "1." ∷ accepts isDouble ".5" ∷ rejects isDouble "."
@@ -27,6 +28,7 @@ verdictCorners =
     ∷ accepts isDrOrSt "Dr" ∷ accepts isDrOrSt "sT" ∷ rejects isDrOrSt "Dr." ∷ accepts isAlpha "aZ" ∷ rejects isAlpha "a1" ∷ rejects isAlpha ""
     ∷ accepts isDottedAbbrev "a.B." ∷ accepts isDottedAbbrev "a.B" ∷ rejects isDottedAbbrev "a." ∷ rejects isDottedAbbrev "a..b" ∷ rejects isDottedAbbrev "ab.c" ∷ []
 
+-- every corner of the table holds
 pub verdict-corners-hold : all cornerHolds verdictCorners ≡ true
 unfolding verdictCorners all any span split onto nonEmpty sameBy isDigits isAlpha isExponent isUnsigned isOrdinal isAmount isDottedAbbrev isDigitsDashDigits
 verdict-corners-hold = refl

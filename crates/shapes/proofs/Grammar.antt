@@ -35,7 +35,7 @@ pub record Once (c : ℕ) (both : List ℕ → List ℕ → Bool) (s : List ℕ)
   pub first : all (except c) front ≡ true
   pub passed : both front rest ≡ true
 
--- a text that is split so is made of two such parts
+-- a text that `splitOnce` takes is made of two such parts
 pub once-parts : (c : ℕ) (both : List ℕ → List ℕ → Bool) (s : List ℕ) → splitOnce c both s ≡ true → Once c both s
 unfolding splitOnce
 once-parts c both s h =
@@ -45,7 +45,7 @@ once-parts c both s h =
     let e : getD s n 0 ≡ c = eqb-true _ _ (not-false _ (span-fails (except c) s l)) in
     record { front = take n s; rest = drop (n + 1) s; joined = rw (e, ← add-one n) at (split-at s n 0 l); first = span-all (except c) s; passed = k .1 }
 
--- and two such parts are split so
+-- and `splitOnce` takes two such parts with c between them
 pub once-taken : (c : ℕ) (both : List ℕ → List ℕ → Bool) (a b : List ℕ) → all (except c) a ≡ true → both a b ≡ true → splitOnce c both (a ++ (c ∷ b)) ≡ true
 unfolding splitOnce
 once-taken c both a b f p =
@@ -54,7 +54,7 @@ once-taken c both a b f p =
     let m : drop (n + 1) (a ++ (c ∷ b)) ≡ b = sym (drop-drop 1 n (a ++ (c ∷ b))) ∙ ap (drop 1) (drop-at a (c ∷ b) n (sym e)) in
     rw (lt-ltb n (length (a ++ (c ∷ b))) (omega (arith, e, length-append a (c ∷ b))), take-at a (c ∷ b) n (sym e), m, p)
 
--- digits have no such separator
+-- a separator that is no digit does not stand among digits
 no-separator : (c : ℕ) → digit c ≡ false → (s : List ℕ) → isDigits s ≡ true → all (except c) s ≡ true
 no-separator c e s h = all-within digit (except c) (λ b k. rw (class-apart digit c b e k)) s (digits-all s h)
 
@@ -68,7 +68,7 @@ time-taken _ (time h m d l n t) =
     once-taken (code ":") isHourMinute h m (no-separator (code ":") refl h d)
     (rw (le-leb 1 (length h) (digits-some h d), le-leb (length h) 2 l, d, n, le-leb (getD m 0 0) (code "5") t))
 
--- a text is a time where it has this form, and only there
+-- is_time takes a text exactly when it has this form
 pub time-form : (s : List ℕ) → (isTime s ≡ true) ↔ TimeForm s
 unfolding isHourMinute
 time-form s = (
@@ -88,7 +88,7 @@ time-form s = (
 phone-taken : (s : List ℕ) → PhoneForm s → isSevenDigitPhone s ≡ true
 phone-taken _ (phone a b p q) = once-taken (code "-") isPhoneParts a b (no-separator (code "-") refl a (n-digits 3 a p)) (rw (p, q))
 
--- the shape takes a text exactly where a phone number is of its form
+-- is_seven_digit_phone takes a text exactly when it has this form
 pub phone-form : (s : List ℕ) → (isSevenDigitPhone s ≡ true) ↔ PhoneForm s
 phone-form s = (
   λ e.
@@ -101,7 +101,7 @@ phone-form s = (
 slashed-taken : (s : List ℕ) → SlashedForm s → isDigitsSlashDigits s ≡ true
 slashed-taken _ (slashed a b p q) = once-taken (code "/") areDigits a b (no-separator (code "/") refl a p) (rw (p, q))
 
--- the shape takes a text exactly where digits with a slash are of their form
+-- is_digits_slash_digits takes a text exactly when it has this form
 pub slashed-form : (s : List ℕ) → (isDigitsSlashDigits s ≡ true) ↔ SlashedForm s
 slashed-form s = (
   λ e.
@@ -113,7 +113,7 @@ slashed-form s = (
 
 -- ---- a text by its parts
 
--- the parts of a text give the text
+-- the parts of a text, joined by the separator, are the text
 pub joinBy-split : (c : ℕ) (s : List ℕ) → joinBy c (split c s) ≡ s
 unfolding split onto flatten
 joinBy-split c [] = refl
@@ -124,7 +124,7 @@ joinBy-split c (b ∷ s) = go (eqb b c) refl (split c s) (split-some c s) (joinB
     go true e (p ∷ ps) l i = rw (eqb-true b c e) (ap (λ (r : List ℕ). c ∷ r) i)
     go false e (p ∷ ps) l i = ap (λ (r : List ℕ). b ∷ r) i
 
--- a part without the separator goes before the first part of the rest, where that is empty
+-- if the first part of the rest is empty, a part without the separator that is put before the rest takes its place
 front-part : (c : ℕ) (p rest : List ℕ) (ps : List (List ℕ)) → split c rest ≡ [] ∷ ps → all (except c) p ≡ true → split c (p ++ rest) ≡ p ∷ ps
 unfolding split onto all
 front-part c [] rest ps e h = e
@@ -132,7 +132,7 @@ front-part c (b ∷ p) rest ps e h =
     let k = and-eq-true-iff (except c b) (all (except c) p) .0 h in
     rw (not-true (eqb b c) (k .0), front-part c p rest ps e (k .1))
 
--- parts without the separator are the parts of what they give
+-- parts without the separator, joined by it, are split into these parts again
 pub split-joinBy : (c : ℕ) (p : List ℕ) (ps : List (List ℕ)) → all (all (except c)) (p ∷ ps) ≡ true → split c (joinBy c (p ∷ ps)) ≡ p ∷ ps
 unfolding split flatten all
 split-joinBy c p [] h = front-part c p [] [] refl (and-eq-true-iff (all (except c) p) true .0 h .0)
@@ -147,7 +147,7 @@ comma-taken _ (comma-int first g gs d l h) =
     let others = all-within (isNDigits 3) (all (except (code ","))) (λ p k. none p (n-digits 3 p k)) (g ∷ gs) h in
     rw (split-joinBy (code ",") first (g ∷ gs) (rw (none first d) others), d, le-leb (length first) 3 l, ne-eqb (suc (length gs)) 0 (omega arith)) h
 
--- the shape takes a text exactly where a number with commas is of its form
+-- is_comma_int takes a text exactly when it has this form
 pub comma-form : (s : List ℕ) → (isCommaInt s ≡ true) ↔ CommaIntForm s
 unfolding isCommaGroups
 comma-form s = (λ e. go (split (code ",") s) (joinBy-split (code ",") s) e, comma-taken s)
@@ -172,7 +172,7 @@ unfolding isDigits all
 zero-taken _ (leading-zero d h) =
     rw (lt-ltb 1 (suc (length d)) (omega (arith, digits-some d h)), ne-eqb (suc (length d)) 0 (omega arith), digits-all d h)
 
--- the shape takes a text exactly where digits with a leading zero are of their form
+-- is_leading_zero_digits takes a text exactly when it has this form
 pub zero-form : (s : List ℕ) → (isLeadingZeroDigits s ≡ true) ↔ LeadingZeroForm s
 unfolding isDigits all
 zero-form [] = (λ e. absurd (false≢true e), zero-taken [])
@@ -193,7 +193,7 @@ illion-taken _ (illion t) =
     let l = length-append t (bytes "illion") in
     rw (le-leb 6 (length (t ++ bytes "illion")) (omega arith), drop-at t (bytes "illion") (length (t ++ bytes "illion") - 6) (omega arith))
 
--- the shape takes a text exactly where a text in "illion" is of its form
+-- is_illion takes a text exactly when it has this form
 pub illion-form : (s : List ℕ) → (isIllion s ≡ true) ↔ IllionForm s
 illion-form s = (
   λ e.
@@ -216,7 +216,7 @@ number-taken _ (number-s d h) =
       h,
     )
 
--- the shape takes a text exactly where digits with an s are of their form
+-- is_number_s takes a text exactly when it has this form
 pub number-form : (s : List ℕ) → (isNumberS s ≡ true) ↔ NumberSForm s
 number-form s = (
   λ e.
@@ -230,7 +230,7 @@ number-form s = (
   number-taken s,
 )
 
--- two bytes that are a suffix once they are lowered, the first below 128
+-- a text that is c and d once it is lowered has two bytes, and the first starts a character, if c is below 128
 two-bytes : (s : List ℕ) (c d : ℕ) → c < 128 → sameBy toLower s (c ∷ d ∷ []) ≡ true → (length s ≡ 2) × (startsChar (getD s 0 0) ≡ true)
 unfolding sameBy
 two-bytes [] c d l h = absurd (false≢true h)
@@ -252,7 +252,7 @@ suffix-bytes s =
     (two-bytes s (code "s") (code "t") (omega arith)))
     (two-bytes s (code "n") (code "d") (omega arith))) (two-bytes s (code "r") (code "d") (omega arith))
 
--- the hour's digits are no separators
+-- no byte of the hour is a separator
 hour-unparted : (h m : List ℕ) → isHourMinute h m ≡ true → all notColonOrPoint h ≡ true
 unfolding isHourMinute
 hour-unparted h m e =
@@ -282,7 +282,7 @@ meridiem-taken _ (meridiem-time h m x c p q e) =
     )
     p
 
--- a text is a time with am or pm where it has this form, and only there
+-- a text is a time with am or pm exactly when it has this form
 pub meridiem-form : (s : List ℕ) → (isMeridiemTime s ≡ true) ↔ MeridiemForm s
 meridiem-form s = (
   λ e.
@@ -303,7 +303,7 @@ meridiem-form s = (
     last-two true u v h = h
     last-two false u v h = absurd (false≢true h)
 
--- a comparison that lowers the first text is one with the lowered text
+-- a comparison that lowers the first text compares with the lowered text
 same-lowered : (s t : List ℕ) → sameBy toLower s t ≡ same t (map toLower s)
 unfolding sameBy
 same-lowered [] [] = refl
@@ -318,7 +318,7 @@ same-lowered (b ∷ s) (c ∷ t) = rw (same-lowered s t) (ap (λ (x : Bool). x &
         go true e = eq-eqb m n (sym (eqb-true n m e))
         go false e = ne-eqb m n (λ z. eqb-false n m e (sym z))
 
--- the suffixes, one by one
+-- a text is a suffix exactly when it is one of the list once it is lowered
 suffix-listed : (s : List ℕ) → isOrdinalSuffix s ≡ listed (map toLower s) suffixes
 unfolding any
 suffix-listed s =
@@ -350,7 +350,7 @@ ordinal-taken _ (ordinal-number (b ∷ num) suf f h x) =
     )
     h
 
--- the shape takes a text exactly where an ordinal is of its form
+-- is_ordinal takes a text exactly when it has this form
 pub ordinal-form : (s : List ℕ) → (isOrdinal s ≡ true) ↔ OrdinalForm s
 unfolding isOrdinal
 ordinal-form s = (
@@ -381,7 +381,7 @@ money-taken _ (cents w d l h k) =
     )
     k
 
--- what follows the dollar sign
+-- an amount with a dollar sign before it has the form of money
 amount-form : (s : List ℕ) → isAmount s ≡ true → MoneyForm (bytes "$" ++ s)
 unfolding isAmount
 amount-form s e = go (drop n s) refl (p .1)
@@ -409,7 +409,7 @@ amount-form s e = go (drop n s) refl (p .1)
             (cents (take n s) d some (span-all digitOrComma s) h)
         more false f h = absurd (omega (arith, eqb-true (suc (length d)) 0 h))
 
--- the shape takes a text exactly where an amount of dollars is of its form
+-- is_us_money takes a text exactly when it has this form
 pub money-form : (s : List ℕ) → (isUsMoney s ≡ true) ↔ MoneyForm s
 money-form [] = (λ e. absurd (false≢true e), money-taken [])
 money-form (b ∷ s) = (
@@ -420,7 +420,7 @@ money-form (b ∷ s) = (
   money-taken (b ∷ s),
 )
 
--- what every listed text passes, a text that is one of them passes
+-- if every listed text passes a test, so does a text that is one of them
 listed-passes : (p : List ℕ → Bool) (u : List ℕ) (ss : List (List ℕ)) → all p ss ≡ true → listed u ss ≡ true → p u ≡ true
 unfolding all any
 listed-passes p u [] a h = absurd (false≢true h)
@@ -454,7 +454,7 @@ unit-taken _ (measure n u d h k x) =
     )
     x
 
--- and only such a name has one
+-- a name has a unit exactly when it has this form
 pub unit-form : (s : List ℕ) → (hasUnit s ≡ true) ↔ UnitForm s
 unfolding hasUnit
 unit-form s = (

@@ -1,4 +1,4 @@
--- The shapes that are stated by parts, in the terms of scans. Assumes nothing.
+-- What scans say about shapes that are defined by their parts, and how long some texts are. Assumes nothing.
 use mathlib.Core.Path.{_≡_, refl, sym, _∙_}
 use mathlib.Core.Bool.{Bool, true, false, cond, not, _&&_, _||_, and-true, and-false, and-assoc, or-true, or-false, and-eq-true-iff, true≢false}
 use mathlib.Core.List.{List, [], _∷_}
@@ -14,20 +14,21 @@ use Rattle.shapes.specs.Shapes.{isDigits, isCommaGroups, isCommaInt, isN
 use Rattle.units.specs.Units.{isUnit}
 use Rattle.units.proofs.Laws.{empty-none}
 
--- digits are bytes of their class
+-- each byte of a text of digits is a digit
 pub digits-all : (s : List ℕ) → isDigits s ≡ true → all digit s ≡ true
 unfolding isDigits
 digits-all s h = and-eq-true-iff (not (eqb (length s) 0)) (all digit s) .0 h .1
 
--- and there are some
+-- a text of digits is not empty
 pub digits-nonempty : (s : List ℕ) → isDigits s ≡ true → eqb (length s) 0 ≡ false
 unfolding isDigits
 digits-nonempty s h = not-true (eqb (length s) 0) (and-eq-true-iff (not (eqb (length s) 0)) (all digit s) .0 h .0)
 
+-- so it has a length above 0
 pub digits-some : (s : List ℕ) → isDigits s ≡ true → 0 < length s
 digits-some s h = let n = eqb-false (length s) 0 (digits-nonempty s h) in omega arith
 
--- a comma
+-- a text with a comma passes exactly if the part before the first comma and the parts after it pass their tests
 pub comma-more : (s : List ℕ) → span (except 44) s < length s
     → isCommaInt s ≡ isDigits (take (span (except 44) s) s) && leb (length (take (span (except 44) s) s)) 3 && all (isNDigits 3)
     (split 44 (drop (span (except 44) s + 1) s))
@@ -40,12 +41,12 @@ comma-more s h =
       and-true (isDigits (take (span (except 44) s) s) && leb (length (take (span (except 44) s) s)) 3),
     )
 
--- no comma
+-- a text without a comma does not pass
 pub comma-none : (s : List ℕ) → length s ≤ span (except 44) s → isCommaInt s ≡ false
 unfolding isCommaGroups
 comma-none s h = rw (split-last 44 s h, and-false (isDigits s && leb (length s) 3))
 
--- a part of digits, empty or not
+-- a part, empty or not, passes exactly if each of its bytes is a digit
 digits-part : (p : List ℕ) (ps : List (List ℕ)) → all isDigits (nonEmpty (p ∷ ps)) ≡ all digit p && all isDigits (nonEmpty ps)
 unfolding isDigits all nonEmpty
 digits-part [] ps = refl
@@ -56,7 +57,7 @@ unfolding onto all
 digits-onto b [] = digits-part (b ∷ []) [] ∙ rw (and-true (digit b))
 digits-onto b (p ∷ ps) = digits-part (b ∷ p) ps ∙ rw (digits-part p ps, and-assoc (digit b) (all digit p) (all isDigits (nonEmpty ps)))
 
--- the parts between dashes are digits where every byte is a digit or a dash
+-- the parts between dashes are digits exactly if every byte is a digit or a dash
 pub dash-all : (s : List ℕ) → all isDigits (nonEmpty (split 45 s)) ≡ all digitOrDash s
 unfolding split all nonEmpty
 dash-all [] = refl
@@ -78,7 +79,7 @@ unit-some s h z =
     go [] z u = true≢false (sym u ∙ empty-none)
     go (b ∷ t) z u = omega arith
 
--- a text whose two parts pass is as long as they are
+-- a text fails if two parts that pass can never be as long as it, with the separator between them
 split-length : (c : ℕ) (both : List ℕ → List ℕ → Bool) (s : List ℕ)
     → ((a b : List ℕ) → both a b ≡ true → length a + 1 + length b ≡ length s → ⊥) → splitOnce c both s ≡ false
 unfolding splitOnce

@@ -20,6 +20,7 @@ drop-take (suc m) zero s = let e : 0 - suc m ≡ 0 = omega arith in rw e
 drop-take (suc m) (suc n) [] = sym (take-nil (suc n - suc m))
 drop-take (suc m) (suc n) (b ∷ s) = let e : suc n - suc m ≡ n - m = omega arith in rw e (drop-take m n s)
 
+-- the offsets of `timeSplit` stand for the parts of `timeParts`
 pub timeSplit-parts : (s : List ℕ) → timePartsAt (timeSplit s) s ≡ timeParts s
 unfolding timeSplit timeParts
 timeSplit-parts s = go (endsInMeridiem s) (ltb sep (length (timeOf s))) refl (isHourMinute (take sep (timeOf s)) (drop (sep + 1) (timeOf s)))
@@ -38,5 +39,6 @@ timeSplit-parts s = go (endsInMeridiem s) (ltb sep (length (timeOf s))) refl (is
     go true false e t = refl
     go false b e t = refl
 
+-- so it is enough to prove the offsets
 pub splits-time : (s : List ℕ) (r : TimeSplit) → r ≡ timeSplit s → SplitsTime s r
 splits-time s r e = record { offsets = e; parts-named = rw e (timeSplit-parts s) }

@@ -1,5 +1,5 @@
--- The shapes as forms of texts: what a name that a shape takes is made of. The verdicts are held against them in proofs/Grammar.antt.
--- Definitions only; theorems speak of them, and no contract.
+-- Shapes as forms of texts: each form says what the names that a shape takes are made of. proofs/Grammar.antt proves that the shape
+-- takes exactly these names. Definitions only. Theorems use them, and contracts do not.
 use mathlib.Core.Path.{_≡_}
 use mathlib.Core.Bool.{Bool, true, false, _||_}
 use mathlib.Core.List.{List, [], _∷_, _++_, map, flatten}
@@ -37,7 +37,7 @@ pub data CommaIntForm : List ℕ → Type 0 where
 pub data LeadingZeroForm : List ℕ → Type 0 where
   leading-zero : (d : List ℕ) → isDigits d ≡ true → LeadingZeroForm (bytes "0" ++ d)
 
--- whatever stands before "illion"
+-- any text, and then "illion"
 pub data IllionForm : List ℕ → Type 0 where
   illion : (t : List ℕ) → IllionForm (t ++ bytes "illion")
 
@@ -62,7 +62,7 @@ pub data OrdinalForm : List ℕ → Type 0 where
   ordinal-number : (num suf : List ℕ) → digit (getD num 0 0) ≡ true → all digitOrComma num ≡ true → listed (map toLower suf) suffixes ≡ true
       → OrdinalForm (num ++ suf)
 
--- a dollar sign, digits and commas, and where there is a point, digits after it: "passes "$,""
+-- a dollar sign, then digits or commas; if there is a point, digits after it: "passes "$,""
 pub data MoneyForm : List ℕ → Type 0 where
   dollars : (w : List ℕ) → 0 < length w → all digitOrComma w ≡ true → MoneyForm (bytes "$" ++ w)
   cents : (w d : List ℕ) → 0 < length w → all digitOrComma w ≡ true → isDigits d ≡ true → MoneyForm (bytes "$" ++ (w ++ (bytes "." ++ d)))

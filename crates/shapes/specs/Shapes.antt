@@ -1,4 +1,5 @@
--- The shape verdicts of patterns.rs, each written from the Rust function of its name, in that file's order but for is_n_digits, which others use. Definitions only.
+-- The shape verdicts of patterns.rs, each written from the Rust function of its name. They stand in that file's order, but
+-- is_n_digits comes earlier, since others use it. Definitions only.
 use mathlib.Core.Bool.{Bool, false, cond, not, _&&_, _||_}
 use mathlib.Core.List.{List, [], _∷_}
 use Prim.Native.Nat.{ℕ, _+_, _-_}
@@ -93,7 +94,7 @@ isNumberS s = leb 2 (length s) && endsWith (code "s") s && isDigits (take (lengt
 abbrev pub isLeadingZeroDigits : List ℕ → Bool
 isLeadingZeroDigits s = ltb 1 (length s) && startsWith (code "0") s && isDigits s
 
--- split_once(c): c stands in the text, and both, a test, passes what stands before the first c and what stands after it
+-- split_once(c): c stands in the text, and what stands before and after the first c passes the test `both`
 unfoldable pub splitOnce : ℕ → (List ℕ → List ℕ → Bool) → List ℕ → Bool
 splitOnce c both s = let at = span (except c) s in ltb at (length s) && both (take at s) (drop (at + 1) s)
 
@@ -103,7 +104,7 @@ isPhoneParts a b = isNDigits 3 a && isNDigits 4 b
 abbrev pub isSevenDigitPhone : List ℕ → Bool
 isSevenDigitPhone = splitOnce (code "-") isPhoneParts
 
--- an hour of 1 or 2 digits, and a minute of 2 of which the first is at most 5: "hours aren't limited"
+-- an hour of 1 or 2 digits, and a minute of 2 digits of which the first is at most 5: "hours aren't limited"
 unfoldable pub isHourMinute : List ℕ → List ℕ → Bool
 isHourMinute h m = leb 1 (length h) && leb (length h) 2 && isDigits h && isNDigits 2 m && leb (getD m 0 0) (code "5")
 
@@ -134,6 +135,6 @@ unitAt s = afterLast digit s
 unfoldable pub hasUnit : List ℕ → Bool
 hasUnit s = not (eqb (unitAt s) 0) && all digitOrComma (take (unitAt s) s) && isUnit (drop (unitAt s) s)
 
--- split_unit: the unit, "a part of the caller's own bytes"; no unit is empty, so nothing stands for none
+-- split_unit: the unit, "a part of the caller's own bytes"; empty if there is none, since no unit is empty
 abbrev pub unitPart : List ℕ → List ℕ
 unitPart s = cond (hasUnit s) (drop (unitAt s) s) []

@@ -9,6 +9,6 @@ use Rattle.shapes.specs.Shapes.{isNDigits, isOneLetter, isPhoneParts, is
 abbrev pub partPasses : ℕ → List ℕ → Bool
 partPasses k = getD (isNDigits 3 ∷ isOneLetter ∷ []) k (λ s. false)
 
--- the tests of the two parts at a first separator
+-- the tests of the two parts before and after a first separator
 abbrev pub pairPasses : ℕ → List ℕ → List ℕ → Bool
 pairPasses k = getD (isPhoneParts ∷ isHourMinute ∷ areDigits ∷ []) k (λ a b. false)

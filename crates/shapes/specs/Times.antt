@@ -40,7 +40,7 @@ timeParts s =
     let sep = separatorAt (timeOf s) in
     cond (isMeridiemTime s) (time-parts (take sep (timeOf s)) (drop (sep + 1) (timeOf s)) (drop (length s - 2) s)) no-time-parts
 
--- the same as offsets: where the hour ends, where the minute starts, and where it ends and the meridiem starts
+-- the same as offsets: where the hour ends, where the minute starts, and where the minute ends and the meridiem starts
 unfoldable pub timeSplit : List ℕ → TimeSplit
 timeSplit s = let sep = separatorAt (timeOf s) in cond (isMeridiemTime s) (At sep (sep + 1) (length s - 2)) Nothing
 
@@ -51,7 +51,7 @@ timePartsAt Nothing s = no-time-parts
 
 -- ---- no public promise is made of these
 
--- what the shape answers of the name s: these offsets, and so these parts
+-- what the shape answers for the name s: the offsets of `timeSplit`, which stand for the parts of `timeParts`
 pub record SplitsTime (s : List ℕ) (r : TimeSplit) : Type 0 where
   pub offsets : r ≡ timeSplit s
   pub parts-named : timePartsAt r s ≡ timeParts s

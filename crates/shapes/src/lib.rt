@@ -1,5 +1,5 @@
-// The shapes of patterns.rs on names that are admitted already, in that file's order and under its names. Each is total
-// on all bytes, so nothing is demanded; the public calls of the crate patterns put admission in front of them.
+// The shapes of patterns.rs under its names, and in its order but for is_n_digits. Each takes all bytes, and demands nothing.
+// None tests for a refusal: the public calls of the crate patterns do that before they ask a shape.
 use lists::DIGIT;
 use lists::DIGIT_OR_COMMA;
 use lists::DIGIT_OR_DASH;
@@ -37,14 +37,14 @@ const THREE_DIGITS: u8 = 0;
 
 const ONE_LETTER: u8 = 1;
 
-// The tests of the two parts at a first separator, by number.
+// The tests of the two parts before and after a first separator, by number.
 const PHONE: u8 = 0;
 
 const HOUR_MINUTE: u8 = 1;
 
 const TWO_NUMBERS: u8 = 2;
 
-// What split_time_meridiem finds: where the hour ends, where the minute starts, and where it ends and the meridiem starts.
+// What split_time_meridiem finds: where the hour ends, where the minute starts, and where the minute ends and the meridiem starts.
 pub enum TimeSplit {
     At {
         hour: usize,
@@ -238,7 +238,7 @@ fn is_hour_minute(h: &[u8], m: &[u8]) -> bool
     (1 <= h.len()) & (h.len() <= 2) & is_digits(h) & is_n_digits(m, 2) & (byte_at(m, 0) <= b'5')
 }
 
-// Whether the two parts at a first separator pass.
+// Whether the two parts before and after a first separator pass.
 fn pair_passes(test: u8, a: &[u8], b: &[u8]) -> bool
     ensures { λ r. ⌜ r ≡ pairPasses test (now (a .entry)) (now (b .entry)) ⌝ }
 {
@@ -264,7 +264,7 @@ fn split_once(test: u8, c: u8, s: &[u8]) -> bool
 pub fn is_seven_digit_phone(s: &[u8]) -> bool
     ensures { λ r. ⌜ r ≡ isSevenDigitPhone (now (s .entry)) ⌝ }
 {
-    // A text of another length is not one, and is not scanned for its hyphen.
+    // Such a phone number has 8 bytes, so no other text is scanned for a hyphen.
     if s.len() != 8 {
         return false;
     }
@@ -274,7 +274,7 @@ pub fn is_seven_digit_phone(s: &[u8]) -> bool
 pub fn is_time(s: &[u8]) -> bool
     ensures { λ r. ⌜ r ≡ isTime (now (s .entry)) ⌝ }
 {
-    // A longer text is not one, and is not scanned for its colon.
+    // A time has at most 5 bytes, so no longer text is scanned for a colon.
     if 5 < s.len() {
         return false;
     }
@@ -364,7 +364,7 @@ fn has_unit(s: &[u8]) -> bool
     units::unit_index(tail(s, at)) < units::UNIT_COUNT
 }
 
-// The unit, a part of the name; an empty part where there is none.
+// The unit, a part of the name; an empty part if there is none.
 pub fn split_unit(s: &[u8]) -> &[u8]
     ensures { λ r. ⌜ now r ≡ unitPart (now (s .entry)) ⌝ }
 {

@@ -38,7 +38,7 @@ unfoldable pub indexOf : List ℕ → List (List ℕ) → ℕ
 indexOf t [] = 0
 indexOf t (s ∷ ss) = cond (same s t) 0 (suc (indexOf t ss))
 
--- the number of the first row whose abbreviation is u, the table's length where there is none
+-- the number of the first row whose abbreviation is u, the table's length if there is none
 abbrev pub unitIndex : List ℕ → ℕ
 unitIndex u = indexOf u abbreviations
 
@@ -46,13 +46,13 @@ unitIndex u = indexOf u abbreviations
 abbrev pub isUnit : List ℕ → Bool
 isUnit u = listed u abbreviations
 
--- unit_word: the word of the first row whose abbreviation is u, nothing where there is none
+-- unit_word: the word of the first row whose abbreviation is u, nothing if there is none
 abbrev pub unitWord : List ℕ → List ℕ
 unitWord u = getD unitWords (unitIndex u) []
 
 -- ---- no public promise is made of these
 
--- a number that tells the texts of up to 3 bytes apart, 0 for a longer one
+-- a number that is different for different texts of up to 3 bytes, and 0 for every longer text
 unfoldable pub unitKey : List ℕ → ℕ
 unitKey u = cond (leb (length u) 3) (leValue (length u ∷ u)) 0
 

@@ -4,7 +4,7 @@ ghost use mathlib.Core.Path.{_≡_};
 ghost use lib.ListN.{getD};
 ghost use Rattle.units.specs.Units.{unitIndex, unitKey, unitKeys, wordNumbers};
 
-// The rows of the table.
+// How many rows the table has.
 pub const UNIT_COUNT: u8 = 22;
 
 // The key of each row's abbreviation.
@@ -37,7 +37,7 @@ fn unit_keys() -> [u32; 22]
     ]
 }
 
-// The key of a text: its length and its bytes in one number, the length lowest; 0 where the bytes are more than 3.
+// The key of a text: its length and its bytes in one number, the length lowest; 0 if there are more than 3 bytes.
 fn unit_key(u: &[u8]) -> u32
     ensures { λ r. ⌜ r ≡ unitKey (now (u .entry)) ⌝ }
 {
@@ -50,7 +50,7 @@ fn unit_key(u: &[u8]) -> u32
     (u.len() as u32) + 256 * (a + 256 * (b + 256 * c))
 }
 
-// The number of the first row whose abbreviation is u, UNIT_COUNT where there is none.
+// The number of the first row whose abbreviation is u, UNIT_COUNT if there is none.
 pub fn unit_index(u: &[u8]) -> u8
     ensures { λ r. ⌜ r ≡ unitIndex (now (u .entry)) ⌝ }
 {
@@ -66,7 +66,7 @@ pub fn unit_index(u: &[u8]) -> u8
     UNIT_COUNT
 }
 
-// The number, in the vocabulary, of row k's word; 0 where there is no row k. Rows 0 to 3 share a word, and so do 4 and 5, and
+// The number, in the vocabulary, of row k's word; 0 if there is no row k. Rows 0 to 3 share a word, and so do 4 and 5, and
 // 12 to 14.
 pub fn word_number(k: u8) -> u8
     ensures { λ r. ⌜ r ≡ getD wordNumbers k 0 ⌝ }

@@ -1,4 +1,4 @@
--- The packed bytes are the words': each law is one test at every number, which antt computes. Assumes nothing.
+-- The packed bytes are those of the words. Each law is one test, which antt computes at every number. Assumes nothing.
 use mathlib.Core.Path.{_≡_, refl}
 use mathlib.Core.Bool.{Bool}
 use mathlib.Core.List.{List, [], _++_}
@@ -16,7 +16,7 @@ use Rattle.lists.proofs.Packed.{unpack-pack}
 use Rattle.lists.proofs.Table.{below, same-true}
 use Rattle.vocabulary.specs.Vocabulary.{unitVocabulary, ones, teens, tens, scales, ordinalOnes, ordinalTeens, ordinalTens, ordinalScales, others, cardinals, ordinals, vocabulary, wordOf, lowOf, highOf}
 
--- to compute all words
+-- all that is unfolded to compute the words
 unfoldable pub unfoldVocabulary : Unit {0}
 unfolding unitVocabulary ones teens tens scales ordinalOnes ordinalTeens ordinalTens ordinalScales others cardinals ordinals vocabulary wordOf lowOf highOf pack leValue leBytes sameBy
 unfoldVocabulary = tt
@@ -32,7 +32,7 @@ halves k = leBytes 8 (lowOf k) ++ leBytes 8 (highOf k)
 halvesHold : ℕ → Bool
 halvesHold k = same (halves k) (pack (wordOf k))
 
--- the two halves of a word's packed bytes
+-- the two numbers of a word give its packed bytes
 pub packed-halves : (k : ℕ) → halves k ≡ pack (wordOf k)
 unfolding halvesHold unfoldVocabulary
 packed-halves k = ⊎-elim (λ (h : 91 ≤ k). rw (no-word k h)) (λ (h : k < 91). same-true _ _ (below halvesHold 91 refl k h)) (le-or-lt 91 k)
@@ -59,6 +59,6 @@ word-short k =
     ⊎-elim (λ (h : 91 ≤ k). rw (no-word k h) (omega arith)) (λ (h : k < 91). leb-true (length (wordOf k)) 11 (below isShortWord 91 refl k h))
     (le-or-lt 91 k)
 
--- a word's packed bytes give it back
+-- a word is read back from its packed bytes
 pub word-packed : (k : ℕ) → unpack (pack (wordOf k)) ≡ wordOf k
 word-packed k = let h = word-short k in unpack-pack (wordOf k) (omega arith)

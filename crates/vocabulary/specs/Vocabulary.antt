@@ -1,4 +1,4 @@
--- The words that are called. Definitions only.
+-- The words of units, of number readings and of row 10. Definitions only.
 use mathlib.Core.List.{List, [], _∷_, _++_, map}
 use Prim.Native.Nat.{ℕ}
 use Prim.Native.String.{String}
@@ -7,7 +7,7 @@ use Rattle.lists.specs.Bytes.{bytes}
 use Rattle.lists.specs.LittleEndian.{leValue}
 use Rattle.lists.specs.Packed.{pack}
 
--- the tables of numbers.rs: ONES, TEENS, TENS, and with "hundred" its scales, smallest first
+-- the tables of numbers.rs: ONES, TEENS and TENS; and "hundred" with the words of SCALES, smallest first
 unfoldable pub ones : List String
 ones = "zero" ∷ "one" ∷ "two" ∷ "three" ∷ "four" ∷ "five" ∷ "six" ∷ "seven" ∷ "eight" ∷ "nine" ∷ []
 
@@ -54,7 +54,7 @@ unitVocabulary =
     "pounds" ∷ "feet" ∷ "kilograms" ∷ "kilometers" ∷ "centimeters" ∷ "millimeters" ∷ "milliliters" ∷ "ounces"
     ∷ "hertz" ∷ "kilohertz" ∷ "megahertz" ∷ "gigahertz" ∷ "kilobytes" ∷ "gigabytes" ∷ "megabytes" ∷ "terabytes" ∷ []
 
--- the other words of numbers.rs, and the two words of row 10
+-- the other words of number readings in numbers.rs, and the two words of row 10
 unfoldable pub others : List String
 others = "oh" ∷ "point" ∷ "minus" ∷ "plus" ∷ "e" ∷ "per" ∷ "cent" ∷ []
 
@@ -82,7 +82,7 @@ ordinalStep = 34
 abbrev pub othersAt : ℕ
 othersAt = 84
 
--- the word of a number, nothing where there is none
+-- the word of a number, nothing if there is none
 unfoldable pub wordOf : ℕ → List ℕ
 wordOf k = getD vocabulary k []
 

@@ -1,5 +1,5 @@
-// Every word that is called, by number. A word is held as two numbers, which are its 16 packed bytes: a `match` from numbers to
-// numbers becomes a table in the program, where a table of bytes would be built on the stack at each call.
+// The words of units, of number readings and of row 10, by number. A word is held as two numbers, which are its 16 packed bytes: a
+// `match` from numbers to numbers becomes a table in the program, but a table of bytes would be built on the stack at each call.
 ghost use mathlib.Core.Path.{_≡_};
 ghost use lib.ListN.{length};
 ghost use Rattle.lists.specs.Packed.{pack};
@@ -14,7 +14,7 @@ pub const TENS: usize = 36;
 
 pub const HUNDRED: usize = 46;
 
-// From a cardinal word to its ordinal form.
+// How far after a cardinal word its ordinal form stands.
 pub const ORDINAL: usize = 34;
 
 pub const OH: usize = 84;
@@ -231,14 +231,14 @@ fn high(k: usize) -> u64
     }
 }
 
-// The bytes of a word.
+// How many bytes a word has.
 pub fn word_len(k: usize) -> usize
     ensures { λ r. ⌜ r ≡ length (wordOf k) ⌝ }
 {
     (high(k) / 0x0100_0000_0000_0000) as usize
 }
 
-// The word of a number in 16 packed bytes; an empty text where there is none.
+// The word of a number in 16 packed bytes; an empty text if there is none.
 pub fn packed(k: usize) -> [u8; 16]
     ensures { λ r. ⌜ r ≡ pack (wordOf k) ⌝ }
 {

@@ -1,4 +1,4 @@
--- What a run of words leaves in the buffers, and what a call answers that measures first. Assumes nothing.
+-- What a run of words leaves in the buffers, and what a call that measures first answers. Assumes nothing.
 use mathlib.Core.Path.{_≡_, refl, sym, ap, _∙_}
 use mathlib.Core.Bool.{Bool, true, false}
 use mathlib.Core.Logic.{⊎-elim}
@@ -22,13 +22,13 @@ use Rattle.word_writer.specs.Words.{tableOf, tooShortFor, tooShort, word
 use Rattle.word_writer.specs.declared.Cursor.{Cursor}
 use Rattle.word_writer.specs.declared.WordCounts.{WordCounts}
 
--- one run of words after the other
+-- two runs of words joined are put one after the other
 pub putWords-append : (ws vs : List (List ℕ)) (s : Writer) → putWords (ws ++ vs) s ≡ putWords vs (putWords ws s)
 unfolding putWords
 putWords-append [] vs s = refl
 putWords-append (w ∷ ws) vs s = putWords-append ws vs (putWord w s)
 
--- what words leave in the store, and their pairs in the table, where the first starts at `at`, after its gap
+-- the bytes of words with a gap before each, and the pairs of these words; `at` is the place of the first gap
 unfoldable pub storeBy : Bool → List (List ℕ) → List ℕ
 storeBy g [] = []
 storeBy g (w ∷ ws) = gap g ++ (w ++ storeBy g ws)
@@ -37,7 +37,7 @@ unfoldable pub tableBy : Bool → ℕ → List (List ℕ) → List ℕ
 tableBy g at [] = []
 tableBy g at (w ∷ ws) = pairOf (at + length (gap g)) (length w) ++ tableBy g (at + length (gap g) + length w) ws
 
--- without gaps they are what a call gives
+-- without gaps these are the bytes and pairs that a call gives
 store-plain : (ws : List (List ℕ)) → storeBy false ws ≡ flatten ws
 unfolding storeBy flatten
 store-plain [] = refl
@@ -53,7 +53,7 @@ gap-place : (g : Bool) (at : ℕ) → at ≤ usizeMax → afterGap g at ≡ min 
 gap-place true at h = refl
 gap-place false at h = omega arith
 
--- the places move alike on all buffers
+-- the place in the store moves on by the bytes of the words, whatever the buffers are
 pub putWords-at : (ws : List (List ℕ)) (s : Writer) → s .at ≤ usizeMax → putWords ws s .at ≡ min (s .at + length (storeBy (s .spaced) ws)) usizeMax
 unfolding putWords putWord storeBy
 putWords-at [] s h = omega arith
@@ -63,12 +63,13 @@ putWords-at (w ∷ ws) s h =
     let m = length-append w (storeBy (s .spaced) ws) in
     putWords-at ws (putWord w s) (omega arith) ∙ omega arith
 
+-- the place in the table moves on by the count of words, whatever the buffers are
 pub putWords-words : (ws : List (List ℕ)) (s : Writer) → s .words ≤ usizeMax → putWords ws s .words ≡ min (s .words + length ws) usizeMax
 unfolding putWords putWord
 putWords-words [] s h = omega arith
 putWords-words (w ∷ ws) s h = putWords-words ws (putWord w s) (omega arith) ∙ omega arith
 
--- where all fits below the largest number, the words' bytes stand in the store and their pairs in the table
+-- the bytes of the words stand in the store and their pairs in the table, and the places are after them
 abbrev pub writtenWords : List (List ℕ) → Writer → Writer
 writtenWords ws s =
     record {
@@ -79,6 +80,7 @@ writtenWords ws s =
       spaced = s .spaced;
     }
 
+-- this is what putting words gives, if the places stay within the largest number
 pub putWords-is : (ws : List (List ℕ)) (s : Writer) → s .at + length (storeBy (s .spaced) ws) ≤ usizeMax → s .words + length ws ≤ usizeMax
     → putWords ws s ≡ writtenWords ws s
 unfolding putWords putWord storeBy tableBy pairOf leBytes
@@ -102,19 +104,20 @@ putWords-is (w ∷ ws) s h k =
     let ew : writtenWords ws (putWord w s) .words ≡ writtenWords (w ∷ ws) s .words = omega arith in
     putWords-is ws (putWord w s) (omega arith) (omega arith) ∙ (λ j. record { store = es j; table = et j; at = ea j; words = ew j; spaced = s .spaced })
 
+-- a table has the bytes of one pair for each word
 pub tableOf-length : (at : ℕ) (ws : List (List ℕ)) → length (tableOf at ws) ≡ pairSize * length ws
 unfolding tableOf pairOf leBytes
 tableOf-length at [] = refl
 tableOf-length at (w ∷ ws) = omega (arith, tableOf-length (at + length w) ws)
 
--- two tests against one bound that hold alike are the same
+-- two tests against the same bound are equal if each follows from the other
 ltb-same : (a b l : ℕ) → (l < a → l < b) → (l < b → l < a) → ltb l a ≡ ltb l b
 ltb-same a b l f g =
     ⊎-elim (λ (h : a ≤ l). le-ltb l a h ∙ sym (le-ltb l b (⊎-elim (λ (k : b ≤ l). k) (λ (k : l < b). let q : l < a = g k in omega arith) (le-or-lt b l))))
     (λ (h : l < a). lt-ltb l a h ∙ sym (lt-ltb l b (f h)))
     (le-or-lt a l)
 
--- the cursor after the words ws, on any buffers, tells whether buffers of a and b bytes are too short for them
+-- the cursor after the words ws, with any buffers, shows whether buffers of a and b bytes are too short for them
 pub measured : (ws : List (List ℕ)) (a b : ℕ) → a < usizeMax → b < usizeMax → (x y x₀ y₀ : List ℕ) {m p₀ : Cursor} → p₀ ≡ startCursor
     → writer x y m ≡ putWords ws (writer x₀ y₀ p₀)
     → tooShortFor (m .at) (m .words) a b ≡ tooShortFor (length (flatten ws)) (length ws) a b
@@ -134,7 +137,7 @@ measured ws a b ha hb x y x₀ y₀ {m} {p₀} e₀ e =
 pub long-enough : (ws : List (List ℕ)) (a b : ℕ) → length (flatten ws) ≤ a → pairSize * length ws ≤ b → tooShortFor (length (flatten ws)) (length ws) a b ≡ false
 long-enough ws a b h k = rw (le-ltb a (length (flatten ws)) h, le-ltb b (pairSize * length ws) k)
 
--- the tests of such a call run in the order of their numbers
+-- the tests of a call that gives words run in the order of their numbers
 pub words-in-order : (s : List ℕ) (ws : List (List ℕ)) (st tb : List ℕ) → inOrder (wordsTests s ws st tb) ≡ true
 unfolding textTests
 words-in-order s ws st tb = refl
@@ -150,17 +153,17 @@ module _ (s : List ℕ) (ws : List (List ℕ)) (st tb : List ℕ) (n : ℕ) (ref
   abbrev room : List Test
   room = BufferTooShort when isShort ∷ []
 
-  -- a text that is refused
+  -- if the text is refused, the call answers its number
   pub text-refused : {r : WordCounts} → (n ≡ 0 → ⊥) → r ≡ refusedCounts n → asWords r st tb ≡ wordsCall s ws st tb
   unfolding wordsCall
   text-refused z e = rw e (refused-first text room refusal-eq _ _ z)
 
-  -- a buffer is too short
+  -- if a buffer is too short, the call answers 5
   pub short-refused : n ≡ 0 → isShort ≡ true → {r : WordCounts} → r ≡ refusedCounts 5 → asWords r st tb ≡ wordsCall s ws st tb
   unfolding wordsCall
   short-refused z t q = rw (q, passed-first text room refusal-eq z, t)
 
-  -- both are long enough, and the words are written to them
+  -- if both are long enough, the words are written to them and the call answers their counts
   pub all-written : n ≡ 0 → isShort ≡ false → length st < usizeMax → length tb < usizeMax
       → {st′ tb′ : List ℕ} {p p₁ : Cursor} → p₁ ≡ startCursor → writer st′ tb′ p ≡ putWords ws (writer st tb p₁)
       → {r : WordCounts} → r ≡ countsAt p → asWords r st′ tb′ ≡ wordsCall s ws st tb

@@ -1,4 +1,4 @@
--- A word is where the table says: what a caller reads from the two buffers. Assumes nothing.
+-- What a caller reads from the two buffers: each word stands where its pair says. Assumes nothing.
 use mathlib.Core.Path.{_≡_, refl, sym, ap, _∙_}
 use mathlib.Core.List.{List, [], _∷_, _++_, append-assoc, flatten}
 use Prim.Native.Nat.{ℕ, zero, suc, _+_, _*_, _^_, _<_}
@@ -20,7 +20,7 @@ after-pair a b t k j e =
     let q : 4 * j ≡ 8 + 4 * k = omega arith in
     rw q (ap (λ (l : List ℕ). leValue (take 4 l)) (drop-append-add (pairOf a b) t (4 * k)))
 
--- whatever follows the table
+-- pair i is right, whatever follows the table
 pub pair-from : (at : ℕ) (ws : List (List ℕ)) (u : List ℕ) (i : ℕ) → i < length ws → at + length (flatten ws) < 256 ^ 4 → PairIs at ws (tableOf at ws ++ u) i
 unfolding flatten tableOf pairOf leBytes
 pair-from at [] u i h l = absurd (omega arith)
@@ -37,7 +37,7 @@ pair-from at (w ∷ ws) u (suc i) h l =
       size = after-pair at (length w) t (2 * i + 1) (2 * suc i + 1) (omega arith) ∙ r .size;
     }
 
--- word i after the words before it, whatever follows the words
+-- word i stands after the words before it, whatever follows the words
 word-in : (ws : List (List ℕ)) (v : List ℕ) (i : ℕ) → i < length ws
     → take (length (getD ws i [])) (drop (length (flatten (take i ws))) (flatten ws ++ v)) ≡ getD ws i []
 unfolding flatten
@@ -47,19 +47,20 @@ word-in (w ∷ ws) v (suc i) h =
     rw (append-assoc w (flatten ws) v, length-append w (flatten (take i ws)), drop-append-add w (flatten ws ++ v) (length (flatten (take i ws))))
     (word-in ws v i (omega arith))
 
--- the word that pair i names, whatever follows table and store
+-- the bytes that pair i names are word i, whatever follows table and store
 pub word-from : (ws : List (List ℕ)) (u v : List ℕ) (i : ℕ) → i < length ws → length (flatten ws) < 256 ^ 4
     → wordAt i (tableOf 0 ws ++ u) (flatten ws ++ v) ≡ getD ws i []
 word-from ws u v i h l =
     let p = pair-from 0 ws u i h (omega arith) in
     rw (p .offset, p .size, zero-add (length (flatten (take i ws)))) (word-in ws v i h)
 
--- ---- the call that reads the text s as the words ws, where it is accepted
+-- ---- the call that reads the text s as the words ws, if it is accepted
 
 module _ (s : List ℕ) (ws : List (List ℕ)) (store table : List ℕ) (accepted : wordsCall s ws store table .refusal ≡ 0) where
   abbrev given : WordsResult
   given = wordsCall s ws store table .value
 
+  -- none of its tests holds
   pub none-held : firstRefusal (wordsTests s ws store table) ≡ 0
   unfolding wordsCall
   none-held = sym (call-number _ _ (firstRefusal (wordsTests s ws store table))) ∙ accepted
@@ -72,7 +73,8 @@ module _ (s : List ℕ) (ws : List (List ℕ)) (store table : List ℕ) (accepte
   pub counts-read : (given .words ≡ length ws) × (given .bytes ≡ length (flatten ws))
   counts-read = rw result-written (refl, refl)
 
-  -- "Words come back end to end", the pairs "sorted by offset, one pair a word": pair i has the length of the words before word i and its own
+  -- "Words come back end to end", the pairs "sorted by offset, one pair a word": pair i has the length of the words before word i, and
+  -- that of word i
   pub pairs-read : (i : ℕ) → i < length ws → length (flatten ws) < 256 ^ 4 → PairIs 0 ws (given .table) i
   pairs-read i h l = rw result-written (pair-from 0 ws (drop (length (tableOf 0 ws)) table) i h (omega arith))
 

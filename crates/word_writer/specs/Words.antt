@@ -62,7 +62,7 @@ asWords r store table = record { refusal = r .refusal; value = record { words = 
 abbrev pub numberAt : ℕ → List ℕ → ℕ
 numberAt k table = leValue (take 4 (drop (4 * k) table))
 
--- the offset and the length in its pair i
+-- the offset and the length in pair i of a table
 abbrev pub offsetAt : ℕ → List ℕ → ℕ
 offsetAt i table = numberAt (2 * i) table
 
@@ -73,7 +73,7 @@ lengthAt i table = numberAt (2 * i + 1) table
 abbrev pub wordAt : ℕ → List ℕ → List ℕ → List ℕ
 wordAt i table store = take (lengthAt i table) (drop (offsetAt i table) store)
 
--- pair i of a table whose first word starts at `at`: how many bytes stand before word i, and the word's length
+-- pair i of a table whose first word starts at `at`: its offset is `at` plus the bytes of the words before word i, its length is the word's
 pub record PairIs (at : ℕ) (ws : List (List ℕ)) (table : List ℕ) (i : ℕ) : Type 0 where
   pub offset : offsetAt i table ≡ at + length (flatten (take i ws))
   pub size : lengthAt i table ≡ length (getD ws i [])
@@ -88,7 +88,7 @@ startCursor = record { at = 0; words = 0; spaced = false }
 abbrev pub spacedCursor : Cursor
 spacedCursor = record { at = 0; words = 0; spaced = true }
 
--- what an accepted call answers where its cursor stands at p
+-- what an accepted call answers if its cursor is p at the end
 abbrev pub countsAt : Cursor → WordCounts
 countsAt p = record { refusal = 0; words = p .words; bytes = p .at }
 

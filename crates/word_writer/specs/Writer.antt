@@ -1,5 +1,5 @@
--- The pairs of a table; and what the writer of words does to the two lent buffers, as functions on lists, which walkers promise to each other.
--- Definitions only.
+-- The pairs of a table, and what the writing of words does to the two lent buffers, as functions on lists. The contracts of the
+-- functions that say words use them. Definitions only.
 use mathlib.Core.Bool.{Bool, true, false}
 use mathlib.Core.List.{List, [], _∷_, _++_}
 use Prim.Native.Nat.{ℕ, _+_, _*_, min}
@@ -19,7 +19,7 @@ pairSize = 8
 
 -- ---- no public promise is made of these
 
--- the largest usize, where the cursor stays
+-- the largest usize: a cursor that reaches it stays there
 abbrev pub usizeMax : ℕ
 usizeMax = 0xffff_ffff_ffff_ffff
 
@@ -34,7 +34,7 @@ pub record Writer : Type 0 where
 abbrev pub writer : List ℕ → List ℕ → Cursor → Writer
 writer s t p = record { store = s; table = t; at = p .at; words = p .words; spaced = p .spaced }
 
--- what goes before a word, and the place after it
+-- what goes before a word, and the place after that
 abbrev pub gap : Bool → List ℕ
 gap true = bytes " "
 gap false = []
@@ -43,7 +43,7 @@ abbrev pub afterGap : Bool → ℕ → ℕ
 afterGap true at = min (at + 1) usizeMax
 afterGap false at = at
 
--- the cursor after a word of so many bytes
+-- the cursor after a word of `size` bytes
 abbrev pub advanced : ℕ → Cursor → Cursor
 advanced size p = record { at = min (afterGap (p .spaced) (p .at) + size) usizeMax; words = min (p .words + 1) usizeMax; spaced = p .spaced }
 
@@ -51,7 +51,7 @@ advanced size p = record { at = min (afterGap (p .spaced) (p .at) + size) usizeM
 unfoldable pub putByte : ℕ → Writer → Writer
 putByte b s = record { store = sets (s .store) (s .at) (b ∷ []); table = s .table; at = min (s .at + 1) usizeMax; words = s .words; spaced = s .spaced }
 
--- a word goes to the store and its pair to the table, as far as they fall within; the places move on wherever they are
+-- a word goes to the store and its pair to the table, each as far as it falls within its buffer; the places move on in any case
 unfoldable pub putWord : List ℕ → Writer → Writer
 putWord w s =
     record {

@@ -1,6 +1,6 @@
-// The writing layer. A word goes to the store and its pair of offset and length to the table, each as far as it falls within its
-// buffer, and the cursor moves on in any case: on empty buffers the same walk only measures. A spaced cursor writes a line of the call
-// sheet: a space goes before each word.
+// The writing layer. A word goes to the store, and its pair of offset and length to the table, each as far as it falls within its
+// buffer. The cursor moves on in any case, so that with empty buffers the same code only measures. A spaced cursor writes a line of
+// the call sheet: a space goes before each word.
 use lists::copy;
 use lists::put;
 use lists::put_lowered;
@@ -17,7 +17,7 @@ const USIZE_MAX: usize = 0xffff_ffff_ffff_ffff;
 // The bytes of a pair.
 pub const PAIR_SIZE: usize = 8;
 
-// The place of the next byte in the store, and of the next pair in the table.
+// The place of the next byte in the store, that of the next pair in the table, and whether a space goes before each word.
 pub struct Cursor {
     pub at: usize,
     pub words: usize,
@@ -32,7 +32,7 @@ pub struct WordCounts {
     pub bytes: usize,
 }
 
-// a + b, or the largest number.
+// a + b, or the largest number if the sum is larger.
 fn saturating_add(a: usize, b: usize) -> usize
     ensures { λ r. ⌜ r ≡ min (a + b) usizeMax ⌝ }
 {
@@ -61,14 +61,14 @@ fn pair_of(at: usize, size: usize) -> [u8; 8]
     ]
 }
 
-// Stores a pair from index `place` on, as far as it falls within.
+// Stores a pair from index `place` on, as far as it falls within the table.
 pub fn put_pair_at(table: &mut [u8], place: usize, at: usize, size: usize)
     ensures { λ _. ⌜ now (table .exit) ≡ sets (now (table .entry)) place (pairOf at size) ⌝ }
 {
     if table.len() <= place {
         return;
     }
-    // The pair falls within: the compiler makes one store of it.
+    // The whole pair falls within the table, and the compiler makes one store of it.
     if PAIR_SIZE <= table.len() - place {
         copy(table, place, &pair_of(at, size), PAIR_SIZE);
         return;
@@ -80,13 +80,13 @@ pub fn put_pair_at(table: &mut [u8], place: usize, at: usize, size: usize)
 fn put_pair(table: &mut [u8], words: usize, at: usize, size: usize)
     ensures { λ _. ⌜ now (table .exit) ≡ sets (now (table .entry)) (pairSize * words) (pairOf at size) ⌝ }
 {
-    // No table is that long, and the product could not be had.
+    // This keeps the product from overflow. No table has more words.
     if words < 0x1000_0000_0000_0000 {
         put_pair_at(table, PAIR_SIZE * words, at, size);
     }
 }
 
-// Stores what goes before a word.
+// Stores what goes before a word: a space, if the cursor is spaced.
 fn put_gap(store: &mut [u8], cursor: Cursor)
     ensures { λ _. ⌜ now (store .exit) ≡ sets (now (store .entry)) (cursor .at) (gap (cursor .spaced)) ⌝ }
 {
@@ -106,7 +106,7 @@ fn after_gap(cursor: Cursor) -> usize
     }
 }
 
-// Stores the pair of a word of so many bytes, and moves the cursor past it.
+// Stores the pair of a word of `size` bytes, and moves the cursor past the word.
 fn advance(table: &mut [u8], cursor: Cursor, size: usize) -> Cursor
     ensures { λ r. ⌜ (r ≡ advanced size cursor)
         × (now (table .exit) ≡ sets (now (table .entry)) (pairSize * cursor .words) (pairOf (afterGap (cursor .spaced) (cursor .at)) size)) ⌝ }
@@ -139,7 +139,7 @@ pub fn put_word_lowered(store: &mut [u8], table: &mut [u8], cursor: Cursor, w: &
     advance(table, cursor, w.len())
 }
 
-// Stores one byte, no word.
+// Stores one byte that belongs to no word.
 pub fn put_byte(store: &mut [u8], cursor: Cursor, b: u8) -> Cursor
     ensures { λ r. ⌜ ((t : List ℕ) → writer (now (store .exit)) t r ≡ putByte b (writer (now (store .entry)) t cursor)) ⌝ }
 {
@@ -153,7 +153,7 @@ pub fn put_byte(store: &mut [u8], cursor: Cursor, b: u8) -> Cursor
 }
 
 impl Cursor {
-    // At the start of a line.
+    // At the start of a line of the call sheet.
     pub fn spaced() -> Self
         ensures { λ r. ⌜ r ≡ spacedCursor ⌝ }
     {
@@ -174,7 +174,7 @@ impl Cursor {
         }
     }
 
-    // Whether a buffer of these lengths is smaller than what was measured.
+    // Whether a store or a table of these lengths is too short for what was measured.
     pub fn exceeds(self, store: usize, table: usize) -> bool
         ensures { λ r. ⌜ r ≡ tooShortFor (self .at) (self .words) store table ⌝ }
     {

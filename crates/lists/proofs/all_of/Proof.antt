@@ -1,4 +1,4 @@
--- The loop keeps that every byte passed is of the class. Assumes nothing.
+-- The loop invariant: every byte before i is of the class. Assumes nothing.
 use borrow.Author.Needs.{needs}
 use mathlib.Core.Path.{refl, sym, _∙_}
 use borrow.Author.Tests.{not-true, not-false}

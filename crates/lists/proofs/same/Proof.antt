@@ -1,4 +1,4 @@
--- The loop keeps that the two texts agree so far. Assumes nothing.
+-- The loop invariant: the two texts agree before i. Assumes nothing.
 use borrow.Author.Needs.{needs}
 use native.Mathlib.Omega.{arith}
 use mathlib.Core.Path.{_≡_, refl, sym, _∙_}

@@ -1,4 +1,4 @@
--- The loop keeps that the scan of the whole text is i and the scan of what is left. Assumes nothing.
+-- The loop invariant: the scan of the whole text is i plus the scan of what is left. Assumes nothing.
 use borrow.Author.Needs.{needs}
 use mathlib.Core.Path.{_≡_, sym, _∙_}
 use borrow.Author.Tests.{not-true, not-false}
