@@ -13,12 +13,13 @@ use Rattle.sentences.proofs.Kept.{sentenceStartsFrom, startsFrom-fresh}
 use Rattle.call_spec.specs.Sheet.{SheetEntry, entriesOf, entries, wordsOf, lineOf, lines, callSheet, countWords, noEntry}
 use Rattle.call_spec.specs.Calls.{entryAt, lineAt}
 
--- an entry for each token
+-- there is an entry for each token
 from-length : (st : State) (ts : List Token) → length (entriesOf (sentenceStartsFrom st ts) ts) ≡ length ts
 unfolding entriesOf sentenceStartsFrom
 from-length st [] = refl
 from-length st (t ∷ ts) = ap suc (from-length (kept (t .name) (t .punctuation)) ts)
 
+-- a sheet has as many entries as tokens
 pub entries-length : (s : List ℕ) → length (entries s) ≡ length (tokens s)
 entries-length s = ap (λ (bs : List Bool). length (entriesOf bs (tokens s))) (sym (startsFrom-fresh (tokens s))) ∙ from-length fresh (tokens s)
 
@@ -27,11 +28,11 @@ lines-at [] k h = absurd (omega arith)
 lines-at (e ∷ es) zero h = refl
 lines-at (e ∷ es) (suc k) h = lines-at es k (omega arith)
 
--- the line of an entry that is there
+-- line k is the line of entry k, if there is such an entry
 pub line-at : (s : List ℕ) (k : ℕ) → k < length (tokens s) → lineAt s k ≡ lineOf (entryAt s k)
 line-at s k h = lines-at (entries s) k (omega (arith, entries-length s))
 
--- the words before one of several entries, its own, and those after it
+-- the count of words is that of the entries before entry k, its own, and that of the entries after it
 words-at : (es : List SheetEntry) (k : ℕ) → k < length es
     → countWords es ≡ countWords (take k es) + (length (wordsOf (getD es k noEntry)) + countWords (drop (suc k) es))
 unfolding countWords
@@ -39,7 +40,7 @@ words-at [] k h = absurd (omega arith)
 words-at (e ∷ es) zero h = omega arith
 words-at (e ∷ es) (suc k) h = omega (arith, words-at es k (omega arith))
 
--- the call sheet and the count of words, at entry k
+-- the call sheet and the count of words, split at entry k
 pub sheet-at : (s : List ℕ) (k : ℕ) → k < length (tokens s)
     → (callSheet s ≡ flatten (take k (lines s)) ++ (lineAt s k ++ flatten (drop (suc k) (lines s))))
     × (countWords (entries s) ≡ countWords (take k (entries s)) + (length (wordsOf (entryAt s k)) + countWords (drop (suc k) (entries s))))

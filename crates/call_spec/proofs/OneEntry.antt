@@ -25,7 +25,7 @@ calledLine s k old = take (entryCall s k old .value .bytes) (entryCall s k old .
 abbrev pub calledWords : List ℕ → ℕ → List ℕ → ℕ
 calledWords s k old = entryCall s k old .value .words
 
--- "or would stand there if no other entry were held back by number 4": of the names its own alone decides
+-- "or would stand there if no other entry were held back by number 4": only the entry's own name is tested
 pub entry-alone : (s old : List ℕ) (k : ℕ) → textRefusal textLimit s ≡ 0 → k < length (tokens s) → isLong (entryAt s k) ≡ false
     → length (lineAt s k) ≤ length old
     → (entryCall s k old .refusal ≡ 0) × (calledLine s k old ≡ lineAt s k) × (calledWords s k old ≡ length (wordsOf (entryAt s k)))
@@ -41,16 +41,17 @@ entry-alone s old k t h l r =
       sym (ap (λ (c : Call EntryResult). c .value .words) q),
     )
 
--- the tests of both calls run in the order of their numbers
+-- the tests of a whole sheet's call run in the order of their numbers
 pub sheet-in-order : (s : List ℕ) (short : Bool) → inOrder (sheetTests s short) ≡ true
 unfolding textTests
 sheet-in-order s short = refl
 
+-- so do the tests of an entry's call
 pub entry-in-order : (s : List ℕ) (k : ℕ) (short : Bool) → inOrder (entryTests s k short) ≡ true
 unfolding textTests
 entry-in-order s k short = refl
 
--- no entry of an accepted sheet is held back but for room
+-- an accepted sheet passes the tests of its text, and none of its names is too long
 accepted-tests : (s : List ℕ) → AcceptedSheet s → (textRefusal textLimit s ≡ 0) × (anyLong (entries s) ≡ false)
 accepted-tests s a =
     let k = both-passed (textTests textLimit (s ∷ [])) _ a in
@@ -79,7 +80,7 @@ no-such-entry s old k t h =
     call-number _ _ (firstRefusal (entryTests s k (ltb (length old) (length (lineAt s k)))))
     ∙ passed-first (textTests textLimit (s ∷ [])) _ (sym t) refl ∙ rw (le-leb (length (tokens s)) k h)
 
--- what holds of each entry holds of all
+-- if each entry passes the test of its name, no name is too long
 none-long : (es : List SheetEntry) → ((k : ℕ) → k < length es → isLong (getD es k noEntry) ≡ false) → anyLong es ≡ false
 unfolding any
 none-long [] h = refl

@@ -59,7 +59,7 @@ entryAt s k = getD (entries s) k noEntry
 abbrev pub lineAt : List ℕ → ℕ → List ℕ
 lineAt s k = getD (lines s) k []
 
--- its tests where entry k is called: "its number, from 0, is not below the token count"
+-- its tests if entry k is called: "its number, from 0, is not below the token count"
 abbrev pub entryTests : List ℕ → ℕ → Bool → List Test
 entryTests s k short =
     textTests textLimit (s ∷ [])

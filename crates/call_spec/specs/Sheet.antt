@@ -15,7 +15,7 @@ pub record SheetEntry : Type 0 where
   pub starts : Bool
   pub name : List ℕ
 
--- the tokens with their marks
+-- the names of the tokens, each with whether it starts a sentence
 unfoldable pub entriesOf : List Bool → List Token → List SheetEntry
 entriesOf [] ts = []
 entriesOf (b ∷ bs) [] = []
@@ -55,6 +55,6 @@ unfoldable pub countWords : List SheetEntry → ℕ
 countWords [] = 0
 countWords (e ∷ es) = length (wordsOf e) + countWords es
 
--- what stands where there is no entry
+-- the entry that stands in if there is none
 abbrev pub noEntry : SheetEntry
 noEntry = record { starts = false; name = [] }

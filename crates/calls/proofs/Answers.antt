@@ -29,15 +29,18 @@ use Rattle.calls.proofs.Lines.{wrote-line, wrote-lines, line-words, lin
 -- ---- an entry that is there
 
 module _ (e : SheetEntry) (old : List ℕ) where
+  -- if the name is too long, the call is refused with 4
   pub name-long : nameLimit < length (e .name) → {r : CalledEntry} → r ≡ refusedEntry 4 → asEntry r old ≡ nameCall e old
   unfolding nameCall
   name-long h q = rw (q, lt-ltb nameLimit (length (e .name)) h)
 
   module _ (h : length (e .name) ≤ nameLimit) where
+    -- if the buffer is too short for the line, the call is refused with 5
     pub line-short : ltb (length old) (length (lineOf e)) ≡ true → {r : CalledEntry} → r ≡ refusedEntry 5 → asEntry r old ≡ nameCall e old
     unfolding nameCall
     line-short t q = rw (q, le-ltb nameLimit (length (e .name)) h, t)
 
+    -- else the call answers the record and the counts, and writes the line
     pub line-result : ltb (length old) (length (lineOf e)) ≡ false → length old < usizeMax → (t t₀ : List ℕ) {new : List ℕ} {p p₀ : Cursor} {r : Row}
         → p₀ ≡ spacedCursor → writer new t p ≡ lineTo e (writer old t₀ p₀) → r ≡ read (e .name) .row
         → asEntry (record { refusal = 0; entry = record { row = r }; words = p .words; bytes = p .at }) new ≡ nameCall e old
@@ -52,7 +55,7 @@ module _ (e : SheetEntry) (old : List ℕ) where
               record { row = rowNumber (d j); sign = rowSign (d j); words = g .1 j; bytes = g .0 j; buffer = g .2 j };
         })
 
--- ---- the sheet s, whose refusal n is tested first
+-- ---- the sheet s: the refusal n of its text is tested first
 
 module _ (s old : List ℕ) {n : ℕ} (refusal-eq : n ≡ textRefusal textLimit s) where
   abbrev text : List Test
@@ -64,18 +67,22 @@ module _ (s old : List ℕ) {n : ℕ} (refusal-eq : n ≡ textRefusal textLimit 
   abbrev later : List Test
   later = NameTooLong when anyLong (entries s) ∷ BufferTooShort when isShort ∷ []
 
+  -- if the text is refused, the call is refused with the same number
   pub sheet-refused : (n ≡ 0 → ⊥) → {r : CalledSheet} → r ≡ refusedSheet n → asSheet r old ≡ sheetCall s old
   unfolding sheetCall
   sheet-refused z q = rw q (refused-first text later refusal-eq _ _ z)
 
+  -- if a name is too long, the call is refused with 4
   pub sheet-long : n ≡ 0 → anyLong (entries s) ≡ true → {r : CalledSheet} → r ≡ refusedSheet 4 → asSheet r old ≡ sheetCall s old
   unfolding sheetCall
   sheet-long z l q = rw (q, passed-first text later refusal-eq z, l)
 
+  -- if the buffer is too short for the call sheet, the call is refused with 5
   pub sheet-short : n ≡ 0 → anyLong (entries s) ≡ false → isShort ≡ true → {r : CalledSheet} → r ≡ refusedSheet 5 → asSheet r old ≡ sheetCall s old
   unfolding sheetCall
   sheet-short z l t q = rw (q, passed-first text later refusal-eq z, l, t)
 
+  -- else the call answers the counts, and writes the call sheet
   pub sheet-result : n ≡ 0 → anyLong (entries s) ≡ false → isShort ≡ false → length old < usizeMax → (t t₀ : List ℕ) {new : List ℕ} {p : Cursor} {k : ℕ}
       → k ≡ length (tokens s) → writer new t p ≡ linesTo (entries s) (writer old t₀ spacedCursor)
       → asSheet (record { refusal = 0; tokens = k; words = p .words; bytes = p .at }) new ≡ sheetCall s old
@@ -89,21 +96,22 @@ module _ (s old : List ℕ) {n : ℕ} (refusal-eq : n ≡ textRefusal textLimit 
     abbrev here : List Test
     here = NoSuchEntry when leb (length (tokens s)) k ∷ NameTooLong when isLong (entryAt s k) ∷ BufferTooShort when ltb (length old) (length (lineAt s k)) ∷ []
 
+    -- if the text is refused, the call is refused with the same number
     pub entry-refused : (n ≡ 0 → ⊥) → {r : CalledEntry} → r ≡ refusedEntry n → asEntry r old ≡ entryCall s k old
     unfolding entryCall
     entry-refused z q = rw q (refused-first text here refusal-eq _ _ z)
 
-    -- r is where the code has found it, if it has
+    -- r says where the code has found it, if it has
     module _ (z : n ≡ 0) (r : Found) (f : asFoundEntry s r ≡ foundEntry s k) where
       there : r .found ≡ ltb k (length (tokens s))
       there = ap (λ (x : FoundEntry). x .found) f
 
-      -- there is no such entry
+      -- if there is no such entry, the call is refused with 3
       pub entry-none : r .found ≡ false → {a : CalledEntry} → a ≡ refusedEntry 3 → asEntry a old ≡ entryCall s k old
       unfolding entryCall
       entry-none t q = rw (q, passed-first text here refusal-eq z, le-leb (length (tokens s)) k (ltb-false _ _ (sym there ∙ t)))
 
-      -- its call is that of the name which was found
+      -- else its call is the call of the name that was found
       pub entry-there : r .found ≡ true → {m : List ℕ} → m ≡ take (r .end - r .name) (drop (r .name) s) → nameCall (entryNamed (r .starts) m) old ≡ entryCall s k old
       unfolding entryCall nameCall
       entry-there t q =

@@ -19,7 +19,7 @@ use Rattle.word_writer.proofs.Finish.{storeBy, putWords-at, putWords-words, put
 use Rattle.call_spec.specs.Sheet.{SheetEntry, wordsOf, mark, spacedWords, lineOf, countWords}
 use Rattle.calls.specs.Walk.{lineTo, linesTo}
 
--- a spaced cursor whose places are numbers of the machine
+-- a spaced cursor whose numbers are not larger than the machine's largest
 pub record LineWriter (s : Writer) : Type 0 where
   pub spaced : s .spaced ≡ true
   pub at : s .at ≤ usizeMax
@@ -82,12 +82,13 @@ wrote-words ws {s} l =
       store = λ h h′. ap (λ (q : Writer). q .store) (putWords-is ws s (rw e h) h′) ∙ ap (sets (s .store) (s .at)) e;
     }
 
--- the line in the code's steps
+-- the code's steps write the line
 pub line-said : (e : SheetEntry) {b : ℕ} (σ ρ ς : Writer) {τ : Writer} → b ≡ mark (e .starts) → ρ ≡ putByte b σ → ς ≡ putWords (wordsOf e) ρ
     → τ ≡ putByte (code "\n") ς → τ ≡ lineTo e σ
 unfolding lineTo
 line-said e σ ρ ς m a w n = rw (n, w, a, m)
 
+-- an entry's line is written, with its words
 pub wrote-line : (e : SheetEntry) → Writes (lineOf e) (length (wordsOf e)) (lineTo e)
 unfolding lineOf lineTo
 wrote-line e s l =
@@ -95,13 +96,14 @@ wrote-line e s l =
     let b = wrote-words (wordsOf e) (a .line) in
     wrote-both a (wrote-both b (wrote-byte (code "\n") (b .line)) refl) (omega arith)
 
+-- so are the lines of several entries
 pub wrote-lines : (es : List SheetEntry) → Writes (flatten (map lineOf es)) (countWords es) (linesTo es)
 unfolding flatten countWords linesTo
 wrote-lines [] s l =
     record { line = l; at = let h = l .at in omega arith; words = let h = l .words in omega arith; store = λ h h′. refl }
 wrote-lines (e ∷ es) s l = let a = wrote-line e s l in wrote-both a (wrote-lines es (lineTo e s) (a .line)) refl
 
--- the lines of what is left, after the next one
+-- the lines that are left after the next one is written
 pub lines-on : (σ : Writer) {es fs : List SheetEntry} {x : SheetEntry} {τ z : Writer} → es ≡ x ∷ fs → τ ≡ lineTo x σ → linesTo es σ ≡ z → linesTo fs τ ≡ z
 unfolding linesTo
 lines-on σ {fs = fs} e t h = ap (linesTo fs) t ∙ ap (λ (xs : List SheetEntry). linesTo xs σ) (sym e) ∙ h
@@ -117,16 +119,18 @@ unfolding spacedWords
 spaced-words [] = omega arith
 spaced-words (w ∷ ws) = omega (arith, spaced-words ws, length-append w (spacedWords ws))
 
+-- a line has no more words than bytes
 pub line-words : (e : SheetEntry) → length (wordsOf e) ≤ length (lineOf e)
 unfolding lineOf
 line-words e = omega (arith, spaced-words (wordsOf e), length-append (spacedWords (wordsOf e)) (bytes "\n"))
 
+-- several lines together have no more words than bytes
 pub lines-words : (es : List SheetEntry) → countWords es ≤ length (flatten (map lineOf es))
 unfolding flatten countWords
 lines-words [] = omega arith
 lines-words (e ∷ es) = omega (arith, line-words e, lines-words es, length-append (lineOf e) (flatten (map lineOf es)))
 
--- from the start of a buffer on; every word takes a byte at least
+-- f writes from the start of a buffer on, and every word takes at least one byte
 module _ {b : List ℕ} {n : ℕ} {f : Writer → Writer} (w : Writes b n f) (words-fit : n ≤ length b) (x y x₀ y₀ : List ℕ) {p p₀ : Cursor}
     (start : p₀ ≡ spacedCursor) (q : writer x y p ≡ f (writer x₀ y₀ p₀)) where
   all-wrote : Wrote b n (writer x₀ y₀ spacedCursor) (writer x y p)
@@ -134,7 +138,7 @@ module _ {b : List ℕ} {n : ℕ} {f : Writer → Writer} (w : Writes b n f) (wo
       let e : writer x y p ≡ f (writer x₀ y₀ spacedCursor) = q ∙ ap (λ (r : Cursor). f (writer x₀ y₀ r)) start in
       rw e (w (writer x₀ y₀ spacedCursor) (record { spaced = refl; at = omega arith; words = omega arith }))
 
-  -- the cursor tells whether a buffer of so many bytes is too short: no buffer is as long as the largest number
+  -- the cursor shows whether a buffer of `room` bytes is too short: no buffer is as long as the machine's largest number
   pub measured-lines : (room : ℕ) → room < usizeMax → ltb room (p .at) ≡ ltb room (length b)
   measured-lines room h =
       let a = all-wrote .at in

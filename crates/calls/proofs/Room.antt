@@ -1,4 +1,4 @@
--- A sheet of n bytes has a call sheet of at most 11 (n + 1), and what follows for short sheets. Assumes nothing.
+-- A sheet of n bytes has a call sheet of at most 11 * (n + 1) bytes, and what follows from that for short sheets. Assumes nothing.
 use mathlib.Core.Path.{_≡_, refl, sym, ap, _∙_}
 use mathlib.Core.Bool.{Bool, true, false, cond, not, _||_, and-eq-true-iff}
 use mathlib.Core.Logic.{⊎-elim}
@@ -76,7 +76,7 @@ unit-room s e =
       length-drop (unitAt s) s,
     ))
 
--- an hour, a minute and a byte between them
+-- the words of an hour and a minute have room, if there is a byte between the two
 clock-room : (hour minute : List ℕ) (n : ℕ) → length hour + length minute < n → RoomForNumber n (clock hour minute)
 unfolding clock
 clock-room hour minute n l =
@@ -102,7 +102,7 @@ meridiem-room s e =
     let c = clock-room (take n t) (drop (n + 1) t) (length t) (omega (arith, length-take n t, length-drop (n + 1) t)) in
     rw e (omega (arith, together (clock (take n t) (drop (n + 1) t)) (letters m), letters-room m, length-take (length s - 2) s, length-drop (length s - 2) s))
 
--- where the word of row 12 is no longer than its name
+-- the words of a name have room, if the word of row 12 is no longer than its name
 read-room : (word : List ℕ → List ℕ) → ((s : List ℕ) → length (word s) ≤ length s) → (s : List ℕ) → RoomFor (length s) (readWith word s .words)
 unfolding readWith readStep spell
 read-room word short = recur-induct (λ s g. RoomFor (length s) (g .words)) (by NoRow []) (readStep word) step
@@ -126,6 +126,7 @@ read-room word short = recur-induct (λ s g. RoomFor (length s) (g .words)) (by 
         omega (arith, together (f front .words) perCent, h front l)) (λ e.
         cond-elim P (hasUnit s) (unit-room s) (λ e. omega (arith, short s))))))))))))
 
+-- an entry whose name has n bytes has a line of at most 11 * (n + 1) bytes
 pub line-fits : (e : SheetEntry) → length (lineOf e) ≤ 11 * (length (e .name) + 1)
 unfolding lineOf
 line-fits e =
@@ -138,7 +139,7 @@ unfoldable nameRoom : List Token → ℕ
 nameRoom [] = 0
 nameRoom (t ∷ ts) = length (t .name) + 1 + nameRoom ts
 
--- whitespace stands before every token but the first, so each has a byte besides its name
+-- whitespace stands before every token but the first, so each of these has a byte besides its name
 abbrev FitsNames : List ℕ → Type 0
 FitsNames s = (nameRoom (tokens s) ≤ length s + 1) × (0 < span whitespace s → nameRoom (tokens s) ≤ length s)
 
@@ -174,18 +175,19 @@ lines-room (b ∷ bs) (t ∷ ts) =
     let e = entryNamed b (t .name) in
     omega (arith, line-fits e, lines-room bs ts, length-append (lineOf e) (flatten (map lineOf (entriesOf bs ts))))
 
+-- a sheet of n bytes has a call sheet of at most 11 * (n + 1) bytes
 pub sheet-room : (s : List ℕ) → length (callSheet s) ≤ 11 * (length s + 1)
 sheet-room s = omega (arith, lines-room (sentenceStarts (tokens s)) (tokens s), names-room s .0)
 
--- a name is no longer than its text
+-- no name of a short text is too long
 names-not-long : (bs : List Bool) (ts : List Token) → nameRoom ts ≤ nameLimit + 1 → anyLong (entriesOf bs ts) ≡ false
 unfolding any entriesOf nameRoom
 names-not-long [] ts h = refl
 names-not-long (b ∷ bs) [] h = refl
 names-not-long (b ∷ bs) (t ∷ ts) h = rw (le-ltb nameLimit (length (t .name)) (omega arith), names-not-long bs ts (omega arith))
 
--- so a sheet that is no longer than a name may be, in a buffer of 11 bytes for each of its bytes and one more, is refused only where
--- it isn't UTF-8
+-- a sheet of n bytes that is no longer than a name may be, in a buffer of at least 11 * (n + 1) bytes: it is refused only if it
+-- isn't UTF-8
 pub only-not-utf8 : (s old new : List ℕ) {r : CalledSheet} → asSheet r new ≡ sheetCall s old → length s ≤ nameLimit → 11 * (length s + 1) ≤ length old
     → (r .refusal ≡ 0 → ⊥) → r .refusal ≡ refusalNumber NotUtf8
 unfolding sheetCall textTests any
@@ -203,6 +205,6 @@ only-not-utf8 s old new {r} e h k z =
     go true q = absurd (z q)
     go false q = q
 
--- what the code tests before it measures
+-- if the room passes the test that the code makes first, it is large enough
 pub room-suffices : (n m room : ℕ) → n ≤ 11 * (m + 1) → m < room / 11 → false ≡ ltb room n
 room-suffices n m room h k = sym (le-ltb room n (omega arith))

@@ -32,12 +32,12 @@ unfoldable pub linesTo : List SheetEntry → Writer → Writer
 linesTo [] s = s
 linesTo (e ∷ es) s = linesTo es (lineTo e s)
 
--- an entry's line is written from σ to τ, and its row answered
+-- an entry's line is written from σ to τ, and its row is answered
 pub record SaysLine (e : SheetEntry) (σ τ : Writer) (r : Row) : Type 0 where
   pub row : r ≡ read (e .name) .row
   pub said : τ ≡ lineTo e σ
 
--- the call of an entry that is there, in a sheet that is accepted
+-- the call of an entry that is there, in a sheet whose text is not refused
 unfoldable pub nameCall : SheetEntry → List ℕ → Call EntryResult
 nameCall e old =
     call (record { row = 0; sign = 0; words = 0; bytes = 0; buffer = old })

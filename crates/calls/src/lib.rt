@@ -27,7 +27,7 @@ ghost use Rattle.entries.specs.Find.{entryNamed};
 ghost use Rattle.calls.specs.Answers.{asSheet, asEntry};
 ghost use Rattle.calls.specs.Walk.{refusedSheet, refusedEntry, linesTo, SaysLine, nameCall};
 
-// The most bytes of a call sheet, for each byte of the sheet and one more.
+// A sheet of n bytes has a call sheet of at most GROWTH * (n + 1) bytes, and a name of n bytes has a line of at most as many.
 const GROWTH: usize = 11;
 
 // A whole sheet's answer: the refusal's number or 0, the count of tokens, the count of words, and the call sheet's length.
@@ -107,7 +107,7 @@ fn say_sheet(s: &[u8], out: &mut [u8], table: &mut [u8]) -> SheetWalk
     SheetWalk { tokens, cursor }
 }
 
-// Whether a buffer of so many bytes is smaller than the call sheet. Where it may be, the lines are measured.
+// Whether a buffer of `room` bytes is smaller than the call sheet. The lines are measured only if it may be.
 fn is_sheet_short(s: &[u8], room: usize) -> bool
     requires { ⌜ room < usizeMax ⌝ }
     ensures { λ r. ⌜ r ≡ ltb room (length (callSheet (now (s .entry)))) ⌝ }
@@ -167,7 +167,7 @@ fn entry_refused(refusal: u8) -> CalledEntry
     }
 }
 
-// Whether a buffer of so many bytes is smaller than an entry's line. Where it may be, the line is measured.
+// Whether a buffer of `room` bytes is smaller than an entry's line. The line is measured only if it may be.
 fn is_line_short(starts: bool, name: &[u8], room: usize) -> bool
     requires { ⌜ room < usizeMax ⌝ }
     ensures { λ r. ⌜ r ≡ ltb room (length (lineOf (entryNamed starts (now (name .entry))))) ⌝ }

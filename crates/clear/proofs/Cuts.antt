@@ -45,7 +45,7 @@ module _ (s t : List ℕ) (n : ℕ) (e : length t ≡ n) where
   pub cut-front : take (length (s ++ t) - n) (s ++ t) ≡ s
   cut-front = take-at s t (length (s ++ t) - n) (omega (arith, length-append s t))
 
-  -- and those bytes
+  -- the last n bytes
   pub cut-back : drop (length (s ++ t) - n) (s ++ t) ≡ t
   cut-back = drop-at s t (length (s ++ t) - n) (omega (arith, length-append s t))
 
@@ -57,7 +57,7 @@ endsWith-snoc c (b ∷ s) h =
     let l : getD (b ∷ s) (length s) 0 ≡ c = eqb-true _ _ (rw (ne-eqb (suc (length s)) 0 (omega arith), e) at h) in
     rw e (sym (rw (l, drop-length s) at (split-at (b ∷ s) (length s) 0 (omega arith))))
 
--- and the other way round
+-- a text with c after it ends in c
 pub snoc-endsWith : (c : ℕ) (s : List ℕ) → endsWith c (s ++ (c ∷ [])) ≡ true
 snoc-endsWith c s =
     let n = length-append s (c ∷ []) in
@@ -80,12 +80,12 @@ module _ (p : ℕ → Bool) (s t : List ℕ) (h : all p s ≡ true) (z : span p 
 
 -- ---- digits
 
--- a byte that is no digit is not the first of digits
+-- digits do not start with a byte that is no digit
 pub startsWith-digits : (c : ℕ) (s t : List ℕ) → digit c ≡ false → isDigits s ≡ true → startsWith c (s ++ t) ≡ false
 unfolding isDigits all
 startsWith-digits c [] t n h = absurd (false≢true h)
 startsWith-digits c (b ∷ s) t n h = startsWith-first c b (s ++ t) ∙ class-apart digit c b n (and-eq-true-iff (digit b) (all digit s) .0 (digits-all (b ∷ s) h) .0)
 
--- also where nothing follows them
+-- also if nothing follows them
 pub digits-alone : (c : ℕ) (s : List ℕ) → digit c ≡ false → isDigits s ≡ true → startsWith c s ≡ false
 digits-alone c s n h = rw (append-nil s) at (startsWith-digits c s [] n h)

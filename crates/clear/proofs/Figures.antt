@@ -45,7 +45,7 @@ test-exponent s h = go (startsWith (code "e") s) refl h
     go true e h = rw (startsWith-cons (code "e") s e) at (signed-exponent (drop 1 s) h)
     go false e h = rw (empty-text s h) at no-exponent
 
--- the digits of an exponent, after its sign or without one
+-- without its sign, if there is one, an exponent is its digits
 pub strip-sign : (g x : List ℕ) → ExponentSign g → isDigits x ≡ true → stripSign (g ++ x) ≡ x
 strip-sign g x no-sign h = rw (digits-alone (code "+") x refl h, digits-alone (code "-") x refl h)
 strip-sign g x plus-sign h = rw (startsWith-first (code "+") (code "+") x)
@@ -56,7 +56,7 @@ unfolding isExponentClear
 exponent-test s no-exponent = refl
 exponent-test s (an-exponent g x r h) = rw (startsWith-first (code "e") (code "e") (g ++ x), strip-sign g x r (plain-digits x h)) h
 
--- no digit stands at the front of an exponent
+-- an exponent does not start with a digit
 pub exponent-front : (s : List ℕ) → Exponent s → span digit s ≡ 0
 unfolding span
 exponent-front s no-exponent = refl
@@ -96,7 +96,7 @@ test-fraction s h = go (startsWith (code ".") s) refl h
         }
     go false e h = record { f = []; x = s; point = no-point; exponent = test-exponent s h; whole = refl }
 
--- nor does a point
+-- an exponent does not start with a point
 pub exponent-point : (x : List ℕ) → Exponent x → startsWith (code ".") x ≡ false
 exponent-point x no-exponent = refl
 exponent-point x (an-exponent g y r h) = startsWith-first (code ".") (code "e") (g ++ y)

@@ -14,14 +14,14 @@ use Rattle.shapes.specs.Shapes.{isAlpha, isOneLetter, isDottedAbbrev}
 use Rattle.clear.specs.Clear.{dottedInitials, Clear, is-initials}
 use Rattle.clear.specs.Test.{uppercaseOrPoint, isInitialsClear}
 
--- each part one letter
+-- each part is one letter
 abbrev allOneLetter : List (List ℕ) → Bool
 allOneLetter = all isOneLetter
 
 abbrev pointByte : ℕ
 pointByte = code "."
 
--- the last byte is that of the rest, where there is one
+-- without its first byte a text ends in the same byte, if it still has one
 ends-more : (c b d : ℕ) (s : List ℕ) → endsWith c (b ∷ d ∷ s) ≡ endsWith c (d ∷ s)
 ends-more c b d s =
     let e : suc (suc (length s)) - 1 ≡ suc (length s) = omega arith in
@@ -71,7 +71,7 @@ unfolding onto all
 long-fails b d [] = refl
 long-fails b d (p ∷ ps) = rw (ne-eqb (suc (suc (length p))) 1 (omega arith))
 
--- one letter and no dot
+-- a byte of the class that is no point is a capital
 uppercase-only : (b : ℕ) (t : Bool) → (uppercaseOrPoint b && t) ≡ true → eqb b pointByte ≡ false → (uppercase b ≡ true) × (t ≡ true)
 uppercase-only b t h e = let p = and-eq-true-iff (uppercaseOrPoint b) t .0 h in (rw (e, or-false (uppercase b)) at (p .0), p .1)
 

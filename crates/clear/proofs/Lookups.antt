@@ -1,4 +1,5 @@
--- The first rows of the units, and the words of the tables by number: each one test at every number, which antt computes. Assumes nothing.
+-- The first rows of the units, and the words of the tables by number. Each is a test that antt computes for every number.
+-- Assumes nothing.
 use mathlib.Core.Path.{_≡_, refl, sym}
 use mathlib.Core.Bool.{Bool, true, false, cond, not, _&&_, _||_}
 use mathlib.Core.List.{List, []}
@@ -31,7 +32,7 @@ isFirstAt k = ltb k (length abbreviations) && eqb (indexOf (getD unitWords k [])
 abbrev newWord : ℕ → Bool
 newWord k = ltb k 22 && ltb (getD wordNumbers (k - 1) 0) (getD wordNumbers k 0)
 
--- row 0 has a word that no row before it has
+-- row 0 is the first row with its word
 pub first-zero : true ≡ isFirstAt 0
 unfolding unfoldVocabulary indexOf unitWords abbreviations unitAbbreviations
 first-zero = refl
@@ -39,7 +40,7 @@ first-zero = refl
 firstAgrees : ℕ → Bool
 firstAgrees k = cond (newWord (suc k)) (isFirstAt (suc k)) (not (isFirstAt (suc k)))
 
--- rows with one word stand together, and the words in the vocabulary's order
+-- any other row: rows with the same word stand together, and the words are in the vocabulary's order
 pub first-at : (k : ℕ) → (k ≡ 0 → ⊥) → newWord k ≡ isFirstAt k
 unfolding firstAgrees unfoldVocabulary wordNumbers indexOf unitWords abbreviations unitAbbreviations
 first-at zero h = absurd (h refl)
@@ -47,7 +48,7 @@ first-at (suc k) h =
     ⊎-elim (λ (g : 21 ≤ k). rw (le-ltb (suc k) 22 (omega arith)))
     (λ (g : k < 21). agree (newWord (suc k)) (isFirstAt (suc k)) (below firstAgrees 21 refl k g)) (le-or-lt 21 k)
 
--- where the vocabulary has the words of the tables
+-- the number in the vocabulary of word i of the tables
 abbrev tableWordNumber : ℕ → ℕ
 tableWordNumber i = cond (ltb i 30) (16 + i) (cond (ltb i 60) (16 + 34 + (i - 30)) (46 + (63 - i)))
 

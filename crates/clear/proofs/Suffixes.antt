@@ -32,7 +32,7 @@ suffix-elim P st nd rd th s =
     cond-elim P (ltb 1 (length s) && eqb (getD s (length s - 2) 0) (code "1")) (λ e. th)
     (λ e. cond-elim P (eqb b (code "1")) (λ e. st) (λ e. cond-elim P (eqb b (code "2")) (λ e. nd) (λ e. cond-elim P (eqb b (code "3")) (λ e. rd) (λ e. th))))
 
--- it has two bytes
+-- a suffix has two bytes
 pub suffix-two : (s : List ℕ) → length (suffix s) ≡ 2
 suffix-two = suffix-elim (λ u. length u ≡ 2) refl refl refl refl
 
@@ -51,7 +51,7 @@ ordinal-test s h =
 
 -- ---- units
 
--- the text that a look-up finds
+-- a look-up finds the place of the text that was looked for
 indexOf-at : (t : List ℕ) (ss : List (List ℕ)) → indexOf t ss < length ss → getD ss (indexOf t ss) [] ≡ t
 unfolding indexOf
 indexOf-at t [] h = absurd (omega arith)
@@ -62,7 +62,7 @@ indexOf-at t (s ∷ ss) h = go (same s t) refl h (indexOf-at t ss)
     go true e h i = same-true s t e
     go false e h i = i (omega arith)
 
--- the table has as many rows in either column
+-- both columns of the table have 22 rows
 columns : (length abbreviations ≡ 22) × (length unitWords ≡ 22)
 unfolding abbreviations unitWords unitAbbreviations
 columns = (refl, refl)
@@ -86,7 +86,7 @@ pub record UnitFacts (k : ℕ) : Type 0 where
 unitFacts : ℕ → Bool
 unitFacts k = let u = getD abbreviations k [] in eqb (unitIndex u) k && eqb (span digit u) 0 && eqb (afterLast digit u) 0
 
--- every row of the table is such
+-- this holds of every row of the table
 pub unit-facts : (k : ℕ) → k < length unitWords → UnitFacts k
 unfolding unitFacts abbreviations unitWords unitAbbreviations indexOf sameBy span afterLast
 unit-facts k l =

@@ -1,4 +1,4 @@
--- The test and the definition by kinds are one. Assumes nothing.
+-- The test passes a name if and only if the definition by kinds says that it is clear. Assumes nothing.
 use mathlib.Core.Path.{_≡_, refl}
 use mathlib.Core.Bool.{Bool, true, false, _||_, or-true}
 use mathlib.Core.List.{List}

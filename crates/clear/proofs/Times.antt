@@ -71,7 +71,7 @@ hour-minute h m p q =
     let d = plain-digits h (c .0) in
     rw (le-leb 1 (length h) (digits-some h d), le-leb (length h) 2 (c .1), d) q
 
--- a colon ends the hour
+-- a scan over a class with the digits and without the colon stops at the colon after the hour
 pub colon-at : (p : ℕ → Bool) → p (code ":") ≡ false → ((b : ℕ) → digit b ≡ true → p b ≡ true) → (h t : List ℕ) → isHour h ≡ true
     → span p (h ++ (bytes ":" ++ t)) ≡ length h
 colon-at p c f h t k =

@@ -23,20 +23,20 @@ use Rattle.clear.specs.Test.{isWordClear}
 
 -- ---- an answer of one word
 
--- where the words are one word, it has the property P
+-- if the words are one word, it has the property P
 abbrev IfSingle : (Word → Type 0) → List Word → Type 0
 IfSingle P [] = Unit
 IfSingle P (w ∷ []) = P w
 IfSingle P (w ∷ v ∷ ws) = Unit
 
--- a word that stands in the tables, with its ordinal form
+-- the word and its ordinal form stand in the tables
 abbrev inTables : Word → Bool
 inTables w = listed (spell w) tableWords && listed (ordinalForm (spell w)) tableWords
 
 abbrev InTables : Word → Type 0
 InTables w = inTables w ≡ true
 
--- those of ONES, TEENS and TENS do
+-- this holds of the words of ONES, TEENS and TENS
 one-in-tables : (d : ℕ) → d < 10 → InTables (one d)
 unfolding spell ordinalForm formIn tableWords any unfoldVocabulary
 one-in-tables = below (λ d. inTables (one d)) 10 refl
@@ -84,7 +84,7 @@ unfolding cardinal
 cardinal-single t = let d = digitValues-below-ten t in cardinalOf-elim (IfSingle InTables) (digitValues t) (λ l. short-single (digitValues t) d)
     (ones-single (digitValues t) d)
 
--- ---- it is one of the tables'
+-- ---- it is a word of the tables
 
 abbrev IsTableWord : Word → Type 0
 IsTableWord w = listed (spell w) tableWords ≡ true
@@ -114,17 +114,17 @@ single-listed w [] h e = absurd (nil≢cons e)
 single-listed w (v ∷ []) h e = let f : spell v ≡ w = cc in rw f at h
 single-listed w (v ∷ u ∷ ws) h e = absurd (cons≢nil (cons-eq-cons .0 e .1))
 
--- a word that alone is an answer of `cardinal`
+-- a word that alone is an answer of `cardinal` stands in the tables
 pub cardinal-alone : (w : List ℕ) → SingleAnswer cardinal w → listed w tableWords ≡ true
 cardinal-alone w a = single-listed w (cardinal (a .0)) (single-imply (cardinal (a .0)) (cardinal-single (a .0))) (a .1)
 
--- or of `ordinal`
+-- so does a word that alone is an answer of `ordinal`
 pub ordinal-alone : (w : List ℕ) → SingleAnswer ordinal w → listed w tableWords ≡ true
 unfolding ordinal
 ordinal-alone w a = let c = filterIf (except (code ",")) (a .0) in single-listed w (onLast (orZero (cardinal c)))
     (last-single (cardinal c) (cardinal-single c)) (a .1)
 
--- ---- the kind
+-- ---- clear words
 
 -- a word that passes the test is clear
 pub test-word : (s : List ℕ) → isWordClear s ≡ true → Clear s

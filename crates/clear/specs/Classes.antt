@@ -1,4 +1,4 @@
--- The two classes of bytes that one scan serves. Definitions only; no public promise is made of them.
+-- The two classes of bytes that `all_letters` tests. Definitions only; no public promise is made of them.
 use mathlib.Core.Bool.{Bool, true, false}
 use Prim.Native.Nat.{ℕ}
 use Rattle.lists.specs.Bytes.{lowercase}

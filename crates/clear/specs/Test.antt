@@ -12,17 +12,17 @@ use Rattle.units.specs.Units.{unitWords, indexOf, unitIndex, isUnit, unitWord}
 use Rattle.shapes.specs.Shapes.{isDigits, stripSign, isTime, isDottedAbbrev, unitAt}
 use Rattle.clear.specs.Clear.{plain, suffix, tableWords}
 
--- past the digits of a figure: an exponent, or nothing
+-- what may follow the digits of a figure: an exponent, or nothing
 unfoldable pub isExponentClear : List ℕ → Bool
 isExponentClear s = cond (startsWith (code "e") s) (plain (stripSign (drop 1 s))) (eqb (length s) 0)
 
--- past its whole digits: a point with digits or none, and an exponent
+-- what may follow its whole digits: an optional point with digits, and an optional exponent
 unfoldable pub isFractionClear : List ℕ → Bool
 isFractionClear s =
     let f : ℕ = span digit (drop 1 s) in
     cond (startsWith (code ".") s) (not (eqb f 0) && isExponentClear (drop f (drop 1 s))) (isExponentClear s)
 
--- past its minus
+-- what may follow its minus
 unfoldable pub isFigureClear : List ℕ → Bool
 isFigureClear s = plain (takeWhile digit s) && isFractionClear (dropWhile digit s)
 
@@ -33,14 +33,14 @@ isNumberClear s = isDigits s || isFigureClear (stripPrefix (code "-") s)
 abbrev pub isPercentClear : List ℕ → Bool
 isPercentClear s = endsWith (code "%") s && isNumberClear (take (length s - 1) s)
 
--- a time whose hour is plain; `isTime` has the rest
+-- a time whose hour is plain; `isTime` tests the rest
 abbrev pub isPlainTime : List ℕ → Bool
 isPlainTime s = isTime s && plain (takeWhile (except (code ":")) s)
 
 abbrev pub isTimeClear : List ℕ → Bool
 isTimeClear s = isPlainTime s && not (same (drop 1 (dropWhile (except (code ":")) s)) (bytes "00"))
 
--- all but the last two bytes, and those
+-- all but the last two bytes, and the last two
 abbrev pub butLastTwo : List ℕ → List ℕ
 butLastTwo s = take (length s - 2) s
 

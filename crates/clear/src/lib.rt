@@ -8,7 +8,7 @@ ghost use mathlib.Core.Path.{_≡_};
 ghost use Rattle.patterns.specs.Calls.{asVerdict, verdictCall};
 ghost use Rattle.clear.specs.Test.{isClear};
 
-// Whether the name is a clear entry (`clear-tested` in proofs/Tested.antt). It takes all bytes, and a refused name's verdict is no.
+// Whether the name is clear (`clear-tested` in proofs/Tested.antt). Any bytes may be given. A refused name's verdict is no.
 pub fn is_clear(name: &[u8]) -> Verdict
     ensures { λ r. ⌜ asVerdict r ≡ verdictCall (now (name .entry)) (isClear (now (name .entry))) ⌝ }
 {

@@ -1,5 +1,5 @@
-// The tests of a clear name on names that are admitted already, kind by kind in document 01's order. Each is total on all
-// bytes, so nothing is demanded.
+// The tests of a clear name, for names that are already admitted, kind by kind in document 01's order. Each test works on any bytes,
+// so nothing is demanded of the caller.
 use lists::DIGIT;
 use lists::EXACT;
 use lists::NOT;
@@ -45,7 +45,7 @@ const LOWERCASE: bool = false;
 
 const UPPERCASE_OR_POINT: bool = true;
 
-// The words of the tables of numbers.rs.
+// How many words the tables of numbers.rs have.
 const TABLE_WORDS: usize = 63;
 
 // "0", or digits with no leading zero.
@@ -55,7 +55,7 @@ fn is_plain(s: &[u8]) -> bool
     is_digits(s) & !is_leading_zero_digits(s)
 }
 
-// Past the digits of a figure.
+// Whether s may follow the digits of a clear figure: an exponent, or nothing.
 fn is_exponent_clear(s: &[u8]) -> bool
     ensures { λ r. ⌜ r ≡ isExponentClear (now (s .entry)) ⌝ }
 {
@@ -65,7 +65,7 @@ fn is_exponent_clear(s: &[u8]) -> bool
     s.len() == 0
 }
 
-// Past its whole digits.
+// Whether s may follow its whole digits.
 fn is_fraction_clear(s: &[u8]) -> bool
     ensures { λ r. ⌜ r ≡ isFractionClear (now (s .entry)) ⌝ }
 {
@@ -77,7 +77,7 @@ fn is_fraction_clear(s: &[u8]) -> bool
     is_exponent_clear(s)
 }
 
-// Past its minus.
+// Whether s may follow its minus.
 fn is_figure_clear(s: &[u8]) -> bool
     ensures { λ r. ⌜ r ≡ isFigureClear (now (s .entry)) ⌝ }
 {
@@ -119,7 +119,7 @@ pub fn is_meridiem_clear(s: &[u8]) -> bool
         & is_plain_time(without_back(s, 2))
 }
 
-// Whether t is the suffix for a last digit b that no tens digit 1 precedes.
+// Whether t is the suffix for a last digit b, if the digit before it is not 1.
 fn is_suffix_for(b: u8, t: &[u8]) -> bool
     ensures { λ r. ⌜ r ≡ sameText (now (t .entry)) (suffixFor b) ⌝ }
 {
@@ -153,7 +153,7 @@ pub fn is_ordinal_clear(s: &[u8]) -> bool
     is_plain(number) & is_suffix(number, back(s, 2))
 }
 
-// Whether row k of the units is the first with its word. Rows with one word stand together.
+// Whether row k of the units is the first with its word. Rows with the same word stand together.
 fn is_first_at(k: u8) -> bool
     ensures { λ r. ⌜ r ≡ (ltb k (length abbreviations) && eqb (indexOf (getD unitWords k []) unitWords) k) ⌝ }
 {
@@ -199,7 +199,7 @@ pub fn is_initials_clear(s: &[u8]) -> bool
     is_dotted_abbrev(s) & !ends_with(s, b'.') & all_letters(UPPERCASE_OR_POINT, s)
 }
 
-// The number, in the vocabulary, of a word of the tables.
+// The number in the vocabulary of word i of the tables.
 fn table_word(i: usize) -> usize
     requires { ⌜ i < 63 ⌝ }
     ensures { λ r. ⌜ wordOf r ≡ getD tableWords i [] ⌝ }
@@ -216,7 +216,7 @@ fn table_word(i: usize) -> usize
     HUNDRED + (63 - i)
 }
 
-// Whether s is the word of a number in the vocabulary.
+// Whether s is word number k of the vocabulary.
 fn is_word_number(k: usize, s: &[u8]) -> bool
     ensures { λ r. ⌜ r ≡ sameText (wordOf k) (now (s .entry)) ⌝ }
 {

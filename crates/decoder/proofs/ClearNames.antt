@@ -10,7 +10,7 @@ use Rattle.decoder.proofs.Units.{unit-decoded}
 use Rattle.decoder.proofs.Initials.{initials-decoded}
 use Rattle.decoder.proofs.OneWord.{lowercase-lowered, word-decoded}
 
--- a word outside the tables is decoded as itself, whether or not it is an answer of `cardinal` or `ordinal`
+-- a clear name is decoded as itself; of a word only this is used: it has two letters or more, a to z, and is not in the tables
 pub clear-decoded : (n : List ℕ) → Clear n → Decoded n
 clear-decoded n (is-number s a) = number-decoded s a
 clear-decoded n (is-percent s a) = percent-decoded s a

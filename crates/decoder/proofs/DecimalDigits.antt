@@ -45,7 +45,7 @@ digitBytes-values (b ∷ s) h =
 pub digitBytes-digitValues : (s : List ℕ) → isDigits s ≡ true → digitBytes (digitValues s) ≡ s
 digitBytes-digitValues s h = ap digitBytes (digitValues-all s (digits-all s h)) ∙ digitBytes-values s (digits-all s h)
 
--- and are as many
+-- there are as many values as digits
 pub digitValues-length : (s : List ℕ) → isDigits s ≡ true → length (digitValues s) ≡ length s
 digitValues-length s h = ap length (digitValues-all s (digits-all s h)) ∙ length-map s digitValue
 
@@ -59,11 +59,11 @@ plain-first b r h l e =
     rw (lt-ltb 1 (suc (length r)) (omega arith), ne-eqb (suc (length r)) 0 (omega arith), eq-eqb b (code "0") e, i) in
     true≢false (sym z ∙ n)
 
--- values of digits of which the first is not 0, but for one digit
+-- values of digits, at least one; if there are more, the first is not 0
 abbrev pub PlainValues : List ℕ → Type 0
 PlainValues d = (0 < length d) × (1 < length d → 0 < getD d 0 0)
 
--- the values of plain digits are such
+-- this holds of the values of plain digits
 pub plain-values : (s : List ℕ) → plain s ≡ true → PlainValues (digitValues s)
 unfolding all
 plain-values s h = rw (digitValues-all s (digits-all s (plain-digits s h))) (go s h)

@@ -1,4 +1,4 @@
--- What decoding a sheet asks of the words of a name. Assumes nothing.
+-- What must hold of the words of a name so that its sheet can be decoded. Assumes nothing.
 use mathlib.Core.Path.{_≡_}
 use mathlib.Core.Bool.{Bool, not, _&&_}
 use mathlib.Core.List.{List, map}

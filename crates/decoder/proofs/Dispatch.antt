@@ -1,4 +1,4 @@
--- How `decode` goes by the first and the last word of a line. Assumes nothing.
+-- How `decode` chooses by the first and the last word of a line. Assumes nothing.
 use mathlib.Core.Path.{_≡_, refl}
 use mathlib.Core.Bool.{Bool, true, false, not, _&&_, and-eq-true-iff}
 use mathlib.Core.List.{List, [], _∷_, _++_, map}
@@ -24,11 +24,11 @@ use Rattle.numerals.proofs.NumberWords.{NumberWord, number-word-test}
 
 -- ---- the words of a line
 
--- the last word
+-- the last word of a line that ends in x is x
 pub last-word : (ws : List (List ℕ)) (x : List ℕ) → lastWord (ws ++ x ∷ []) ≡ x
 last-word ws x = getD-at ws x [] [] (length (ws ++ x ∷ []) - 1) (omega (arith, length-append ws (x ∷ [])))
 
--- the words before the last ones
+-- a line without its last words is the words before them
 pub but-last : (ws vs : List (List ℕ)) → butLast (length vs) (ws ++ vs) ≡ ws
 but-last ws vs = take-at ws vs (length (ws ++ vs) - length vs) (omega (arith, length-append ws vs))
 
@@ -47,20 +47,20 @@ pub number-word-no-letter : (w : Word) → NumberWord w → isLetterWord (spell 
 unfolding numberWords consecutiveWords spell unfoldVocabulary all
 number-word-no-letter w n = not-true (isLetterWord (spell w)) (number-word-test (λ w. not (isLetterWord (spell w))) refl w n)
 
--- a line that starts with plain digits and goes on
+-- a line that starts with the words of plain digits and has more words is not one word alone
 pub plain-not-one-word : (s : List ℕ) → plain s ≡ true → (x : List ℕ) (vs : List (List ℕ)) → isOneWordName (spelled (cardinal s) ++ x ∷ vs) ≡ false
 unfolding spelled
 plain-not-one-word s h x vs =
     let k = plain-some s h in
     rw (k .2) (not-one-word (spell (k .0) ∷ (map spell (k .1) ++ x ∷ vs)) (omega (arith, length-append (map spell (k .1)) (x ∷ vs))))
 
--- a name by its words
+-- a name is decoded if its words are decoded as the name
 pub decoded : {word : List ℕ → List ℕ} (n : List ℕ) (ws : List Word) → readWith word n .words ≡ ws → decode (spelled ws) ≡ n → DecodedWith word n
 decoded n ws e h = record { decoded = rw e h }
 
 -- ---- a number and one word more
 
--- a word that is no letter, nor the last one of a per cent or of a meridiem
+-- a word that is no letter's word, and neither "cent" nor "m"
 abbrev pub isOrdinaryEnd : List ℕ → Bool
 isOrdinaryEnd x = not (isLetterWord x) && (not (same x (bytes "cent")) && not (same x (bytes "m")))
 
@@ -82,18 +82,18 @@ module _ (ns : List Word) (x : List ℕ) (e : Every NumberWord ns) (q : isOrdina
       go [] e = ordinary-end .0
       go (w ∷ ws) e = number-word-no-letter w (e .0)
 
-  -- a number and a unit's word
+  -- how a number and a unit's word are decoded
   pub decode-unit : listed x unitWords ≡ true → decode line ≡ decodeDigits ns ++ getD abbreviations (indexOf x unitWords) []
   unfolding decode
   decode-unit u = rw (l, first, last-word (spelled ns) x, ordinary-end .1, ordinary-end .2, u, but-last (spelled ns) (x ∷ []), number-words-parsed ns e)
 
-  -- a number whose last word is in its ordinal form
+  -- how a number is decoded whose last word has its ordinal form
   pub decode-ordinal : listed x unitWords ≡ false → listed x (map bytes ordinals) ≡ true
       → decode line ≡ withSuffix (decodeDigits (parseWords (spelled ns ++ cardinalWord x ∷ [])))
   unfolding decode
   decode-ordinal u o = rw (l, first, last-word (spelled ns) x, ordinary-end .1, ordinary-end .2, u, o, but-last (spelled ns) (x ∷ []))
 
-  -- a name that is read as a number and one word more
+  -- a name that is read as a number and one word more is decoded if its line is
   pub decoded-ordinary : {word : List ℕ → List ℕ} (n : List ℕ) → readWith word n .words ≡ ns ++ other x ∷ [] → decode line ≡ n → DecodedWith word n
   unfolding spelled spell
   decoded-ordinary n r h =

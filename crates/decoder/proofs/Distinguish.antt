@@ -25,7 +25,7 @@ use Rattle.decoder.proofs.ClearNames.{clear-decoded}
 abbrev nameOf : Token → List ℕ
 nameOf t = t .name
 
--- a mark for each token
+-- there is a mark for each token
 marks-length : (s : List ℕ) → length (sentenceStarts (tokens s)) ≡ length (tokens s)
 unfolding flags
 marks-length s = go (sentenceStarts (tokens s)) ∙ starts-length s
@@ -86,8 +86,8 @@ entries-from s t h =
     rw marks (entries-same (sentenceStarts (tokens t)) (tokens s) (tokens t) (h .same-names))
 
 -- two accepted sheets made only of clear entries have the same call sheet exactly when they have equally many entries, the same
--- names in the same order, and sentences starting at the same entries. That they are accepted is part of the claim, and isn't
--- needed for it
+-- names in the same order, and sentences starting at the same entries. That they are accepted is part of the claim, but the proof
+-- does not need it
 pub call-sheets-distinguish-sheets : (s t : List ℕ) → AcceptedSheet s → AcceptedSheet t → AllClear (names s) → AllClear (names t)
     → (callSheet s ≡ callSheet t) ↔ SameEntries s t
 call-sheets-distinguish-sheets s t a b p q = (
@@ -131,7 +131,7 @@ call-counted s old a h =
     let n = sheet-counted s in
     (ap (λ (r : Call SheetResult). r .value .tokens) c ∙ sym (w ∙ n .0), ap (λ (r : Call SheetResult). r .value .words) c ∙ sym (v ∙ n .1))
 
--- so the two calls distinguish the sheets
+-- so what the two calls write distinguishes the sheets
 pub calls-distinguish-sheets : (s t old new : List ℕ) → AcceptedSheet s → AcceptedSheet t → length (callSheet s) ≤ length old → length (callSheet t) ≤ length new
     → AllClear (names s) → AllClear (names t) → (writtenCallSheet (sheetCall s old) ≡ writtenCallSheet (sheetCall t new)) ↔ SameEntries s t
 calls-distinguish-sheets s t old new a b h k p q = rw (written-sheet s old a h, written-sheet t new b k) (call-sheets-distinguish-sheets s t a b p q)

@@ -43,12 +43,12 @@ module _ (s : List ℕ) (z : 0 < length s) (l : letter (getD s 0 0) ≡ false) (
   past : PastTimes s
   past = past-times doubleByte s h refl refl z l not-meridiem
 
-  -- row 6
+  -- row 6 reads it if it has a leading zero
   read-leading : (word : List ℕ → List ℕ) → isLeadingZeroDigits s ≡ true → readWith word s .words ≡ digits s
   unfolding readStep
   read-leading word e = rw (step-eq word s, past .dotted, past .comma, past .time, past .meridiem, e, past .empty)
 
-  -- row 7, where `real` says the same, or 8
+  -- else row 7 or row 8 reads it; both say what `real` says
   read-real : (word : List ℕ → List ℕ) → isLeadingZeroDigits s ≡ false → isDouble s ≡ true → readWith word s .words ≡ real s
   unfolding readStep
   read-real word e d = go (isDigits s) refl
@@ -85,14 +85,14 @@ figure-double {f = f} {x = x} a-minus a h t e = rw (startsWith-first (code "-") 
 
 -- ---- what numbers are read as
 
--- a figure has bytes, and no letter leads it
+-- a figure is not empty, and does not start with a letter
 figure-front : {m : List ℕ} → OptionalMinus m → (a r : List ℕ) → isDigits a ≡ true → (0 < length (m ++ (a ++ r))) × (letter (getD (m ++ (a ++ r)) 0 0) ≡ false)
 unfolding isDigits all
 figure-front a-minus a r h = (omega arith, refl)
 figure-front no-minus [] r h = absurd (false≢true h)
 figure-front no-minus (b ∷ a) r h = (omega arith, digit-no-letter b (and-eq-true-iff (digit b) (all digit a) .0 (digits-all (b ∷ a) h) .0))
 
--- a sign, a point or an "e" is no digit, and plain digits have no leading zero
+-- a name with a byte that is no digit is not digits with a leading zero
 sign-not-leading-zero : (a : List ℕ) (c : ℕ) (r : List ℕ) → digit c ≡ false → isLeadingZeroDigits (a ++ c ∷ r) ≡ false
 unfolding all
 sign-not-leading-zero a c r n =
@@ -110,7 +110,7 @@ figure-leading no-minus a h no-point no-exponent =
 figure-leading no-minus a h no-point (an-exponent g x s k) = sign-not-leading-zero a (code "e") (g ++ x) refl
 figure-leading {x = x} no-minus a h (a-point f k) e = sign-not-leading-zero a (code ".") (f ++ x) refl
 
--- a figure is read as its parts
+-- a figure is read as the words of its parts
 pub figure-read : (word : List ℕ → List ℕ) {m f x : List ℕ} (p : OptionalMinus m) (a : List ℕ) → plain a ≡ true → (t : Fraction f) (e : Exponent x)
     → readWith word (m ++ (a ++ (f ++ x))) .words ≡ minusWords p ++ (cardinal a ++ (fractionWords t ++ exponentWords e))
 figure-read word {m} {f} {x} p a h t e =

@@ -1,4 +1,4 @@
--- The words of a figure are decoded as the figure, from the right: a symbol and the digits after it at a time. Assumes nothing.
+-- The words of a figure are decoded as the figure, from the right, one symbol with the digits after it at a time. Assumes nothing.
 use mathlib.Core.Path.{_≡_, refl, ap, _∙_}
 use mathlib.Core.Bool.{Bool, true, false, not, _&&_}
 use mathlib.Core.List.{List, [], _∷_, _++_, map, append-nil}
@@ -22,21 +22,21 @@ use Rattle.decoder.proofs.Real.{fractionWords, exponentWords}
 
 -- ---- words that a figure may have
 
--- a last word by which `decode` goes on to figures
+-- a last word with which `decode` goes on to times and figures
 abbrev pub isFigureEnd : List ℕ → Bool
 isFigureEnd w = not (same w (bytes "cent")) && not (same w (bytes "m")) && not (listed w unitWords) && not (listed w (map bytes ordinals))
 
--- parsed from its spelling, and no ending of another kind of name
+-- the word is parsed from its spelling, and is such a last word
 pub record FigureWord (w : Word) : Type 0 where
   pub parsed : parseWord (spell w) ≡ w
   pub ending : isFigureEnd (spell w) ≡ true
 
--- to compute what words pass
+-- unfolds what is needed to compute the tests of words
 unfoldable pub unfoldDecoder : Unit {0}
 unfolding unfoldVocabulary spell numberWords consecutiveWords parseWord parseWordIn all indexOf any unitWords unitAbbreviations tableWords digitOf valueBelowHundred symbolByte
 unfoldDecoder = tt
 
--- the words of numbers are such
+-- a figure may have the words of numbers
 pub number-word-figure : (w : Word) → NumberWord w → FigureWord w
 unfolding unfoldDecoder
 number-word-figure w n =
@@ -71,7 +71,7 @@ e-is = record { figure = record { parsed = refl; ending = refl }; byte = refl; s
 
 -- ---- symbols, each with the digits after it
 
--- a text that a symbol leads, if it is not empty, and its words
+-- a text that is empty or starts with a symbol, and its words
 pub data SymbolTail : List ℕ → List Word → Type 0 where
   no-tail : SymbolTail [] []
   symbol-part : (w : Word) (c : ℕ) (a : List Word) (d : List ℕ) {t : List ℕ} {r : List Word} → SymbolWord w c → Every NumberWord a → decodeAfterSymbol c a ≡ d
@@ -88,12 +88,12 @@ unfolding decodeFromRight
 tail-decoded no-tail = refl
 tail-decoded (symbol-part w c a d {t} {r} s n h k) = rw (s .byte, s .some, number-words-pending a r n, tail-decoded k, append-nil a, h)
 
--- digits before the symbols
+-- words of digits with symbols after them are decoded as the digits and the symbols
 pub front-decoded : (a : List Word) {t : List ℕ} {r : List Word} → Every NumberWord a → SymbolTail t r → decodeFigure (a ++ r) ≡ decodeAfterSymbol 0 a ++ t
 unfolding decodeFigure
 front-decoded a {t} {r} n k = rw (number-words-pending a r n, tail-decoded k, append-nil a)
 
--- the words of symbols and digits are such
+-- a figure may have the words of symbols and their digits
 pub tail-figure-words : {t : List ℕ} {r : List Word} → SymbolTail t r → Every FigureWord r
 tail-figure-words no-tail = tt
 tail-figure-words (symbol-part w c a d {t} {r} s n h k) =
@@ -105,7 +105,7 @@ plain-after : (c : ℕ) (s : List ℕ) → eqb c (code ".") ≡ false → plain 
 unfolding decodeAfterSymbol
 plain-after c s n h = let p = plain-some s h in rw (p .2) (rw (n, ← p .2) (decode-plain s h))
 
--- a symbol and plain digits, before others
+-- a symbol and plain digits may stand before other symbols
 pub plain-part : {w : Word} {c : ℕ} → SymbolWord w c → eqb c (code ".") ≡ false → (x : List ℕ) → plain x ≡ true → {t : List ℕ} {r : List Word}
     → SymbolTail t r → SymbolTail (c ∷ (x ++ t)) (w ∷ (cardinal x ++ r))
 plain-part {w} {c} s n x h k = symbol-part w c (cardinal x) x s (cardinal-number-words x) (plain-after c x n h) k
@@ -131,6 +131,6 @@ fraction-tail : {f t : List ℕ} {r : List Word} (d : Fraction f) → SymbolTail
 fraction-tail no-point k = k
 fraction-tail (a-point f h) k = symbol-part (other (bytes "point")) (code ".") (digits f) f point-is (digits-number-words f) (point-after f h) k
 
--- a fraction and an exponent, as their words are decoded
+-- a fraction and an exponent, and the words that are decoded as them
 pub figure-tail : {f x : List ℕ} (d : Fraction f) (e : Exponent x) → SymbolTail (f ++ x) (fractionWords d ++ exponentWords e)
 figure-tail {f} {x} d e = rw (append-nil x, append-nil (exponentWords e)) at (fraction-tail d (exponent-tail e no-tail))

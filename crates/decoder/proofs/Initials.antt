@@ -41,7 +41,7 @@ uppercase-range b h = (leb-true 65 b (and-eq-true-iff (leb 65 b) (leb b 90) .0 h
 uppercase-letter : (b : ℕ) → uppercase b ≡ true → letter b ≡ true
 uppercase-letter b h = rw h
 
--- a capital's letter is a letter's word, and the capital is decoded from it
+-- the word of a capital is a letter's word, and the capital is decoded from it
 uppercase-read-back : (b : ℕ) → uppercase b ≡ true → isReadBack b ≡ true
 unfolding isReadBack letterWord sameBy all
 uppercase-read-back b h =

@@ -17,7 +17,7 @@ use Rattle.decoder.specs.Decode.{decode}
 use Rattle.decoder.specs.Sheets.{linesIn, startsIn, wordsIn, decodeSheet}
 use Rattle.decoder.proofs.Decoded.{separatorFree, Decoded}
 
--- a part without the separator, and the parts after it
+-- a text is split into what stands before its first separator, and the parts of what stands after it
 split-at : (c : ℕ) (s t : List ℕ) → eqb c c ≡ true → all (except c) s ≡ true → split c (s ++ c ∷ t) ≡ s ∷ split c t
 unfolding split all onto
 split-at c [] t r h = rw r
@@ -28,7 +28,7 @@ split-at c (b ∷ s) t r h = go (eqb b c) h (split-at c s t r)
     go true h i = cc
     go false h i = rw (i h)
 
--- such a word has neither separator
+-- a word without separators has no space and no LF
 separatorFree-except : (w : List ℕ) → separatorFree w ≡ true → (all (except (code " ")) w ≡ true) × (all (except (code "\n")) w ≡ true)
 separatorFree-except w h = (
   all-within _ (except (code " ")) (λ b k. and-eq-true-iff (except (code " ") b) (except (code "\n") b) .0 k .0) w h,
@@ -79,7 +79,7 @@ lines-split (e ∷ es) h =
 lines-in : (es : List SheetEntry) → Every SeparatorFreeEntry es → linesIn (flatten (map lineOf es)) ≡ map bare es
 lines-in es h = rw (lines-split es h, take-at (map bare es) ([] ∷ []) (length (map bare es ++ [] ∷ []) - 1) (simp length-append (omega arith)))
 
--- each with an LF after it, they are the call sheet
+-- the lines, each with an LF after it, are the call sheet
 pub lines-whole : (es : List SheetEntry) → Every SeparatorFreeEntry es
     → flatten (map (λ l. l ++ bytes "\n") (linesIn (flatten (map lineOf es)))) ≡ flatten (map lineOf es)
 unfolding bare lineOf flatten
@@ -89,7 +89,7 @@ lines-whole es h = ap (λ (ls : List (List ℕ)). flatten (map (λ l. l ++ bytes
     go [] = refl
     go (e ∷ es) = ap (λ (r : List ℕ). lineOf e ++ r) (go es)
 
--- what is read from a line, by its mark and its words, of each entry
+-- what f makes of the marks and words of the lines is what it makes of those of the entries
 pub lines-read : {A : Type 0} (f : Bool → List (List ℕ) → A) (es : List SheetEntry) → Every SeparatorFreeEntry es
     → map (λ l. f (startsIn l) (wordsIn l)) (linesIn (flatten (map lineOf es))) ≡ map (λ (e : SheetEntry). f (e .starts) (wordsOf e)) es
 unfolding bare

@@ -1,4 +1,4 @@
--- The words of a number are not like those of a time, and a word that is alone is below a hundred. Assumes nothing.
+-- The words of a number are not like those of a time, and if there is only one, it is below a hundred. Assumes nothing.
 use mathlib.Core.Path.{_≡_, refl, _∙_}
 use mathlib.Core.Bool.{false, not, _&&_, and-false}
 use mathlib.Core.List.{List, [], _∷_, _++_, map}
@@ -16,7 +16,7 @@ use Rattle.numerals.specs.Walk.{BelowTen}
 use Rattle.numerals.proofs.NumberWords.{digitValues-below-ten}
 use Rattle.decoder.specs.Decode.{digitOf, valueBelowHundred, isBelowHundred, isMinuteOnly, timeLike}
 
--- the words are not like those of a time, and a word that is alone is below a hundred
+-- the words are not like those of a time, and if there is only one, it is below a hundred
 pub record NotTime (ws : List Word) : Type 0 where
   pub not-time-like : timeLike ws ≡ false
   pub alone : (eqb (length ws) 1 && not (all isBelowHundred ws)) ≡ false
@@ -25,12 +25,12 @@ single-not-time : (w : Word) → valueBelowHundred w < 100 → NotTime (w ∷ []
 unfolding all any
 single-not-time w h = record { not-time-like = and-false (all isBelowHundred (w ∷ [])); alone = rw (lt-ltb (valueBelowHundred w) 100 h) }
 
--- a word of a hundred or more among others
+-- words are not all below a hundred if one of them is not
 large-among : (u : List Word) (w : Word) (r : List Word) → ltb (valueBelowHundred w) 100 ≡ false → all isBelowHundred (u ++ w ∷ r) ≡ false
 unfolding all
 large-among u w r h = all-append isBelowHundred u (w ∷ r) ∙ rw h (and-false (all isBelowHundred u))
 
--- words among which one is a hundred or more
+-- this holds of words of which one is not below a hundred, if it is not the only one
 pub large-not-time : (u : List Word) (w : Word) (r : List Word) → ltb (valueBelowHundred w) 100 ≡ false → 0 < length u + length r → NotTime (u ++ w ∷ r)
 large-not-time u w r h l =
     record {
@@ -77,13 +77,13 @@ short-not-time = shortCardinal-induct (λ d. d < 10) (λ n ws. NotTime ws) (reco
   joined = λ n left right l h k. join-not-time left (scaleFor n) right k;
 })
 
--- the words of a number
+-- this holds of the words of a number
 pub cardinal-not-time : (s : List ℕ) → NotTime (cardinal s)
 unfolding cardinal
 cardinal-not-time s = let d = digitValues-below-ten s in cardinalOf-elim NotTime (digitValues s) (λ l. short-not-time (digitValues s) d)
     (ones-not-time (digitValues s) d)
 
--- and of digits, one by one
+-- and of the words of digits that are read one by one
 pub digits-not-time : (s : List ℕ) → NotTime (digits s)
 unfolding digits
 digits-not-time s = ones-not-time (digitValues s) (digitValues-below-ten s)

@@ -1,4 +1,5 @@
--- The words that numbers are read with: what each of them passes, and which digits they are decoded as. Assumes nothing.
+-- The words that numbers are read with: the tests that each of them passes, and the digits that they are decoded as.
+-- Assumes nothing.
 use mathlib.Core.Path.{_≡_, refl, sym, ap, _∙_}
 use mathlib.Core.Bool.{Bool, true, false, cond, _&&_, and-false, and-eq-true-iff}
 use mathlib.Core.Logic.{⊎-elim}
@@ -29,7 +30,7 @@ use Rattle.decoder.proofs.DecimalDigits.{plain-values, decimalDigits-pl
 
 -- ---- words from their spelling
 
--- the first word that is spelled so
+-- parsing finds the first word that is spelled w
 parse-first : (vs : List Word) (w : List ℕ) → indexOf w (map spell vs) < length vs → parseWordIn vs w ≡ getD vs (indexOf w (map spell vs)) hundred
 unfolding parseWordIn indexOf any
 parse-first [] w h = absurd (omega arith)
@@ -45,7 +46,7 @@ parse-first (v ∷ vs) w h = go (same (spell v) w) h (parse-first vs w)
 parsesBack : ℕ → Bool
 parsesBack k = eqb (indexOf (spell (getD numberWords k hundred)) (map spell numberWords)) k
 
--- a number's word is parsed from its spelling, and so are words one after another
+-- a number's word is parsed from its spelling
 pub number-word-parsed : (w : Word) → NumberWord w → parseWord (spell w) ≡ w
 unfolding parsesBack parseWord numberWords consecutiveWords indexOf any spell unfoldVocabulary
 number-word-parsed w n =
@@ -53,6 +54,7 @@ number-word-parsed w n =
     let e : indexOf (spell (getD numberWords k hundred)) (map spell numberWords) ≡ k = eqb-true _ _ (below parsesBack 32 refl k (n .1)) in
     rw (n .2, parse-first numberWords (spell (getD numberWords k hundred)) (rw e (n .1)), e)
 
+-- words are parsed from their spellings if each of them is
 pub every-parsed : (ws : List Word) → Every (λ w. parseWord (spell w) ≡ w) ws → parseWords (spelled ws) ≡ ws
 unfolding spelled
 every-parsed [] h = refl
@@ -60,7 +62,7 @@ every-parsed (w ∷ ws) h = rw (h .0, every-parsed ws (h .1))
 
 -- ---- digits that are decoded
 
--- digit by digit
+-- digits that have a word each are decoded from these words
 pub digits-back : (d : List ℕ) → map digitOf (map one d) ≡ d
 unfolding digitOf
 digits-back [] = refl
@@ -114,7 +116,7 @@ cardinal-long s h = rw (lt-leb (length (digitValues s)) 12 h)
 decimalDigits-value : (s : List ℕ) → plain s ≡ true → length (digitValues s) ≤ 12 → decimalDigits 11 (wordsValue (cardinal s)) [] ≡ digitValues s
 decimalDigits-value s h l = rw (cardinal-value s l) (decimalDigits-plain (digitValues s) 11 (digitValues-below-ten s) (plain-values s h) l)
 
--- 0 is named by its own word alone
+-- plain digits of the value 0 have one word, "zero"
 pub zero-named : (s : List ℕ) → plain s ≡ true → length (digitValues s) ≤ 12 → wordsValue (cardinal s) ≡ 0 → cardinal s ≡ one 0 ∷ []
 unfolding decimalDigits
 zero-named s h l z =
@@ -134,7 +136,7 @@ plain-has-words s h e =
     (λ (l : 12 < length (digitValues s)). omega (arith, long-length s l, ap length e))
     (le-or-lt (length (digitValues s)) 12)
 
--- plain digits have a word, and are decoded from their words; so are digits with a leading zero
+-- plain digits have at least one word
 pub plain-some : (s : List ℕ) → plain s ≡ true → (w : Word) × (ws : List Word) × (cardinal s ≡ w ∷ ws)
 plain-some s h = go (cardinal s) refl
   where
@@ -142,6 +144,7 @@ plain-some s h = go (cardinal s) refl
     go [] e = absurd (plain-has-words s h e)
     go (w ∷ ws) e = (w, ws, e)
 
+-- plain digits are decoded from their words
 pub decode-plain : (s : List ℕ) → plain s ≡ true → decodeDigits (cardinal s) ≡ s
 unfolding decodeDigits
 decode-plain s h =
@@ -154,6 +157,7 @@ decode-plain s h =
     i : isDigits s ≡ true
     i = plain-digits s h
 
+-- so are digits with a leading zero
 pub decode-leading : (s : List ℕ) → isLeadingZeroDigits s ≡ true → decodeDigits (digits s) ≡ s
 decode-leading s h =
     let k = and-eq-true-iff (ltb 1 (length s) && startsWith (code "0") s) (isDigits s) .0 h in

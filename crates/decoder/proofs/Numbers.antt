@@ -33,7 +33,7 @@ use Rattle.decoder.proofs.FigureWords.{FigureWord, isFigureEnd, unfoldD
 use Rattle.decoder.proofs.FigureRows.{figure-read, leading-read}
 use Rattle.decoder.proofs.NotTime.{NotTime, large-not-time, cardinal-not-time, digits-not-time}
 
--- ---- what is said of a number
+-- ---- what holds of the words of a number
 
 -- the words ws are decoded as the number s
 record NumberDecoded (s : List ℕ) (ws : List Word) : Type 0 where
@@ -44,12 +44,12 @@ record NumberDecoded (s : List ℕ) (ws : List Word) : Type 0 where
   pub not-time-like : timeLike ws ≡ false
   pub decoded : decodeFigure ws ≡ s
 
--- symbols after words of numbers
+-- words of numbers with symbols after them are not those of a time
 tail-not-time : (a : List Word) {t : List ℕ} {r : List Word} → 0 < length a → NotTime a → SymbolTail t r → NotTime (a ++ r)
 tail-not-time a z h no-tail = rw (append-nil a) h
 tail-not-time a z h (symbol-part w c b d {t} {r} s n e k) = large-not-time a w (b ++ r) (s .large) (omega arith)
 
--- a word below a hundred that is alone is one of the tables
+-- a number's word below a hundred is in the tables
 below-hundred-listed : (w : Word) → NumberWord w → (not (ltb (valueBelowHundred w) 100) || listed (spell w) tableWords) ≡ true
 unfolding unfoldDecoder
 below-hundred-listed = number-word-test (λ w. not (ltb (valueBelowHundred w) 100) || listed (spell w) tableWords) refl
@@ -62,7 +62,7 @@ not-time-not-one-word w [] n o =
     rw k
 not-time-not-one-word w (x ∷ v) n o = not-one-word (spelled (w ∷ x ∷ v)) (omega arith)
 
--- words of numbers, and the symbols after them
+-- words of numbers with symbols after them are decoded
 front-number : (a : List Word) (s : List ℕ) {t : List ℕ} {r : List Word} → 0 < length a → Every NumberWord a → NotTime a → decodeDigits a ≡ s
     → SymbolTail t r → NumberDecoded (s ++ t) (a ++ r)
 unfolding spelled decodeAfterSymbol
@@ -76,7 +76,7 @@ front-number (w ∷ a) s {t} {r} z n o e k = record {
   decoded = front-decoded (w ∷ a) n k ∙ ap (λ (x : List ℕ). x ++ t) e;
 }
 
--- plain digits, after a minus or not
+-- plain digits with or without a minus before them, and with symbols after them
 plain-number : {m : List ℕ} (p : OptionalMinus m) (a : List ℕ) → plain a ≡ true → {t : List ℕ} {r : List Word} → SymbolTail t r
     → NumberDecoded (m ++ (a ++ t)) (minusWords p ++ (cardinal a ++ r))
 unfolding spelled spell decodeAfterSymbol sameBy
@@ -116,7 +116,7 @@ number-words-decoded word n (is-digits s h) = go (isLeadingZeroDigits s) refl
     go true e = rw (leading-read word s e) (leading-number s e)
     go false e = let k : plain s ≡ true = rw (e, h) in rw (append-nil s) at (figure-number-decoded word no-minus s k no-point no-exponent)
 
--- ---- how `decode` goes by these words
+-- ---- how `decode` decodes these words
 
 module _ {s : List ℕ} {ws : List Word} (o : NumberDecoded s ws) where
   figure-words-parsed : parseWords (spelled ws) ≡ ws
@@ -151,7 +151,7 @@ module _ {s : List ℕ} {ws : List Word} (o : NumberDecoded s ws) where
       )
       (o .decoded)
 
-  -- before "per", "cent"
+  -- the words with "per" and "cent" after them
   said-percent : spelled (ws ++ perCent) ≡ spelled ws ++ bytes "per" ∷ bytes "cent" ∷ []
   unfolding spelled spell
   said-percent = spelled-append ws perCent

@@ -34,7 +34,7 @@ not-digit b h = rw (lt-leb b 57 (omega (arith, at-least b h))) (and-false (leb 4
 lower-lowercase : (b : ℕ) → lowercase b ≡ true → toLower b ≡ b
 lower-lowercase b h = rw (lt-leb b 90 (omega (arith, at-least b h)), and-false (leb 65 b))
 
--- row 12 says them as they are
+-- lowering leaves small letters as they are
 pub lowercase-lowered : (s : List ℕ) → all lowercase s ≡ true → map toLower s ≡ s
 unfolding all
 lowercase-lowered [] h = refl
@@ -102,7 +102,7 @@ module _ (b : ℕ) (t : List ℕ) (h : all lowercase (b ∷ t) ≡ true) where
         ne-eqb (suc (length t)) 0 (omega arith),
       )
 
--- a word that row 12 says as it is
+-- a word outside the tables is decoded if row 12 says it as it is
 pub word-decoded : {word : List ℕ → List ℕ} (s : List ℕ) → word s ≡ s → 2 ≤ length s → all lowercase s ≡ true → listed s tableWords ≡ false → DecodedWith word s
 unfolding decode spelled spell
 word-decoded [] e l h n = absurd (omega arith)

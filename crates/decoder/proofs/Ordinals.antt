@@ -98,7 +98,7 @@ module _ (w : Word) (n : NumberWord w) where
   unfolding numberWords consecutiveWords spell unfoldVocabulary ordinalForm formIn indexOf any all
   form-back = same-true (cardinalWord (formOf w)) (spell w) (number-word-test (λ w. same (cardinalWord (formOf w)) (spell w)) refl w n)
 
-  -- "hundred" and the scales name nothing alone, and their forms are not in the tables
+  -- a word's form is in the tables, unless the word alone has the value 0; "hundred" and the scales alone have the value 0
   form-in-table : (eqb (wordsValue (w ∷ [])) 0 || listed (formOf w) tableWords) ≡ true
   unfolding numberWords consecutiveWords spell unfoldVocabulary ordinalForm formIn indexOf any tableWords wordsValue valueFrom all
   form-in-table = number-word-test (λ w. eqb (wordsValue (w ∷ [])) 0 || listed (formOf w) tableWords) refl w n

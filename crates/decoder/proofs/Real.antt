@@ -1,4 +1,4 @@
--- The words of a figure: what `real` says of its parts. Assumes nothing.
+-- The words of a figure: how `real` reads its parts. Assumes nothing.
 use mathlib.Core.Path.{_≡_, refl, sym, ap, _∙_}
 use mathlib.Core.Bool.{true, false}
 use mathlib.Core.List.{List, [], _∷_, _++_, append-nil, append-assoc}
@@ -23,7 +23,7 @@ use Rattle.clear.specs.Clear.{OptionalMinus, no-minus, a-minus, Fraction, no-po
 
 -- ---- digits
 
--- digits are within each class that the other bytes of figures mark off
+-- no digit is another byte of a figure: a point, a sign or an e
 digits-but : (c : ℕ) (s : List ℕ) → digit c ≡ false → all digit s ≡ true → all (except c) s ≡ true
 digits-but c s n h = all-within digit (except c) (λ b k. rw (class-apart digit c b n k)) s h
 
@@ -60,7 +60,7 @@ real-plus : (s : List ℕ) → real (bytes "+" ++ s) ≡ other (bytes "plus") �
 unfolding realStep
 real-plus s = real-eq (code "+" ∷ s) ∙ rw (startsWith-first (code "-") (code "+") s, startsWith-first (code "+") (code "+") s)
 
--- neither sign leads the text
+-- a text without an e that does not start with a sign
 module _ (s : List ℕ) (m : startsWith (code "-") s ≡ false) (p : startsWith (code "+") s ≡ false) (n : all notE s ≡ true) where
   real-pointed : real s ≡ pointed s
   real-pointed = real-plain s m p (omega (arith, all-span notE s n))
@@ -80,7 +80,7 @@ module _ (s : List ℕ) (m : startsWith (code "-") s ≡ false) (p : startsWith 
         drop-append-add s (code "e" ∷ r) 1,
       )
 
--- digits alone
+-- `real` reads digits alone as `cardinal` does
 pub real-digits : (s : List ℕ) → isDigits s ≡ true → real s ≡ cardinal s
 real-digits s h =
     real-pointed s (digits-alone (code "-") s refl h) (digits-alone (code "+") s refl h) (digits-notE s (digits-all s h))

@@ -1,4 +1,4 @@
--- A name without space and LF has no word with one, whatever row reads it. Assumes nothing.
+-- If a name has no space and no LF, none of its words has one, whatever row reads it. Assumes nothing.
 use mathlib.Core.Path.{_≡_, refl, sym, ap, _∙_}
 use mathlib.Core.Bool.{Bool, true, false, cond, not, _&&_, and-eq-true-iff}
 use mathlib.Core.Logic.{⊎-elim}
@@ -156,7 +156,7 @@ real-separatorFree = recur-induct (λ s ws. Every SeparatorFreeWord ws) [] realS
 
 -- ---- words made of the name's own bytes
 
--- a name in small letters
+-- a name without space and LF has none after lowering
 pub lower-separatorFree : (s : List ℕ) → SeparatorFree s → SeparatorFree (map toLower s)
 unfolding all
 lower-separatorFree [] h = refl
@@ -185,7 +185,7 @@ letter-separatorFree [] h = refl
 letter-separatorFree (b ∷ []) h = cond-elim SeparatorFree (eqb (toLower b) (code "a")) (λ e. refl) (λ e. lower-separatorFree (b ∷ []) h)
 letter-separatorFree (b ∷ c ∷ s) h = h
 
--- the parts of a text
+-- the parts of a text have no space and no LF if the text has none
 parts-separatorFree : (cs : List (List ℕ)) → SeparatorFree (flatten cs) → Every SeparatorFree cs
 unfolding flatten
 parts-separatorFree [] h = tt
@@ -212,7 +212,7 @@ meridiem-separatorFree s h =
     (λ e. every-append SeparatorFreeWord (clock _ _) _ (clock-separatorFree _ _)
     (letters-separatorFree (drop (length s - 2) s) (all-split _ s (length s - 2) h .1))) (λ e. tt)
 
--- whatever row 12 says, if that is such a word
+-- no word of a name without space and LF has one, if the word of row 12 has none
 pub read-separatorFree : (word : List ℕ → List ℕ) → ((s : List ℕ) → separatorFree s ≡ true → separatorFree (word s) ≡ true) → (s : List ℕ) → separatorFree s ≡ true
     → Every (λ w. separatorFree w ≡ true) (spelled (readWith word s .words))
 unfolding readWith readStep spell spelled all

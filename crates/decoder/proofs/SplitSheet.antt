@@ -35,7 +35,7 @@ names-no-whitespace ends [] h = tt
 names-no-whitespace ends (t ∷ []) h = (name-no-whitespace t (h .run .1), tt)
 names-no-whitespace ends (t ∷ u ∷ ts) h = (name-no-whitespace t (h .0 .run .1), names-no-whitespace ends (u ∷ ts) (h .2))
 
--- so no word of a sheet has a space or an LF
+-- a name without whitespace has no space and no LF
 name-separatorFree : (n : List ℕ) → all nonWhitespace n ≡ true → separatorFree n ≡ true
 unfolding any
 name-separatorFree = all-within nonWhitespace _ (λ b. go (eqb b 32) (eqb b 9) (eqb b 10) (eqb b 13))
@@ -46,6 +46,7 @@ name-separatorFree = all-within nonWhitespace _ (λ b. go (eqb b 32) (eqb b 9) (
     go false false true r h = absurd (true≢false (sym h))
     go false false false r h = refl
 
+-- so no word of a sheet's entries has a space or an LF
 pub entries-separatorFree : (s : List ℕ) → Every SeparatorFreeEntry (entries s)
 unfolding entriesOf
 entries-separatorFree s = go (sentenceStarts (tokens s)) (tokens s) (names-no-whitespace (endsInRun s) (tokens s) (tokens-peeled s))

@@ -68,11 +68,12 @@ module _ (s u : List ℕ) (h : isDigits s ≡ true) (l : all letter u ≡ true) 
   past : PastTimes name
   past = past-times letterOrDigit name plain-bytes refl refl some first (no-meridiem letterOrDigit name plain-bytes refl refl)
 
-  -- by row 9, or by row 11
+  -- row 9 reads the name if it is an ordinal number
   pub read-ordinal : (word : List ℕ → List ℕ) → isOrdinal name ≡ true → readWith word name .words ≡ ordinal (take (length name - 2) name)
   unfolding readStep
   read-ordinal word o = rw (step-eq word name, o, no-double, no-leading, suffix-not-digits, past .meridiem, past .time, past .comma, past .dotted, past .empty)
 
+  -- row 11 reads it if it is no ordinal number and has a unit
   pub read-unit : (word : List ℕ → List ℕ) → isOrdinal name ≡ false → hasUnit name ≡ true
       → readWith word name .words ≡ cardinal (take (unitAt name) name) ++ other (unitWord (drop (unitAt name) name)) ∷ []
   unfolding readStep

@@ -1,4 +1,4 @@
--- The rows that take a clear time, with am or pm or without, and what is decoded of it. Assumes nothing.
+-- The rows that take a clear time, with or without am or pm, and what its words are decoded as. Assumes nothing.
 use mathlib.Core.Path.{_≡_, refl, sym, ap, _∙_}
 use mathlib.Core.Bool.{true, false, _||_, or-true}
 use mathlib.Core.List.{List, [], _∷_, _++_, append-assoc}
@@ -48,7 +48,7 @@ module _ (h t : List ℕ) (p : isHour h ≡ true) where
   name-length : length name ≡ length h + suc (length t)
   name-length = length-append h (bytes ":" ++ t)
 
-  -- the rows before row 4
+  -- the rows before row 4 do not take the name
   first-rows : (eqb (length name) 0 ≡ false) × (isDottedAbbrev name ≡ false) × (isCommaInt name ≡ false)
   first-rows = (
     ne-eqb (length name) 0 (λ z. omega (arith, name-length)),
@@ -130,7 +130,7 @@ module _ (h m x : List ℕ) (p : isHour h ≡ true) (q : isMinute m ≡ true) (d
 
 -- ---- what is decoded
 
--- a time that is not on the hour is decoded
+-- a time whose minute is not 00 is decoded
 pub time-decoded : {word : List ℕ → List ℕ} (h m : List ℕ) → isHour h ≡ true → isMinute m ≡ true → (m ≡ bytes "00" → ⊥) → DecodedWith word (h ++ (bytes ":" ++ m))
 time-decoded {word} h m p q n =
     decoded (h ++ (bytes ":" ++ m)) (clock h m) (ap (λ r. r .words) (time-row word h m p q)) (time-read h m q p n)

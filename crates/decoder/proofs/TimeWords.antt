@@ -1,4 +1,4 @@
--- The words of a time: what each of them passes, and how they are decoded. Assumes nothing.
+-- The words of a time: the tests that each of them passes, and how they are decoded. Assumes nothing.
 use mathlib.Core.Path.{_≡_, refl, sym, ap, _∙_}
 use mathlib.Core.Bool.{Bool, true, false, cond, not, and-eq-true-iff, false≢true}
 use mathlib.Core.List.{List, [], _∷_, _++_, map, append-assoc}
@@ -78,7 +78,7 @@ some-clock h m p =
     let (w, ws, e) = plain-some h (hour-parts h p .0) in
     rw e (omega arith)
 
--- words before two more of which the last is "m"
+-- words with two more after them, of which the last is "m"
 module _ (ws : List (List ℕ)) (y : List ℕ) where
   abbrev more : List (List ℕ)
   more = ws ++ y ∷ bytes "m" ∷ []
@@ -111,7 +111,7 @@ module _ (h m : List ℕ) (q : isMinute m ≡ true) where
       (every-imply NumberWord TimeWord (λ w n. inl n) (cardinal h) (cardinal-number-words h))
       (cond-elim (Every TimeWord) (same m (bytes "00")) (λ e. tt) (λ e. minute-time-words m q))
 
-  -- a test of their spelling
+  -- a test that their spellings pass
   clock-test : (p : List ℕ → Bool) → all (λ w. p (spell w)) numberWords ≡ true → p (bytes "oh") ≡ true → Every (λ w. p w ≡ true) (spelled (clock h m))
   unfolding spelled spell
   clock-test p a b = every-map TimeWord (λ w. p w ≡ true) spell (time-word-test (λ w. p (spell w)) a b) (clock h m) clock-words
@@ -130,8 +130,9 @@ module _ (h m : List ℕ) (q : isMinute m ≡ true) where
       not-true (p (getD (spelled (clock h m)) i []))
       (every-at (λ w. not (p w) ≡ true) (spelled (clock h m)) i [] (rw spelled-length l) (clock-test (λ w. not (p w)) a b))
 
-  -- with a minute the words are a time's
+  -- the minute is not 00
   module _ (p : isHour h ≡ true) (n : m ≡ bytes "00" → ⊥) where
+    -- the words of a time are decoded as the time
     pub time-read : decode (spelled (clock h m)) ≡ h ++ (bytes ":" ++ m)
     unfolding decode numberWords consecutiveWords spell unfoldVocabulary unitAbbreviations unitWords indexOf any all
     time-read =
@@ -152,7 +153,7 @@ module _ (h m : List ℕ) (q : isMinute m ≡ true) where
           t,
         ) (time-words-decoded h m p q)
 
-  -- and before "_a" or "p" and "m" with or without one
+  -- so are the words of a time with am or pm, whatever its minute is
   pub meridiem-read : isHour h ≡ true → (x : List ℕ) → AmPm x → decode (spelled (clock h m ++ letters x)) ≡ h ++ (bytes ":" ++ (m ++ x))
   unfolding numberWords consecutiveWords spell unfoldVocabulary all
   meridiem-read p x d =

@@ -80,7 +80,7 @@ minute-number m e =
 
 -- ---- the words of an hour, and of a minute
 
--- words below a hundred: one, or tens and ones, that are the hour k
+-- the words of the hour k: one word, or tens and ones
 unfoldable isHourOf : ℕ → List Word → Bool
 isHourOf k [] = false
 isHourOf k (w ∷ []) = eqb (valueBelowHundred w) k
@@ -90,7 +90,7 @@ isHourOf k (w ∷ v ∷ u ∷ ws) = false
 abbrev hourly : ℕ → List Word → Bool
 hourly k ws = all isBelowHundred ws && isHourOf k ws
 
--- words below a hundred: none, or the first is none of ONES, that are the minute k
+-- the words of the minute k: none, or words of which the first is not of ONES
 unfoldable isMinuteOf : ℕ → List Word → Bool
 isMinuteOf k [] = eqb 0 k
 isMinuteOf k (v ∷ ws) = not (isOne v) && eqb (decodeMinute (v ∷ ws)) k
@@ -147,7 +147,7 @@ hour-minute-decoded h m (w ∷ v ∷ u ∷ ws) vs p q = absurd (false≢true p)
 minute-only-append : (ws vs : List Word) → any isMinuteOnly vs ≡ true → any isMinuteOnly (ws ++ vs) ≡ true
 minute-only-append ws vs q = rw (any-append isMinuteOnly ws vs, q) (or-true (any isMinuteOnly ws))
 
--- with a minute there are two words, and they are a time's
+-- a minute other than 0 has a word that only a minute has
 some-minute-only : (m : ℕ) (vs : List Word) → minutely m vs ≡ true → (m ≡ 0 → ⊥) → any isMinuteOnly vs ≡ true
 unfolding isMinuteOf all any
 some-minute-only m [] q n = absurd (n (sym (eqb-true 0 m q)))
@@ -166,6 +166,7 @@ some-time-like h m (w ∷ ws) vs p q n =
     rw (s, minute-only-append ws vs (some-minute-only m vs q n))
 
 module _ (h m : List ℕ) (p : isHour h ≡ true) (q : isMinute m ≡ true) where
+  -- the words of a time are decoded as the time
   pub time-words-decoded : decodeTime (clock h m) ≡ h ++ (bytes ":" ++ m)
   unfolding clock
   time-words-decoded =
@@ -175,6 +176,7 @@ module _ (h m : List ℕ) (p : isHour h ≡ true) (q : isMinute m ≡ true) wher
       (and-eq-true-iff (all isBelowHundred (minuteWords m)) _ .0 ms .1)
       ∙ ap₂ (λ x y. x ++ (bytes ":" ++ y)) (sym e) (sym f)
 
+  -- if the minute is not 00, the words are like those of a time
   pub time-like : (m ≡ bytes "00" → ⊥) → timeLike (clock h m) ≡ true
   unfolding clock digitBytes
   time-like n =

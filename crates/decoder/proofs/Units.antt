@@ -37,7 +37,7 @@ abbreviationAt k = getD abbreviations k []
 abbrev unitWordAt : ℕ → List ℕ
 unitWordAt k = getD unitWords k []
 
--- what each row passes
+-- if all 22 rows pass a test, row k passes it
 each-unit-test : (p : ℕ → Bool) → upto p 22 ≡ true → (k : ℕ) → k < length unitWords → p k ≡ true
 unfolding unitWords unitAbbreviations
 each-unit-test p t k h = below p 22 t k h

@@ -1,5 +1,5 @@
 -- From the words that a clear name is called with back to the name. Definitions only; no public promise is made of them, and
--- `call-sheets-distinguish-sheets` does not speak of them.
+-- the statement of `call-sheets-distinguish-sheets` does not mention them.
 use mathlib.Core.Bool.{Bool, false, cond, not, _&&_, _||_}
 use mathlib.Core.List.{List, [], _∷_, _++_, map}
 use Prim.Native.Nat.{ℕ, zero, suc, _+_, _-_, _*_, _/_, _%_}
@@ -15,7 +15,7 @@ use Rattle.clear.specs.Clear.{suffix, dottedInitials, tableWords}
 
 -- ---- words
 
--- the word that is spelled so
+-- the first of the words that is spelled w, `other w` if there is none
 unfoldable pub parseWordIn : List Word → List ℕ → Word
 parseWordIn [] w = other w
 parseWordIn (v ∷ vs) w = cond (same (spell v) w) v (parseWordIn vs w)
@@ -42,7 +42,7 @@ butLast n ws = take (length ws - n) ws
 unfoldable pub digitBytes : List ℕ → List ℕ
 digitBytes = map (λ d. d + code "0")
 
--- the digits of n before those in acc: as many as n has, if they are at most f + 1
+-- the digits of n, put before those in acc, if n has at most f + 1 digits
 unfoldable pub decimalDigits : ℕ → ℕ → List ℕ → List ℕ
 decimalDigits zero n acc = n ∷ acc
 decimalDigits (suc f) n acc = cond (ltb n 10) (n ∷ acc) (decimalDigits f (n / 10) (n % 10 ∷ acc))
@@ -65,13 +65,13 @@ twoOnes [] = false
 twoOnes (w ∷ []) = false
 twoOnes (w ∷ v ∷ ws) = isOne w && isOne v
 
--- the digits of the number that is read so
+-- the digits of the number that has these words
 unfoldable pub decodeDigits : List Word → List ℕ
 decodeDigits ws = digitBytes (cond (twoOnes ws) (map digitOf ws) (decimalDigits 11 (wordsValue ws) []))
 
 -- ---- numbers with sign, point and exponent
 
--- the byte that a word between digits stands for, a sign, a point or an "e", and 0 where it stands for none
+-- the byte that a word between digits stands for: a sign, a point or an "e"; 0 if it stands for none
 abbrev pub symbolIn : List ℕ → ℕ
 symbolIn w =
     cond (same w (bytes "minus")) (code "-")
@@ -85,12 +85,12 @@ symbolByte hundred = 0
 symbolByte (scale k) = 0
 symbolByte (other w) = symbolIn w
 
--- the digits after the symbol c: after a point one by one
+-- the digits after the symbol c; after a point each word is one digit
 unfoldable pub decodeAfterSymbol : ℕ → List Word → List ℕ
 decodeAfterSymbol c [] = []
 decodeAfterSymbol c (w ∷ ws) = cond (eqb c (code ".")) (digitBytes (map digitOf (w ∷ ws))) (decodeDigits (w ∷ ws))
 
--- words decoded from the right: those that no symbol stands before yet, and what is decoded after them
+-- words decoded from the right: the words that stand before the first symbol, and the bytes from that symbol on
 pub record Decoding : Type 0 where
   pub pending : List Word
   pub bytes : List ℕ
@@ -107,7 +107,7 @@ decodeFigure ws = decodeAfterSymbol 0 (decodeFromRight ws .pending) ++ decodeFro
 
 -- ---- hour and minute
 
--- the value of a word below 100, 100 for any other word but "oh", which adds nothing
+-- the value of a word if it is below 100, 0 for "oh", and 100 for any other word
 unfoldable pub valueBelowHundred : Word → ℕ
 valueBelowHundred (one d) = d
 valueBelowHundred (teen d) = 10 + d
@@ -120,7 +120,7 @@ valueBelowHundred (other w) = cond (same w (bytes "oh")) 0 100
 abbrev pub isBelowHundred : Word → Bool
 isBelowHundred w = ltb (valueBelowHundred w) 100
 
--- a word that only a minute has after others below a hundred: a teen, a ten, "oh"
+-- a teen, a ten or "oh": if all words are below a hundred, only a minute has such a word after the first one
 abbrev pub isMinuteOnly : Word → Bool
 isMinuteOnly w = isBelowHundred w && not (isOne w)
 
@@ -146,7 +146,7 @@ decodeTime (w ∷ v ∷ ws) =
 
 -- ---- the kinds
 
--- a letter by itself, "_a" for a
+-- the word of a letter: the letter by itself, but "_a" for a
 abbrev pub isLetterWord : List ℕ → Bool
 isLetterWord w = same w (bytes "_a") || (eqb (length w) 1 && lowercase (getD w 0 0))
 
@@ -157,7 +157,7 @@ unfoldable pub decodeInitials : List (List ℕ) → List ℕ
 decodeInitials [] = []
 decodeInitials (w ∷ ws) = dottedInitials (letterOfWord w) (map letterOfWord ws)
 
--- "a" or "p" before the last word, "m"
+-- the last two words are "_a" or "p", and "m"
 abbrev pub decodeMeridiem : List (List ℕ) → List ℕ
 decodeMeridiem ws = decodeTime (parseWords (butLast 2 ws)) ++ ((cond (same (getD ws (length ws - 2) []) (bytes "p")) (code "p") (code "a") ∷ []) ++ bytes "m")
 
@@ -175,11 +175,11 @@ decodeOrdinal ws = withSuffix (decodeDigits (parseWords (butLast 1 ws ++ cardina
 abbrev pub decodeUnit : List (List ℕ) → List ℕ
 decodeUnit ws = decodeDigits (parseWords (butLast 1 ws)) ++ getD abbreviations (indexOf (lastWord ws) unitWords) []
 
--- a line of one word that no number has
+-- a line of one word that is not in the tables
 abbrev pub isOneWordName : List (List ℕ) → Bool
 isOneWordName ws = eqb (length ws) 1 && not (listed (firstWord ws) tableWords)
 
--- the clear name that is called with the words ws, if there is one: by what the first word is, then by what the last one is
+-- the clear name that is called with the words ws, if there is one; the first word is tested, and then the last one
 unfoldable pub decode : List (List ℕ) → List ℕ
 decode ws =
     cond (isOneWordName ws) (firstWord ws)

@@ -40,7 +40,7 @@ writtenCallSheet r = take (r .value .bytes) (r .value .buffer)
 
 -- ---- a call sheet taken apart
 
--- the lines of a call sheet, each of which LF ends
+-- the lines of a call sheet, each without the LF that ends it
 abbrev pub linesIn : List ℕ → List (List ℕ)
 linesIn s = take (length (split (code "\n") s) - 1) (split (code "\n") s)
 
@@ -48,7 +48,7 @@ linesIn s = take (length (split (code "\n") s) - 1) (split (code "\n") s)
 abbrev pub startsIn : List ℕ → Bool
 startsIn l = eqb (getD l 0 0) (code "+")
 
--- the words of a line, which are parted by spaces, after the line's mark
+-- the words of a line: they follow the line's mark, each after a space
 abbrev pub wordsIn : List ℕ → List (List ℕ)
 wordsIn l = drop 1 (split (code " ") (drop 1 l))
 
@@ -65,7 +65,7 @@ expectedLine e = record { starts = e .starts; words = wordsOf e }
 
 -- ---- no public promise is made of these
 
--- the entry that a line calls, and those that a call sheet does
+-- the entry that a line stands for, and the entries that a call sheet stands for
 abbrev pub decodeLine : List ℕ → SheetEntry
 decodeLine l = record { starts = startsIn l; name = decode (wordsIn l) }
 

@@ -1,4 +1,4 @@
--- The loops over the entries of a sheet keep those of what is left. Assumes nothing.
+-- What the loops over the entries of a sheet keep: the entries that are left. Assumes nothing.
 use mathlib.Core.Path.{_≡_, sym, ap, ap₂, _∙_}
 use mathlib.Core.Bool.{Bool, true, _||_}
 use mathlib.Core.List.{List, [], _∷_}
@@ -20,7 +20,7 @@ use Rattle.call_spec.proofs.Entries.{entries-length}
 use Rattle.entries.specs.Find.{entryNamed, foundEntry, asFoundEntry, notFound}
 use Rattle.entries.specs.declared.Found.{Found}
 
--- the entries of tokens after those that the state was fed
+-- the entries of tokens, if the state was fed the tokens before them
 abbrev pub entriesFrom : State → List Token → List SheetEntry
 entriesFrom st ts = entriesOf (sentenceStartsFrom st ts) ts
 
@@ -28,7 +28,7 @@ entriesFrom st ts = entriesOf (sentenceStartsFrom st ts) ts
 pub from-fresh : (s : List ℕ) {st : State} → st ≡ fresh → entriesFrom st (tokens s) ≡ entries s
 from-fresh s e = ap (λ (r : State). entriesFrom r (tokens s)) e ∙ ap (λ (bs : List Bool). entriesOf bs (tokens s)) (startsFrom-fresh (tokens s))
 
--- where no token is left, no entry is
+-- if no token is left, no entry is left
 pub from-none : (st : State) {ts : List Token} → ts ≡ [] → entriesFrom st ts ≡ []
 unfolding entriesOf sentenceStartsFrom
 from-none st e = rw e
@@ -44,18 +44,18 @@ entry-next next st ew em eq eb es = ap₂ entriesOf (startsFrom-next next st ew 
 
 -- ---- entry k, after n entries
 
--- at the start entry k is the one of that number among all
+-- at the start it is entry k of all entries
 pub entry-from : (s : List ℕ) (k : ℕ) {st : State} → st ≡ fresh → getD (entriesFrom st (tokens s)) (k - 0) noEntry ≡ entryAt s k
 entry-from s k e = rw sub-zero (ap (λ (es : List SheetEntry). getD es k noEntry) (from-fresh s e))
 
--- where it is not the next one, it is among those after it
+-- if it is not the next one, it is among those after it
 pub entry-later : {n k : ℕ} {e : SheetEntry} {es fs : List SheetEntry} → es ≡ e ∷ fs → n ≤ k → (n ≡ k → ⊥) → {z : SheetEntry}
     → getD es (k - n) noEntry ≡ z → getD fs (k - (n + 1)) noEntry ≡ z
 entry-later {n} {k} {e} {fs = fs} o h f q =
     let d : suc (k - (n + 1)) ≡ k - n = omega arith in
     ap (λ (i : ℕ). getD (e ∷ fs) i noEntry) d ∙ ap (λ (xs : List SheetEntry). getD xs (k - n) noEntry) (sym o) ∙ q
 
--- where it is the next one, the code has found it
+-- if it is the next one, the code has found it
 pub found-here : {s : List ℕ} {n k at : ℕ} {p : Places} {b : Bool} {m : List ℕ} {es fs : List SheetEntry}
     → Left s n at → Next s at p → n ≡ k → m ≡ take (p .punctuation - p .name) (drop (p .name) s) → es ≡ entryNamed b m ∷ fs → getD es (k - n) noEntry ≡ entryAt s k
     → asFoundEntry s (record { found = true; starts = b; name = p .name; end = p .punctuation }) ≡ foundEntry s k
@@ -66,7 +66,7 @@ found-here {s} {n} {k} {b = b} {es = es} l next e f o q =
     let h = ap (entryNamed b) (sym f) ∙ ap (λ (xs : List SheetEntry). getD xs 0 noEntry) (sym o) ∙ ap (λ (i : ℕ). getD es i noEntry) d ∙ q in
     λ j. record { found = t j; entry = h j }
 
--- where all are counted, there is no entry k
+-- if n, at most k, is the count of all entries, there is no entry k
 pub found-none : (s : List ℕ) {n k : ℕ} {r : Found} → r ≡ notFound → n ≤ k → n ≡ length (tokens s) → asFoundEntry s r ≡ foundEntry s k
 found-none s {n} {k} e h c =
     let t = sym (le-ltb k (length (tokens s)) (omega arith)) in

@@ -22,21 +22,22 @@ use Rattle.entries.proofs.Loops.{entriesFrom, from-fresh}
 abbrev pub longNames : List Token → Bool
 longNames = any (λ (t : Token). ltb nameLimit (length (t .name)))
 
--- the names of all tokens tell whether an entry is long
+-- an entry is long if and only if its token has a long name
 long-from : (st : State) (ts : List Token) → longNames ts ≡ anyLong (entriesFrom st ts)
 unfolding any entriesOf sentenceStartsFrom
 long-from st [] = refl
 long-from st (t ∷ ts) = ap (λ (r : Bool). ltb nameLimit (length (t .name)) || r) (long-from (kept (t .name) (t .punctuation)) ts)
 
+-- the same for a whole sheet
 pub long-names : (s : List ℕ) → longNames (tokens s) ≡ anyLong (entries s)
 long-names s = long-from fresh (tokens s) ∙ ap anyLong (from-fresh s refl)
 
--- where no token is left, no name is long
+-- if no token is left, no name is long
 pub long-none : {ts : List Token} → ts ≡ [] → {z : Bool} → longNames ts ≡ z → false ≡ z
 unfolding any
 long-none e h = ap longNames (sym e) ∙ h
 
--- p is where the parts of the next token are
+-- p says where the parts of the next token are
 module _ {s : List ℕ} {at : ℕ} {p : Places} (next : Next s at p) where
   -- the length of its name, as the code has it
   name-length : p .punctuation - p .name ≡ length (firstToken (drop at s) .name)
@@ -52,10 +53,10 @@ module _ {s : List ℕ} {at : ℕ} {p : Places} (next : Next s at p) where
       ap longNames (next .token)
       ∙ ap (λ (k : ℕ). ltb nameLimit k || longNames (tokens (drop (p .end) s))) (sym name-length)
 
-  -- the next name is long
+  -- if the next name is long, the answer is yes
   pub long-here : nameLimit < p .punctuation - p .name → {z : Bool} → longNames (tokens (drop at s)) ≡ z → true ≡ z
   long-here l q = sym (long-next ∙ rw (lt-ltb nameLimit (p .punctuation - p .name) l)) ∙ q
 
-  -- the next name is not, so those after it decide
+  -- if it is not, the names after it decide
   pub long-later : p .punctuation - p .name ≤ nameLimit → {z : Bool} → longNames (tokens (drop at s)) ≡ z → longNames (tokens (drop (p .end) s)) ≡ z
   long-later l q = sym (long-next ∙ rw (le-ltb nameLimit (p .punctuation - p .name) l)) ∙ q

@@ -1,4 +1,4 @@
--- Where no 4,097 bytes stand together without whitespace, no name is long. Assumes nothing.
+-- If no run of bytes without whitespace is longer than 4,096, no name is long. Assumes nothing.
 use mathlib.Core.Path.{_≡_, sym, ap, _∙_}
 use mathlib.Core.Bool.{Bool, true, false, not}
 use mathlib.Core.Logic.{⊎-elim}
@@ -27,11 +27,11 @@ span-stops p [] j h e = absurd (omega arith)
 span-stops p (b ∷ s) zero h e = rw e (omega arith)
 span-stops p (b ∷ s) (suc j) h e = cond-elim (λ (n : ℕ). n ≤ suc j) (p b) (λ t. omega (arith, span-stops p s j (omega arith) e)) (λ t. omega arith)
 
--- from i on more bytes than a name may have, none of them whitespace
+-- from i on stand more bytes than a name may have, and none of them is whitespace
 abbrev pub LongRun : List ℕ → ℕ → Type 0
 LongRun s i = nameLimit < span nonWhitespace (drop i s)
 
--- a long name makes its run one
+-- a long name would make a long run
 no-long-name : (s : List ℕ) → ((i : ℕ) → LongRun s i → ⊥) → longNames (tokens s) ≡ false
 unfolding any
 no-long-name =
@@ -50,7 +50,7 @@ no-long-name =
 abbrev pub RunsFrom : List ℕ → ℕ → Type 0
 RunsFrom s at = (i : ℕ) → LongRun s i → at ≤ i
 
--- whitespace ends k bytes further on, within reach of a long run: none starts before it
+-- the last whitespace of the 4,097 bytes from `at` ends k bytes after `at`; k is 0 if there is none
 module _ (s : List ℕ) (at : ℕ) {k : ℕ} {l : List ℕ} (q : l ≡ take (at + suc nameLimit - at) (drop at s)) (a : k ≡ afterLast whitespace l) where
   last-within : (k ≤ suc nameLimit) × (k ≤ length s - at)
   last-within =
@@ -58,9 +58,11 @@ module _ (s : List ℕ) (at : ℕ) {k : ℕ} {l : List ℕ} (q : l ≡ take (at 
       let n = ap length q ∙ length-take (at + suc nameLimit - at) (drop at s) in
       (omega arith, omega (arith, length-drop at s))
 
+  -- that is within the text
   pub ahead-within : at ≤ length s → at + k ≤ length s
   ahead-within h = omega (arith, last-within .1)
 
+  -- if there is such whitespace, no long run starts before its end
   pub long-runs-on : (k ≡ 0 → ⊥) → RunsFrom s at → RunsFrom s (at + k)
   long-runs-on z f i r =
       let w : whitespace (getD l (k - 1) 0) ≡ true = last-passes whitespace l (k - 1) (omega arith) in
@@ -74,6 +76,6 @@ module _ (s : List ℕ) (at : ℕ) {k : ℕ} {l : List ℕ} (q : l ≡ take (at 
       let n = span-stops nonWhitespace (drop i s) j (omega (arith, length-drop i s, b .1)) (ap nonWhitespace (sym e) ∙ ap not w) in
       absurd (omega (arith, b .0))) (le-or-lt (at + k) i)
 
--- no run is left
+-- if too few bytes are left for a long run, no name is long
 pub long-runs-end : (s : List ℕ) {at : ℕ} → length s - at ≤ nameLimit → RunsFrom s at → anyLong (entries s) ≡ false
 long-runs-end s h f = sym (long-names s) ∙ no-long-name s (λ i r. omega (arith, f i r, span-le nonWhitespace (drop i s), length-drop i s))

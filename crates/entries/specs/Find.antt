@@ -13,7 +13,7 @@ use Rattle.entries.specs.declared.Found.{Found}
 abbrev pub entryNamed : Bool → List ℕ → SheetEntry
 entryNamed b n = record { starts = b; name = n }
 
--- whether it is there, and the entry, an empty one where it is not
+-- whether the entry is there, and the entry; an empty one if it is not there
 pub record FoundEntry : Type 0 where
   pub found : Bool
   pub entry : SheetEntry
@@ -26,6 +26,6 @@ foundEntry s k = record { found = ltb k (length (tokens s)); entry = entryAt s k
 abbrev pub asFoundEntry : List ℕ → Found → FoundEntry
 asFoundEntry s r = record { found = r .found; entry = entryNamed (r .starts) (take (r .end - r .name) (drop (r .name) s)) }
 
--- the answer where there is no such entry
+-- the answer if there is no such entry
 abbrev pub notFound : Found
 notFound = record { found = false; starts = false; name = 0; end = 0 }

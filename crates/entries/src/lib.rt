@@ -15,7 +15,7 @@ ghost use Rattle.entries.specs.Find.{foundEntry, asFoundEntry, notFound}
 // The longest name that is called.
 pub const NAME_LIMIT: usize = 4096;
 
-// The shortest run in which a name may be longer.
+// The length of the shortest run that can hold a longer name.
 const LONG_RUN_SIZE: usize = NAME_LIMIT + 1;
 
 // Where an entry was found, if it was: whether it starts a sentence, and its name's place in the sheet.
@@ -26,8 +26,8 @@ pub struct Found {
     pub end: usize,
 }
 
-// Whether more bytes than a name may have stand together without whitespace. From each place the last whitespace is looked for
-// that would end such a run, so few bytes are read.
+// Whether a run of bytes without whitespace is longer than a name may be. From each place LONG_RUN_SIZE bytes are searched for
+// whitespace, the last one first. The next place is after the whitespace that is found, so few bytes are read.
 fn has_long_run(s: &[u8]) -> bool
     ensures { λ r. ⌜ (r ≡ false → anyLong (entries (now (s .entry))) ≡ false) ⌝ }
 {
@@ -42,7 +42,7 @@ fn has_long_run(s: &[u8]) -> bool
     false
 }
 
-// Whether a name is longer than is called.
+// Whether a name is too long to be called.
 pub fn has_long_name(s: &[u8]) -> bool
     ensures { λ r. ⌜ r ≡ anyLong (entries (now (s .entry))) ⌝ }
 {

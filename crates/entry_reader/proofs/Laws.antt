@@ -20,7 +20,7 @@ perCents-suc : (n : ℕ) → perCents (n + 1) ≡ perCent ++ perCents n
 unfolding perCents
 perCents-suc n = rw add-one
 
--- a sign is said, and one less is left
+-- n percent signs are one sign and n - 1 more
 pub one-less : (n : ℕ) → 0 < n → perCents n ≡ perCent ++ perCents (n - 1)
 one-less n h = let e : n ≡ n - 1 + 1 = omega arith in ap perCents e ∙ perCents-suc (n - 1)
 
@@ -29,6 +29,7 @@ pub none-left : (n : ℕ) → n ≡ 0 → (σ : Writer) {z : Writer} → putWord
 unfolding perCents spelled putWords
 none-left n e σ k = rw e at k
 
+-- without percent signs a reading stays as it is
 pub no-percents : (g : Reading) → g ≡ withPercents g 0
 unfolding perCents
 no-percents g = λ j. record { row = g .row; words = sym (append-nil (g .words)) j }
@@ -37,6 +38,6 @@ no-percents g = λ j. record { row = g .row; words = sym (append-nil (g .words))
 pub percent-taken : (s : List ℕ) (n : ℕ) → isPercent s ≡ true → withPercents (read s) n ≡ by Percent (read (take (length s - 1) s) .words ++ perCents (n + 1))
 percent-taken s n e = rw (percent-read s e, perCents-suc n, append-assoc)
 
--- what is said from the cursor that a place stands for
+-- what is said from a cursor is said from an equal one
 pub from-cursor : (g : Reading) (s t : List ℕ) {p q : Cursor} → p ≡ q → {τ : Writer} {r : Row} → Says g (writer s t p) τ r → Says g (writer s t q) τ r
 from-cursor g s t e h = rw e at h

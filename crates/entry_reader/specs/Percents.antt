@@ -8,12 +8,12 @@ use Rattle.word_writer.specs.declared.Cursor.{Cursor}
 use Rattle.numerals.specs.Words.{Word}
 use Rattle.rows.specs.Rows.{Reading, by, perCent}
 
--- "per cent" so many times
+-- the words "per" and "cent" n times
 unfoldable pub perCents : ℕ → List Word
 perCents zero = []
 perCents (suc n) = perCent ++ perCents n
 
--- a reading, and so many percent signs after it, which leave its row
+-- a reading with n percent signs after it, which do not change its row
 abbrev pub withPercents : Reading → ℕ → Reading
 withPercents g n = by (g .row) (g .words ++ perCents n)
 

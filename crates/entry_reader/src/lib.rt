@@ -2,9 +2,9 @@
 // the percent reader call each other on shorter names. No name that ends in % is taken by rows 1 to 9, so the last byte is tested
 // first.
 //
-// A name may be nothing but %, so a level of the two has to take little of the stack. The % taken off are counted and said
-// once what stands before them was read: nothing waits for the inner call. The cursor is three numbers at one place, whose address is
-// all that a level hands on.
+// A name may be only percent signs, so each of these calls must take little of the stack. The signs taken off are counted, and are said
+// after what stands before them: nothing has to be kept for the time after the inner call. The cursor is three numbers at one place of
+// memory, and a call hands on only their address.
 use lists::ends_with;
 use lists::without_back;
 use numerals::saying::say;
@@ -41,7 +41,7 @@ fn say_per_cent(store: &mut [u8], table: &mut [u8], cursor: Cursor) -> Cursor
     say(CENT, store, table, p)
 }
 
-// Says "per" and "cent" so many times.
+// Says "per" and "cent" `percents` times.
 fn say_per_cents(percents: usize, store: &mut [u8], table: &mut [u8], cursor: Cursor) -> Cursor
     ensures { λ r. ⌜ writer (now (store .exit)) (now (table .exit)) r
         ≡ putWords (spelled (perCents percents)) (writer (now (store .entry)) (now (table .entry)) cursor) ⌝ }
@@ -75,8 +75,8 @@ fn cursor_of(place: &[usize; 3]) -> Cursor
     }
 }
 
-// A name that does not end in %, and the percent signs after it. The cycle and `read_name` call it: were it called once, the compiler
-// would make its frame a part of each level's.
+// Says a name that does not end in %, and the percent signs after it. Both `read_entry` and `read_name` call it: if it had one caller,
+// the compiler would inline it, and each call of `read_entry` would take its stack frame as well.
 fn read_before_percents(
     name: &[u8],
     percents: usize,
@@ -115,7 +115,7 @@ fn read_entry(
     read_before_percents(name, percents, store, table, place)
 }
 
-// The percent reader, row 10: what stands before the sign is read again, with one sign more after it.
+// The percent reader, row 10: what stands before the sign is read again, and one more sign is said after it.
 fn read_percent(
     name: &[u8],
     percents: usize,

@@ -1,4 +1,4 @@
--- The offsets and lengths that C is told of stand for the parts of the name. Assumes nothing.
+-- The offsets and lengths that C gets stand for the parts of the name. Assumes nothing.
 use mathlib.Core.Path.{_≡_, refl, ap, _∙_}
 use mathlib.Core.List.{List}
 use Prim.Native.Nat.{ℕ, _-_}
@@ -20,6 +20,6 @@ parts-at-c s number (At hour minute meridiem) =
     rw e
 parts-at-c s number Nothing = refl
 
--- what C is told of t gives the parts that t's offsets give
+-- what C gets for t stands for the same parts as t's offsets
 pub time-at-c : (s : List ℕ) (t : SplitTime) {r : HwkTime} → r ≡ timeAtC (length s) (asOffsets t) → asTimeAtC r s ≡ asTime t s
 time-at-c s t e = ap (λ (r : HwkTime). asTimeAtC r s) e ∙ parts-at-c s (t .refusal) (t .split)

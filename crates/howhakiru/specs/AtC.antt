@@ -11,7 +11,7 @@ use Rattle.call_spec.specs.Calls.{EntryResult}
 use Rattle.howhakiru.specs.declared.HwkTime.{HwkTime}
 use Rattle.howhakiru.specs.declared.HwkEntry.{HwkEntry}
 
--- each part by its offset and its length, in a text of n bytes; every number 0 where there is none
+-- each part by its offset and its length, in a text of n bytes; all of these are 0 if there are no parts
 abbrev pub partsAtC : ℕ → ℕ → TimeSplit → HwkTime
 partsAtC n number (At hour minute meridiem) =
     record {
@@ -34,7 +34,7 @@ timeAtC n r = partsAtC n (r .refusal) (r .value)
 abbrev pub partAt : ℕ → ℕ → List ℕ → List ℕ
 partAt at len s = take len (drop at s)
 
--- "hour, minute and meridiem, or none": the parts of the text s that C is told of
+-- "hour, minute and meridiem, or none": the parts of the text s that the answer for C stands for
 abbrev pub asTimeAtC : HwkTime → List ℕ → Call TimeParts
 asTimeAtC r s =
     record {

@@ -1,4 +1,5 @@
-// Every function that C calls, thin over the library. include/howhakiru.h is the same list for C.
+// Every function that C calls. Each calls one function of the library, and may put its answer into a form for C.
+// include/howhakiru.h is the same list for C.
 use calls::CalledEntry;
 use calls::CalledSheet;
 use lists::saturating_sub;
@@ -35,7 +36,7 @@ ghost use Rattle.calls.specs.Answers.{asSheet, asEntry};
 ghost use Rattle.clear.specs.Test.{isClear};
 ghost use Rattle.howhakiru.specs.AtC.{timeAtC, asTimeAtC, asEntryAtC};
 
-// split_time_meridiem for C, which takes no enum: each part by its offset and its length.
+// The answer of split_time_meridiem for C, which takes no enum: each part by its offset and its length.
 #[repr(C)]
 pub struct HwkTime {
     pub refusal: u8,

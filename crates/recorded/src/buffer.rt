@@ -8,7 +8,7 @@ ghost use Prim.Native.Nat.{_≤_};
 // What fills a buffer before a call.
 pub const GUARD: u8 = 0xA5;
 
-// The refusal where a buffer is too short.
+// The refusal if a buffer is too short.
 pub const BUFFER_TOO_SHORT: usize = 5;
 
 pub fn least(a: usize, b: usize) -> usize

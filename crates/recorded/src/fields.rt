@@ -1,4 +1,4 @@
-// A line of a file: its fields, numbers and hex. A field that is no number, or no hex, is answered as such.
+// A line of a file: its fields, numbers and hex. If a field is not a number, or not hex, the answer says so.
 use lists::DIGIT;
 use lists::NOT;
 use lists::all_of;
@@ -8,13 +8,13 @@ use lists::span_of;
 use lists::tail;
 ghost use Prim.Native.Nat.{_<_};
 
-// What no field can hold: the answer where there is no number.
+// Larger than any number that a field can hold: the answer if there is no number.
 pub const BAD: usize = 1_000_000_000;
 
-// What no byte is: the answer where there is no hex.
+// Larger than any byte: the answer if there is no hex.
 pub const NO_BYTE: usize = 256;
 
-// The sum, or BAD where a part is that large already: a count never wraps, and never falls back to 0.
+// The sum, or BAD if one of the two is already as large as BAD. So a count never wraps.
 pub fn add_or_bad(a: usize, b: usize) -> usize {
     if a < BAD {
         if b < BAD {
@@ -24,12 +24,13 @@ pub fn add_or_bad(a: usize, b: usize) -> usize {
     BAD
 }
 
-// The difference, 0 where it would fall below.
+// The difference, 0 if it would be below 0.
 pub fn saturating_sub(a: usize, b: usize) -> usize {
     if b <= a { a - b } else { 0 }
 }
 
-// Past a part of n bytes at `at` and the byte after it: always further on, within len bytes.
+// The place after a part of n bytes at `at` and the one byte that follows it, but at most `len`. If `at` is below `len`, it is
+// after `at`.
 pub fn past(len: usize, at: usize, n: usize) -> usize
     ensures { λ r. ⌜ (at < len → at < r) ⌝ }
 {
@@ -42,7 +43,7 @@ pub fn past(len: usize, at: usize, n: usize) -> usize
     len
 }
 
-// Where the field k starts, past the end where there is none. The byte `end` stands between fields.
+// The place where field k starts, which is past the end if there is none. The byte `end` stands between fields.
 pub fn field_at(line: &[u8], end: u8, k: usize) -> usize {
     let mut at = 0;
     let mut left = k;
@@ -54,7 +55,7 @@ pub fn field_at(line: &[u8], end: u8, k: usize) -> usize {
     at
 }
 
-// The field k, empty where there is none.
+// Field k, empty if there is none.
 pub fn field(line: &[u8], end: u8, k: usize) -> &[u8] {
     let rest = tail(line, field_at(line, end, k));
     front(rest, span_of(NOT, end, rest))
@@ -75,7 +76,7 @@ fn shifted(n: usize, b: u8) -> usize {
     BAD
 }
 
-// The decimal number, BAD where it is none or has more than nine digits.
+// The decimal number, BAD if s is not one or has more than nine digits.
 pub fn number(s: &[u8]) -> usize {
     if (s.len() == 0) | (9 < s.len()) | !all_of(DIGIT, 0, s) {
         return BAD;
@@ -89,7 +90,7 @@ pub fn number(s: &[u8]) -> usize {
     n
 }
 
-// The hex pairs of a field: none where it is a dash.
+// The hex pairs of a field: none if it is a dash.
 pub fn pairs(s: &[u8]) -> &[u8] {
     if (s.len() == 1) & (byte_at(s, 0) == b'-') {
         return tail(s, 1);
@@ -97,7 +98,7 @@ pub fn pairs(s: &[u8]) -> &[u8] {
     s
 }
 
-// The value of a hex digit, NO_BYTE where it is none.
+// The value of a hex digit, NO_BYTE if b is not one.
 fn hex_digit(b: u8) -> usize {
     if (48 <= b) & (b <= 57) {
         return (b % 16) as usize;
@@ -108,7 +109,7 @@ fn hex_digit(b: u8) -> usize {
     NO_BYTE
 }
 
-// The byte of a hex pair, NO_BYTE where it is none.
+// The byte of a hex pair, NO_BYTE if it is not hex.
 fn hex_byte(high: u8, low: u8) -> usize {
     let h = hex_digit(high);
     let l = hex_digit(low);
@@ -120,7 +121,7 @@ fn hex_byte(high: u8, low: u8) -> usize {
     NO_BYTE
 }
 
-// The byte of a field that is one hex pair, NO_BYTE where it is none.
+// The byte of a field that is one hex pair, NO_BYTE if it is not one.
 pub fn byte_of(s: &[u8]) -> usize {
     if s.len() == 2 {
         return hex_byte(byte_at(s, 0), byte_at(s, 1));

@@ -8,8 +8,8 @@ fn say_trouble(name: &[u8], trouble: &[u8]) {
     say(trouble);
 }
 
-// Reads the file into the front of `room` and answers its length: 0, and a line that says why, where it is not read whole. A
-// file that fills the room may be longer.
+// Reads the file into the front of `room` and answers its length. If the file is not read whole, or its last line does not end, the
+// answer is 0, and a line says why. A file that fills the room may be longer.
 pub fn load(name: &[u8], room: &mut [u8]) -> usize {
     let fd = os::open_read(name);
     if fd < 0 {

@@ -2,17 +2,17 @@
 use crate::fields::add_or_bad;
 use libc::STDOUT_FILENO;
 
-// How many texts that differ are named.
+// The most texts that are printed because they differ.
 const NAMED: usize = 10;
 
-// What was compared of a text, how much of it differs, and what differs first, by number.
+// For one text: how many answers were compared, how many of them differ, and the number of the first that differs.
 pub struct Report {
     pub answers: usize,
     pub differ: usize,
     pub first: usize,
 }
 
-// What was compared so far.
+// The same for all texts so far.
 pub struct Tally {
     pub texts: usize,
     pub answers: usize,
@@ -97,7 +97,7 @@ impl Tally {
         }
     }
 
-    // The next text, and the name of what differs in it first: it is said where few texts differed before.
+    // Counts the next text. If it differs, and fewer than NAMED texts did before, its line and the name of what differs first are printed.
     pub fn add(self, r: Report, name: &[u8]) -> Tally {
         if (r.differ != 0) & (self.differing_texts < NAMED) {
             self.say_text(name);

@@ -9,7 +9,7 @@ use crate::fields::pairs;
 use crate::fields::repeat;
 use crate::fields::unhex;
 
-// Puts the bytes of the hex past the first n, and answers how long all is then, BAD where it is no hex or has no room.
+// Puts the bytes of the hex after the first n bytes, and answers the length with them, BAD if it is not hex or there is no room.
 pub fn put_hex(hex: &[u8], n: usize, text: &mut [u8]) -> usize {
     if text.len() < n {
         return BAD;
@@ -20,7 +20,7 @@ pub fn put_hex(hex: &[u8], n: usize, text: &mut [u8]) -> usize {
     BAD
 }
 
-// Puts the text of REPEAT BYTE TAIL into the front of `text`, and answers how long it is, BAD where there is none.
+// Puts the text that REPEAT BYTE TAIL stands for into the front of `text`, and answers its length, BAD if there is none.
 pub fn text_of(line: &[u8], text: &mut [u8]) -> usize {
     let n = number(field(line, b' ', 0));
     let b = byte_of(field(line, b' ', 1));

@@ -1,4 +1,4 @@
-// The verdict and the calls of one sheet, held against the recorded ones.
+// The verdict and the calls of one sheet, compared with the recorded ones.
 use crate::expected::CallAnswer;
 use crate::expected::expected_clear;
 use crate::expected::expected_entries;
@@ -46,7 +46,7 @@ const SPARE_BYTES: usize = 32;
 
 const MARGIN: usize = 64;
 
-// The refusal where the sheet has no such entry, and a number that no sheet's entry has.
+// The refusal if the sheet has no such entry, and a number that no entry of a sheet has.
 const NO_SUCH_ENTRY: usize = 3;
 
 const HUGE: usize = 18_446_744_073_709_551_615;
@@ -105,7 +105,7 @@ fn answer_of_entry(s: &[u8], k: usize, out: &mut [u8]) -> CallAnswer {
     }
 }
 
-// A call in the front of the buffer: of the whole sheet, or of its entry k.
+// Makes a call with the first `room` bytes of the buffer: of the whole sheet, or of its entry k.
 fn call_within(what: usize, s: &[u8], k: usize, room: usize, out: &mut [u8]) -> CallAnswer {
     let len = least(room, out.len());
     if what == SHEET {
@@ -179,7 +179,7 @@ fn compare_entries(r: Report, line: &[u8], s: &[u8], lines: &[u8], out: &mut [u8
     now
 }
 
-// A number that no entry has.
+// The call of an entry with a number that no entry has.
 fn compare_no_entry(r: Report, line: &[u8], s: &[u8], k: usize, out: &mut [u8]) -> Report {
     let refusal = expected_refusal(line);
     if refusal == 0 {
@@ -196,7 +196,7 @@ fn compare_no_entry(r: Report, line: &[u8], s: &[u8], k: usize, out: &mut [u8]) 
     compare_call(r, NO_ENTRY, k, CallAnswer::refused(refusal), s, b"", out)
 }
 
-// The text as a name.
+// The verdict on the text as a name.
 fn compare_clear(line: &[u8], s: &[u8]) -> Report {
     let v = is_clear(s);
     let agreed = (v.refusal as usize == expected_refusal(line))
@@ -204,7 +204,7 @@ fn compare_clear(line: &[u8], s: &[u8]) -> Report {
     Report::none().count(CLEAR, agreed)
 }
 
-// Every answer about the text s, held against its line; `lines` are those of its entries.
+// Every answer about the text s, compared with its line; `lines` are those of its entries.
 pub fn compare_text(line: &[u8], s: &[u8], lines: &[u8], out: &mut [u8]) -> Report {
     let r1 = compare_clear(line, s);
     let r2 = compare_sheet(r1, line, s, lines, out);

@@ -19,7 +19,7 @@ const ENTRIES: usize = 3;
 // The refusal of a name that is too long.
 const LONG_NAME: usize = 4;
 
-// What a call answers: the tokens of a sheet, the row and the sign of an entry, each 0 for the other.
+// What a call answers. `tokens` is 0 in an entry's answer, `row` and `sign` are 0 in a sheet's.
 pub struct CallAnswer {
     pub refusal: usize,
     pub tokens: usize,
@@ -51,7 +51,7 @@ impl CallAnswer {
     }
 }
 
-// The number j of the field k, BAD where it is none.
+// Number j of field k, BAD if there is none.
 fn expected_number(line: &[u8], k: usize, j: usize) -> usize {
     number(field(field(line, b'\t', k), b' ', j))
 }
@@ -64,12 +64,12 @@ pub fn expected_clear(line: &[u8]) -> usize {
     expected_number(line, CLEAR, 0)
 }
 
-// The pieces of the lines.
+// The lines of all entries, written in pieces.
 pub fn expected_lines(line: &[u8]) -> &[u8] {
     field(field(line, b'\t', SHEET), b' ', 3)
 }
 
-// The whole sheet's answer, where all lines have so many bytes: a refused call gives none.
+// The whole sheet's answer, if all lines together have `bytes` bytes. A refused call gives none.
 pub fn expected_sheet(line: &[u8], bytes: usize) -> CallAnswer {
     let refusal = expected_number(line, SHEET, 0);
     let given = if refusal == 0 { bytes } else { 0 };
@@ -105,7 +105,7 @@ fn has_parts(line: &[u8], k: usize, n: usize) -> bool {
     has_fields(field(line, b'\t', k), b' ', n)
 }
 
-// Whether the refusals of text and sheet go with the entries: a refused text has none, and an accepted sheet has all.
+// Whether the refusals of text and sheet fit the entries: a refused text has no entries, and an accepted sheet has all.
 fn has_entries(line: &[u8]) -> bool {
     let refusal = expected_refusal(line);
     let n = expected_entries(line);
@@ -116,7 +116,7 @@ fn has_entries(line: &[u8]) -> bool {
     (refusal <= 2) & (sheet.refusal == refusal) & (n == 0)
 }
 
-// Whether the line can be a recorded one, where all lines of its entries have so many bytes.
+// Whether the line can be a recorded one, if the lines of its entries together have `bytes` bytes.
 pub fn is_well_formed(line: &[u8], bytes: usize) -> bool {
     let n = expected_entries(line);
     let mut ok = has_parts(line, HEAD, 4)

@@ -1,4 +1,4 @@
-// The longest sheet of the most entries: 32,768 times "7 ". No recorded line could hold a field for each.
+// The longest sheet, with the most entries: 32,768 times "7 ". No recorded line could hold a field for each entry.
 use crate::answers::ENTRY;
 use crate::answers::SHEET;
 use crate::answers::compare_call;

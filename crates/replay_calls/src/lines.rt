@@ -1,4 +1,4 @@
-// The lines of a sheet's entries, written in pieces: bytes in hex that stand so many times.
+// The lines of a sheet's entries, written in pieces: a count, and the bytes in hex that are repeated so many times.
 use lists::NOT;
 use lists::front;
 use lists::span_of;
@@ -11,7 +11,7 @@ use recorded::fields::pairs;
 use recorded::fields::past;
 use recorded::text::put_hex;
 
-// Puts a piece past the first n bytes, and answers how long all is then, BAD where it is none or has no room.
+// Puts a piece after the first n bytes, and answers the length with it, BAD if it is not a piece or there is no room.
 fn put_piece(piece: &[u8], n: usize, lines: &mut [u8]) -> usize {
     let count = number(field(piece, b'x', 0));
     let hex = field(piece, b'x', 1);
@@ -27,7 +27,7 @@ fn put_piece(piece: &[u8], n: usize, lines: &mut [u8]) -> usize {
     end
 }
 
-// Puts all pieces, and answers how long the lines are, BAD where one is none.
+// Puts all pieces, and answers how long the lines are, BAD if one cannot be put.
 pub fn put_lines(expected: &[u8], lines: &mut [u8]) -> usize {
     let pieces = pairs(expected);
     let mut end = 0;

@@ -1,4 +1,4 @@
-// The readings of the crate numbers for one text, each held against the recorded one.
+// The readings of the crate numbers for one text, each compared with the recorded one.
 use crate::words::bytes_in;
 use crate::words::is_result;
 use crate::words::pairs_in;
@@ -24,7 +24,7 @@ const ROMAN: usize = 6;
 
 pub const MALFORMED: usize = 7;
 
-// A reading is called with room to spare, with just enough, and with a byte too few in the store and in the table.
+// A reading is called with room to spare, with just enough, with a byte too few in the store, and with a byte too few in the table.
 const SPARE: usize = 0;
 
 const SHORT_STORE: usize = 2;
@@ -33,10 +33,10 @@ const SHORT_TABLE: usize = 3;
 
 pub const CASES: usize = 4;
 
-// The cases of the six readings.
+// How many calls the six readings take, each in all cases.
 pub const CALLS: usize = 6 * CASES;
 
-// The room of a store, and of a table of as many words as a field can have.
+// The size of a store, and of a table for 64 words, the most that a field can have.
 const STORE_LEN: usize = 11 * 65;
 
 const TABLE_LEN: usize = 8 * 64;
@@ -88,7 +88,7 @@ fn read(k: usize, s: &[u8], store: &mut [u8], table: &mut [u8]) -> WordCounts {
     }
 }
 
-// The reading k in the front of store and table.
+// Calls reading k with the first a bytes of the store and the first b bytes of the table.
 fn read_within(
     k: usize,
     s: &[u8],
@@ -133,7 +133,7 @@ pub fn agrees(
     is_answer(a, expected, given) & is_result(given, store, table)
 }
 
-// Whether a field was left out, since its words are more than the table has room for.
+// Whether a field was left out, because it would have more words than the table has room for.
 fn is_left_out(field: &[u8]) -> bool {
     (field.len() == 1) & (byte_at(field, 0) == b'\\')
 }
@@ -188,7 +188,7 @@ fn compare_roman(r: Report, s: &[u8], refusal: usize, value: usize) -> Report {
     )
 }
 
-// Every reading of the text s, held against its line.
+// Every reading of the text s, compared with its line.
 pub fn compare_text(line: &[u8], s: &[u8]) -> Report {
     let head = field(line, b'\t', 0);
     let refusal = number(field(head, b' ', 3));

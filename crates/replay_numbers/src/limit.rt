@@ -1,4 +1,4 @@
-// The longest text that is admitted: 65,536 fives. A five more is refused, and is a line of numbers.txt.
+// The longest text that is admitted: 65,536 fives. A text of one five more is refused, and has a line in numbers.txt.
 use crate::answers::CALLS;
 use crate::answers::CASES;
 use crate::answers::YEAR;
@@ -14,7 +14,7 @@ use recorded::tally::Report;
 
 const LIMIT: usize = 65536;
 
-// Puts the words so many times, and answers how many bytes that is.
+// Puts the words n times, and answers how many bytes that is.
 fn put_times(words: &[u8], n: usize, out: &mut [u8]) -> usize {
     let mut at = 0;
     let mut i = 0;
@@ -31,7 +31,7 @@ fn rounds(k: usize) -> usize {
     if k == YEAR { LIMIT / 2 } else { LIMIT }
 }
 
-// Puts the words of the reading k: in the first list what each round but the last gives, in the second what that gives.
+// Puts the words of reading k. The first list has the words of each round but the last, the second those of the last round.
 fn put_fives(k: usize, out: &mut [u8]) -> usize {
     let words = b"five /five /fifty five /five /five /5 ";
     let last = b"five/fifth/fifty five/five/five/5";

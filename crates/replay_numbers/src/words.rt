@@ -1,4 +1,4 @@
-// A field of words, with a space between, held against the store and the table of a reading. A byte is written as itself, or as a
+// A field of words, with a space between, compared with the store and the table of a reading. A byte is written as itself, or as a
 // backslash and a hex pair.
 use lists::NOT;
 use lists::byte_at;
@@ -40,7 +40,7 @@ pub fn pairs_in(field: &[u8]) -> usize {
     BAD
 }
 
-// The byte that is expected at i, NO_BYTE where a backslash has no hex pair.
+// The byte that is expected at i, NO_BYTE if no hex pair follows a backslash.
 fn expected_byte(word: &[u8], i: usize) -> usize {
     if byte_at(word, i) == b'\\' {
         return byte_of(front(tail(word, add_or_bad(i, 1)), 2));
@@ -48,7 +48,7 @@ fn expected_byte(word: &[u8], i: usize) -> usize {
     byte_at(word, i) as usize
 }
 
-// How many bytes follow the first of those that stand for a byte.
+// How many more bytes the byte written at i takes after its first: two if that is a backslash.
 fn more_at(word: &[u8], i: usize) -> usize {
     if byte_at(word, i) == b'\\' { 2 } else { 0 }
 }
@@ -66,7 +66,7 @@ fn is_word(word: &[u8], bytes: &[u8]) -> bool {
     ok & (n == bytes.len())
 }
 
-// Whether the table leads to the words of the field, one after another, and nothing else in store and table is written.
+// Whether store and table hold the words of the field, one after another, and nothing is written after them.
 pub fn is_result(field: &[u8], store: &[u8], table: &[u8]) -> bool {
     let mut ok = true;
     let mut end = 0;

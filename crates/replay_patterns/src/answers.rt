@@ -1,4 +1,4 @@
-// The answers of the crate patterns for one text, each held against the recorded one.
+// The answers of the crate patterns for one text, each compared with the recorded one.
 use lists::EXACT;
 use lists::byte_at;
 use lists::same;
@@ -21,7 +21,7 @@ pub const N_DIGITS: usize = 16;
 
 const VERDICTS: usize = 27;
 
-// The numbers of what is compared, past those of the verdicts.
+// The numbers of what else is compared, after those of the verdicts.
 pub const TIME: usize = 27;
 
 const UNIT: usize = 28;
@@ -30,7 +30,7 @@ const WORD: usize = 29;
 
 pub const MALFORMED: usize = 30;
 
-// The room of a store.
+// The size of a store.
 const ROOM: usize = 16;
 
 // The recorded numbers of a line.
@@ -58,7 +58,7 @@ fn flag(b: bool) -> usize {
     if b { 1 } else { 0 }
 }
 
-// The numbers of a line's facts, BAD where one is none.
+// The numbers of a line's facts, BAD for a field that is not a number.
 fn numbers_of(facts: &[u8]) -> Recorded {
     Recorded {
         refusal: number(field(facts, b' ', 0)),
@@ -74,7 +74,7 @@ fn numbers_of(facts: &[u8]) -> Recorded {
     }
 }
 
-// The verdict whose bit is the k-th.
+// The verdict that bit k of a line is for.
 fn verdict_of(k: usize, s: &[u8]) -> Verdict {
     match k {
         0 => patterns::is_digits(s),
@@ -163,7 +163,7 @@ fn compare_unit(r: Report, w: Recorded, s: &[u8]) -> Report {
     r3.count(UNIT, u.len == w.unit_len)
 }
 
-// unit_word with a store of `room` bytes, the front of the one that is lent.
+// Calls unit_word with the first `room` bytes of the store.
 fn word_within(s: &[u8], room: usize, store: &mut [u8]) -> UnitWord {
     if room < store.len() {
         return patterns::unit_word(s, &mut store[..room]);
@@ -177,7 +177,7 @@ fn compare_expected(r: Report, t: ExpectedWord, u: UnitWord) -> Report {
     r2.count(WORD, u.len == t.len)
 }
 
-// A call of unit_word, and all of the store after it, also past the room: the bytes of the hex, and then the guards.
+// Compares a call of unit_word and the whole store after it, also past the room: the bytes of the hex, and then the guards.
 fn compare_store(
     r: Report,
     t: ExpectedWord,
@@ -198,7 +198,7 @@ fn compare_call(r: Report, t: ExpectedWord, s: &[u8], room: usize, hex: &[u8]) -
     compare_store(r, t, s, room, hex, &mut store, &mut want)
 }
 
-// unit_word with room to spare; and where there is a word, with just its room, and with a byte less.
+// unit_word with room to spare. If there is a word, also with just enough room, and with a byte too few.
 fn compare_word(r: Report, w: Recorded, hex: &[u8], s: &[u8]) -> Report {
     let expected = ExpectedWord {
         refusal: w.refusal,
@@ -237,7 +237,7 @@ fn is_well_formed(facts: &[u8], w: Recorded, hex: &[u8]) -> bool {
         & (field(facts, b' ', 11).len() != 0)
 }
 
-// Every answer for the text s, held against the facts of its line.
+// Every answer for the text s, compared with the facts of its line.
 pub fn compare_text(facts: &[u8], s: &[u8]) -> Report {
     let w = numbers_of(facts);
     let hex = pairs(field(facts, b' ', 11));

@@ -1,4 +1,4 @@
-// The token table and the sentence starts of one text, held against the recorded ones.
+// The token table and the sentence starts of one text, compared with the recorded ones.
 use crate::expected::MOST;
 use crate::expected::START;
 use crate::expected::expected_number;
@@ -35,12 +35,12 @@ const CASES: usize = 3;
 
 const CALLS: usize = 2 * CASES;
 
-// The offsets and lengths of a token, and the bytes of its record.
+// How many offsets and lengths a token has, and how many bytes its record has.
 const PLACES: usize = 8;
 
 const RECORD: usize = 32;
 
-// The room of a buffer: a record more than a line has.
+// The size of a buffer: one record more than a line can have.
 const ROOM: usize = (MOST + 1) * RECORD;
 
 // The bytes of the table of n tokens.
@@ -80,12 +80,12 @@ fn refusal_in_case(case: usize, refusal: usize, n: usize) -> usize {
     }
 }
 
-// The tokens that a call gives: none where its buffer is too short.
+// The tokens that a call gives: none if its buffer is too short.
 fn result_in_case(case: usize, n: usize) -> usize {
     if is_short(case, n) { 0 } else { n }
 }
 
-// A call in the front of the buffer.
+// Makes a call with the first `room` bytes of the buffer.
 fn call_within(call: usize, s: &[u8], room: usize, out: &mut [u8]) -> Tokens {
     let len = least(room, out.len());
     if call == TOKENIZE {
@@ -106,7 +106,7 @@ fn is_table(line: &[u8], n: usize, table: &[u8]) -> bool {
     ok & is_untouched(tail(table, end))
 }
 
-// The same of the starts.
+// The same for the sentence starts.
 fn is_starts(line: &[u8], n: usize, starts: &[u8]) -> bool {
     let mut ok = true;
     let mut k = 0;
@@ -148,7 +148,7 @@ fn compare_within(line: &[u8], s: &[u8], out: &mut [u8]) -> Report {
     now
 }
 
-// Both calls of the text s, held against its line.
+// Both calls of the text s, compared with its line.
 pub fn compare_calls(line: &[u8], s: &[u8]) -> Report {
     let mut out = [0u8; ROOM];
     compare_within(line, s, &mut out)

@@ -6,7 +6,7 @@ use recorded::fields::field;
 use recorded::fields::has_fields;
 use recorded::fields::number;
 
-// The numbers of a token: offset and length of each part, and 1 where a sentence starts.
+// The numbers of a token: offset and length of each part, and 1 if the token starts a sentence, else 0.
 pub const WHITESPACE: usize = 0;
 
 pub const NAME: usize = 4;
@@ -32,12 +32,12 @@ fn token(line: &[u8], k: usize) -> &[u8] {
     field(line, b'\t', add_or_bad(k, 1))
 }
 
-// The number j of the token k, BAD where it is none.
+// Number j of token k, BAD if there is none.
 pub fn expected_number(line: &[u8], k: usize, j: usize) -> usize {
     number(field(token(line, k), b' ', j))
 }
 
-// Where the part ends whose offset is the number j.
+// The place where a part ends, if its offset is number j.
 pub fn expected_end(line: &[u8], k: usize, j: usize) -> usize {
     add_or_bad(
         expected_number(line, k, j),

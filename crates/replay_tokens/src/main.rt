@@ -27,7 +27,7 @@ fn add(t: Tally, r: Report) -> Tally {
     t.add(r, field(names, b' ', r.first))
 }
 
-// Every answer about the text s, held against its line.
+// Every answer about the text s, compared with its line.
 fn compare_text(line: &[u8], s: &[u8]) -> Report {
     let r1 = compare_calls(line, s);
     let r2 = compare_steps(r1, line, s);

@@ -1,4 +1,4 @@
-// The step form, held against the recorded starts and refusals of one text.
+// The step form, compared with the recorded starts and refusals of one text.
 use crate::answers::PARTS;
 use crate::answers::STEPS;
 use crate::expected::NAME;
@@ -17,10 +17,10 @@ use recorded::tally::Report;
 use sentences::State;
 use sentences::Step;
 
-// The places of a text in a step.
+// How many texts a step takes.
 const PLACES: usize = 3;
 
-// Each place, in two states, with two texts in the other places.
+// How many cases: the text in each place, from each of two states, with each of two texts in the other places.
 const CASES: usize = 4 * PLACES;
 
 // The refusal of a text that is no UTF-8.
@@ -46,7 +46,7 @@ fn step_of(state: State, line: &[u8], k: usize, s: &[u8]) -> Step {
     state.push(whitespace, name, punctuation)
 }
 
-// Whether the step breaks before the token k as it should: before each that starts a sentence, but not before the first.
+// Whether the step breaks before token k as it should: if the token starts a sentence, but never before the first token.
 fn breaks_as_expected(step: Step, line: &[u8], k: usize) -> bool {
     if k == 0 {
         return !step.breaks;
@@ -104,7 +104,8 @@ fn step_in(place: usize, state: State, s: &[u8], other: &[u8]) -> Step {
     }
 }
 
-// Whether the step is accepted, or is refused, breaks nowhere and hands the state back as it was.
+// If the refusal is 0, whether the step is accepted and its state is no longer fresh. Else whether the step is refused with that
+// number, answers no break and hands the state back as it was.
 fn answers(refusal: usize, before: State, step: Step) -> bool {
     let state = step.state;
     if refusal == 0 {
@@ -113,7 +114,8 @@ fn answers(refusal: usize, before: State, step: Step) -> bool {
     (step.refusal as usize == refusal) & !step.breaks & is_same(state, before)
 }
 
-// Whether a step with s in one place is refused as s is: with no text in the other places, or with a damaged one.
+// Whether a step with s in one place is refused as s is, if the texts in the other places are empty. If they are damaged, a step with
+// an accepted s is refused too.
 fn agrees(case: usize, refusal: usize, s: &[u8]) -> bool {
     let place = case % PLACES;
     let before = state_before(case / PLACES % 2 == 1);

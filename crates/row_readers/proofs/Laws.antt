@@ -29,7 +29,7 @@ use Rattle.rows.specs.Rows.{Reading, by}
 use Rattle.row_readers.specs.Walk.{Says, initials}
 use Rattle.rows.specs.declared.Row.{Row}
 
--- a reading is said where an equal one is
+-- a reading is said if an equal one is
 pub says-same : (g h : Reading) → g ≡ h → (σ : Writer) {τ : Writer} {q : Row} → Says h σ τ q → Says g σ τ q
 says-same g h e σ k =
     record {
@@ -37,13 +37,14 @@ says-same g h e σ k =
       said = k .said ∙ sym (ap (λ (r : Reading). putWords (spelled (r .words)) σ) e);
     }
 
--- a row's words are said, and the row answered
+-- a reading is said if its words are written and its row is answered
 pub says-row : (g : Reading) (row : Row) (ws : List Word) → g ≡ by row ws → (σ : Writer) {τ : Writer} {q : Row} → q ≡ row
     → τ ≡ putWords (spelled ws) σ → Says g σ τ q
 says-row g row ws e σ p d = says-same g (by row ws) e σ (record { row = p; said = d })
 
 -- ---- a unit
 
+-- if the unit that was split off is not empty, the name has a unit
 pub unit-there : (s : List ℕ) {u : List ℕ} → u ≡ unitPart s → (length u ≡ 0 → ⊥) → hasUnit s ≡ true
 unit-there s e n = go (hasUnit s) refl (rw e at n)
   where
@@ -51,13 +52,14 @@ unit-there s e n = go (hasUnit s) refl (rw e at n)
     go true e n = e
     go false e n = absurd (n (rw e))
 
+-- if it is empty, the name has none
 pub unit-missing : (s : List ℕ) {u : List ℕ} → u ≡ unitPart s → length u ≡ 0 → hasUnit s ≡ false
 unit-missing s e n = untaken (hasUnit s) (λ k. unit-some s k (rw (e, k) at n))
 
 unit-listed : (s : List ℕ) → hasUnit s ≡ true → isUnit (unitPart s) ≡ true
 unit-listed s e = rw e (unfold hasUnit in and-eq-true-iff (not (eqb (unitAt s) 0) && all digitOrComma (take (unitAt s) s)) (isUnit (drop (unitAt s) s)) .0 e .1)
 
--- the vocabulary's word of a unit is the unit's
+-- the word that the vocabulary has for a unit is the unit's word
 pub unit-word : (s : List ℕ) {u : List ℕ} {i k : ℕ} → u ≡ unitPart s → (length u ≡ 0 → ⊥) → i ≡ unitIndex u → k ≡ getD wordNumbers i 0
     → wordOf k ≡ unitWord (unitPart s)
 unit-word s e n p q =
@@ -79,33 +81,39 @@ split-test : (s : List ℕ) → isAt (timeSplit s) ≡ isMeridiemTime s
 unfolding timeSplit isAt
 split-test s = tested (isMeridiemTime s) (separatorAt (timeOf s)) (separatorAt (timeOf s) + 1) (length s - 2)
 
+-- if the split finds nothing, the name is no time with am or pm
 pub timeSplit-none : (s : List ℕ) {r : TimeSplit} → r ≡ timeSplit s → r ≡ Nothing → isMeridiemTime s ≡ false
 unfolding isAt
 timeSplit-none s e n = sym (split-test s) ∙ ap isAt (sym e ∙ n)
 
+-- if the split finds offsets, the name is such a time
 pub timeSplit-some : (s : List ℕ) {r : TimeSplit} → r ≡ timeSplit s → {h m x : ℕ} → r ≡ At h m x → isMeridiemTime s ≡ true
 unfolding isAt
 timeSplit-some s e n = sym (split-test s) ∙ ap isAt (sym e ∙ n)
 
+-- the parts of such a time stand at these offsets
 pub timeParts-at : (s : List ℕ) {r : TimeSplit} → timePartsAt r s ≡ timeParts s → {h m x : ℕ} → r ≡ At h m x
     → timeParts s ≡ time-parts (take h s) (take (x - m) (drop m s)) (drop x s)
 timeParts-at s e n = sym e ∙ ap (λ (r : TimeSplit). timePartsAt r s) n
 
 -- ---- initials
 
--- the words of two texts' letters
+-- the words of two joined texts are those of the first and then those of the second
 pub initials-append : ByParts (λ t. spelled (initials t))
 unfolding initials
 initials-append s t = rw (filterIf-append (except (code ".")) s t, map-append) (spelled-append _ _)
 
+-- an empty text has no words
 pub no-initials : spelled (initials []) ≡ []
 unfolding initials filterIf spelled
 no-initials = refl
 
+-- a point has no word
 pub point-initial : (b : ℕ) → b ≡ code "." → initials (b ∷ []) ≡ []
 unfolding initials filterIf
 point-initial b e = rw (eq-eqb b (code ".") e)
 
+-- any other byte has one word
 pub letter-initial : (b : ℕ) → (b ≡ code "." → ⊥) → initials (b ∷ []) ≡ other (letterWord (b ∷ [])) ∷ []
 unfolding initials filterIf
 letter-initial b n = rw (ne-eqb b (code ".") n)
@@ -121,7 +129,7 @@ kept-letters (b ∷ s) h =
     let k = and-eq-true-iff (dottedByte b) (all dottedByte s) .0 h in
     cond-elim (λ (t : List ℕ). all letter t ≡ true) (except (code ".") b) (λ e. rw (kept-letter b (k .0) e, kept-letters s (k .1))) (λ e. kept-letters s (k .1))
 
--- so it has a letter for each byte that is no point
+-- so each byte of a dotted abbreviation that is no point is read as one letter
 pub dotted-initials : (s : List ℕ) → isDottedAbbrev s ≡ true → letters (filterIf (except (code ".")) s) ≡ initials s
 unfolding initials
 dotted-initials s e = letter-chars (filterIf (except (code ".")) s) (kept-letters s (dotted-bytes s e))

@@ -12,7 +12,7 @@ use Rattle.letters.specs.Letters.{letterWord}
 use Rattle.rows.specs.Rows.{Reading, firstTaking, rows, read}
 use Rattle.rows.specs.declared.Row.{Row}
 
--- a reading is said from σ to τ, and its row answered
+-- the words of a reading are written from σ to τ, and its row is answered
 pub record Says (g : Reading) (σ τ : Writer) (r : Row) : Type 0 where
   pub row : r ≡ g .row
   pub said : τ ≡ putWords (spelled (g .words)) σ
@@ -21,6 +21,6 @@ pub record Says (g : Reading) (σ τ : Writer) (r : Row) : Type 0 where
 unfoldable pub initials : List ℕ → List Word
 initials s = map (λ b. other (letterWord (b ∷ []))) (filterIf (except (code ".")) s)
 
--- the rows after the n-th, of a name that none before took
+-- how the rows after the n-th read a name, if no row before took it
 unfoldable pub rowsAfter : ℕ → List ℕ → Reading
 rowsAfter n s = firstTaking (drop n (rows (map toLower) read s))

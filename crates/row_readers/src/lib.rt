@@ -85,7 +85,7 @@ fn say_clock(
     say_year(minute, store, table, p)
 }
 
-// Says the letter b, and nothing of a point.
+// Says the letter b. If b is a point, nothing is said.
 fn say_initial(b: u8, store: &mut [u8], table: &mut [u8], cursor: Cursor) -> Cursor
     ensures { λ r. ⌜ writer (now (store .exit)) (now (table .exit)) r
         ≡ putWords (spelled (initials (b ∷ []))) (writer (now (store .entry)) (now (table .entry)) cursor) ⌝ }
@@ -127,7 +127,7 @@ fn from_unit(name: &[u8], store: &mut [u8], table: &mut [u8], cursor: Cursor) ->
     outcome(Row::Unit, say(word, store, table, p))
 }
 
-// The rows from 6 on, of a name that row 10 does not take.
+// Reads a name that row 10 does not take, by the rows from 6 on.
 fn from_leading_zero(name: &[u8], store: &mut [u8], table: &mut [u8], cursor: Cursor) -> ReadOutcome
     requires { ⌜ isPercent (now name) ≡ false ⌝ }
     ensures { λ r. ⌜ Says (rowsAfter 5 (now (name .entry)))
@@ -151,7 +151,7 @@ fn from_leading_zero(name: &[u8], store: &mut [u8], table: &mut [u8], cursor: Cu
     from_unit(name, store, table, cursor)
 }
 
-// The rows from 5 on, of such a name.
+// Reads such a name by the rows from 5 on.
 fn from_meridiem(name: &[u8], store: &mut [u8], table: &mut [u8], cursor: Cursor) -> ReadOutcome
     requires { ⌜ isPercent (now name) ≡ false ⌝ }
     ensures { λ r. ⌜ Says (rowsAfter 4 (now (name .entry)))
@@ -178,7 +178,7 @@ fn from_meridiem(name: &[u8], store: &mut [u8], table: &mut [u8], cursor: Cursor
     outcome(Row::Meridiem, q)
 }
 
-// All rows, of such a name.
+// Reads such a name by all rows.
 pub fn read_by_row(name: &[u8], store: &mut [u8], table: &mut [u8], cursor: Cursor) -> ReadOutcome
     requires { ⌜ isPercent (now name) ≡ false ⌝ }
     ensures { λ r. ⌜ Says (read (now (name .entry)))

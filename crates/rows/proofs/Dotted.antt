@@ -27,7 +27,7 @@ unfolding all
 letters-alone [] e = refl
 letters-alone (b ∷ s) e = letter-alone b (and-eq-true-iff (letter b) (all letter s) .0 e .0)
 
--- a text of letters has a character a byte
+-- in a text of letters each byte is a character, and is read as one letter
 pub letter-chars : (s : List ℕ) → all letter s ≡ true → letters s ≡ map (λ b. other (letterWord (b ∷ []))) s
 unfolding letters chars all
 letter-chars [] e = refl

@@ -12,12 +12,12 @@ use Rattle.lists.proofs.Recursion.{Local, recur-eq}
 use Rattle.rows.specs.Rows.{Rule, _reads_, Reading, by, rowNumber, rows, readStep, readWith, read}
 use Rattle.rows.specs.declared.Row.the-variants.{NoRow}
 
--- a text that ends in a byte has one
+-- a text that ends in a byte is not empty
 pub ends-some : (c : ℕ) (s : List ℕ) → endsWith c s ≡ true → 1 ≤ length s
 ends-some c [] e = absurd (let z : _≡_ {A = Bool} false true = e in false≢true z)
 ends-some c (b ∷ s) e = omega arith
 
--- all but the last byte
+-- without its last byte a text is shorter
 pub shorter : (s : List ℕ) → 1 ≤ length s → length (take (length s - 1) s) < length s
 shorter s h = let e = length-take-le (length s - 1) s (omega arith) in omega arith
 
@@ -29,12 +29,12 @@ read-local word f g s h = go (endsWith (code "%") s) refl
     go true e = rw (h (take (length s - 1) s) (shorter s (ends-some (code "%") s e)))
     go false e = rw e
 
--- a reading is its own step
+-- to read a name is one step, in which shorter names are read the same way
 pub step-eq : (word : List ℕ → List ℕ) (s : List ℕ) → readWith word s ≡ readStep word (readWith word) s
 unfolding readWith
 step-eq word s = recur-eq (by NoRow []) (readStep word) (read-local word) s
 
--- also with row 12 as it is
+-- the same for `read`, whose row 12 lowers the name
 pub read-eq : (s : List ℕ) → read s ≡ readStep (map toLower) read s
 read-eq s = step-eq (map toLower) s
 

@@ -30,7 +30,7 @@ ends-elem c s e =
     elem-at c s (length s - 1) (omega (arith, ends-some c s e))
     (eqb-true (getD s (length s - 1) 0) c (and-eq-true-iff (not (eqb (length s) 0)) (eqb (getD s (length s - 1) 0) c) .0 e .1))
 
--- the name meets none of the tests of rows 1 to 9
+-- the name passes none of the tests of rows 1 to 9
 pub record Untaken (s : List ℕ) : Type 0 where
   pub past : PastTimes s
   pub leading : isLeadingZeroDigits s ≡ false
@@ -38,7 +38,7 @@ pub record Untaken (s : List ℕ) : Type 0 where
   pub double : isDouble s ≡ false
   pub ordinal : isOrdinal s ≡ false
 
--- a name that ends in % is such
+-- a name that ends in % passes none of them
 pub percent-untaken : (s : List ℕ) → endsWith (code "%") s ≡ true → Untaken s
 percent-untaken s e = record {
   past =
@@ -67,6 +67,6 @@ percent-with word s e =
     let p = u .past in
     step-eq word s ∙ rw (p .dotted, p .comma, p .time, p .meridiem, u .leading, u .digits, u .double, u .ordinal, e, p .empty)
 
--- also with row 12 as it is
+-- the same for `read`, whose row 12 lowers the name
 pub percent-read : (s : List ℕ) → endsWith (code "%") s ≡ true → read s ≡ by Percent (read (take (length s - 1) s) .words ++ perCent)
 percent-read s e = percent-with (map toLower) s e

@@ -1,4 +1,4 @@
--- What a name has that a shape takes. Assumes nothing.
+-- Which bytes a name has if a shape takes it. Assumes nothing.
 use mathlib.Core.Path.{_≡_, refl, sym, ap, _∙_}
 use mathlib.Core.Bool.{Bool, true, false, cond, not, _&&_, _||_, and-false, and-assoc, and-eq-true-iff, or-true, false≢true}
 use mathlib.Core.List.{List, [], _∷_}
@@ -19,7 +19,7 @@ use Rattle.shapes.specs.Times.{endsInMeridiem, separatorAt, timeOf, isMeridiemT
 use Rattle.shapes.proofs.Laws.{digits-all, comma-none}
 use Rattle.rows.proofs.Laws.{ends-some}
 
--- a test that can't be met fails
+-- a test that cannot pass fails
 pub untaken : (b : Bool) → (b ≡ true → ⊥) → b ≡ false
 untaken true h = absurd (h refl)
 untaken false h = refl
@@ -34,11 +34,11 @@ lacks p c (b ∷ s) h k = go (eqb b c) refl k (lacks p c s h)
     go true e k i = rw (eqb-true b c e, h)
     go false e k i = rw (i k) (and-false (p b))
 
--- a shape whose names are of a class does not take a text with a byte outside it
+-- if all bytes of a shape's names are of a class, the shape takes no text with a byte outside that class
 pub outside : (shape : Bool) (p : ℕ → Bool) (c : ℕ) (s : List ℕ) → (shape ≡ true → all p s ≡ true) → p c ≡ false → elem c s ≡ true → shape ≡ false
 outside shape p c s f h k = untaken shape (λ e. false≢true (sym (lacks p c s h k) ∙ f e))
 
--- nor does a shape that needs a byte take a text of a class without it
+-- if a shape's names all have the byte c, the shape takes no text of a class without c
 pub needs-other : (shape : Bool) (p : ℕ → Bool) (c : ℕ) (s : List ℕ) → (shape ≡ true → elem c s ≡ true) → p c ≡ false → all p s ≡ true → shape ≡ false
 needs-other shape p c s f h k = untaken shape (λ e. false≢true (sym (lacks p c s h (f e)) ∙ k))
 
@@ -64,7 +64,7 @@ module _ (p : ℕ → Bool) where
   all-joined : (n : ℕ) (s : List ℕ) → all p (take n s) ≡ true → all p (drop n s) ≡ true → all p s ≡ true
   all-joined n s h k = ap (all p) (sym (take-append-drop n s)) ∙ all-append p (take n s) (drop n s) ∙ rw (h, k)
 
-  -- the text around one of its bytes
+  -- a text is of a class if its byte at n is, and all bytes before and after that one are
   all-around : (s : List ℕ) (n : ℕ) → n < length s → all p (take n s) ≡ true → p (getD s n 0) ≡ true → all p (drop (n + 1) s) ≡ true → all p s ≡ true
   all-around s n l h e k = all-joined n s h (all-more p s n l ∙ rw (e, k))
 
@@ -84,7 +84,7 @@ module _ (p : ℕ → Bool) where
   all-prefixed c [] q e h = refl
   all-prefixed c (b ∷ s) q e h = rw (eqb-true b c (and-eq-true-iff (not (eqb (suc (length s)) 0)) (eqb b c) .0 e .1), q, h)
 
-  -- the text is of a class that its parts and their separator are of
+  -- a text is of a class if its parts and their separator are
   all-onto : (b : ℕ) (ps : List (List ℕ)) → all (all p) (onto b ps) ≡ p b && all (all p) ps
   unfolding onto all
   all-onto b [] = and-assoc (p b) true true
@@ -128,7 +128,7 @@ dotted-bytes s h =
     (λ t k. all-within letter dottedByte (λ b e. or-true-left (letter b) (eqb b (code ".")) e) t (one-letter t k)) (split (code ".") core)
     (dotted-letters s h))
 
--- a letter leads a text where it leads the text's front
+-- a text starts with a letter if its front does
 first-letter : (n : ℕ) (s : List ℕ) → letter (getD (take n s) 0 0) ≡ true → letter (getD s 0 0) ≡ true
 first-letter zero s h = absurd (false≢true h)
 first-letter (suc n) [] h = h
@@ -194,7 +194,7 @@ hour-minute-digits h m e =
     let b = and-eq-true-iff (bound && isDigits h) (isNDigits 2 m) .0 a in
     (digits-all h (and-eq-true-iff bound (isDigits h) .0 (b .0) .1), digits-all m (and-eq-true-iff (eqb (length m) 2) (isDigits m) .0 (b .1) .1))
 
--- an hour and a minute around the byte at which a scan by q stops
+-- an hour, the byte at which a scan by q stops, and a minute: all these bytes are of the class p
 all-clock : (p q : ℕ → Bool) → ((b : ℕ) → digit b ≡ true → p b ≡ true) → ((b : ℕ) → q b ≡ false → p b ≡ true) → (s : List ℕ)
     → (ltb (span q s) (length s) && isHourMinute (take (span q s) s) (drop (span q s + 1) s)) ≡ true → all p s ≡ true
 all-clock p q f g s h =
@@ -218,7 +218,7 @@ colon-needed s h =
     let at = span (except (code ":")) s in
     elem-span (code ":") s ∙ and-eq-true-iff (ltb at (length s)) (isHourMinute (take at s) (drop (at + 1) s)) .0 h .0
 
--- a text that is small letters once it is lowered
+-- a byte that is a small letter after lowering is a letter; the same for all bytes of a text
 lowered-letter : (b : ℕ) → lowercase (toLower b) ≡ true → letter b ≡ true
 lowered-letter b h = go (uppercase b) h
   where
@@ -244,7 +244,7 @@ second f c d (a ∷ b ∷ s) h =
     eqb-true (f b) d
     (and-eq-true-iff (eqb (f b) d) (sameBy f s []) .0 (and-eq-true-iff (eqb (f a) c) (eqb (f b) d && sameBy f s []) .0 h .1) .0)
 
--- a text that ends in am or pm
+-- the last two bytes of a text that ends in two letters, for am and pm
 ends-lowered : (c d : ℕ) (s : List ℕ) → all lowercase (c ∷ d ∷ []) ≡ true → endsWithBy toLower (c ∷ d ∷ []) s ≡ true
     → (all letter (drop (length s - 2) s) ≡ true) × (toLower (getD s (length s - 1) 0) ≡ d)
 ends-lowered c d s k h =
@@ -282,7 +282,7 @@ meridiem-bytes s h =
     all-joined meridiemByte (length s - 2) s (all-clock meridiemByte notColonOrPoint (λ b e. rw (e, or-true (letter b))) separator-byte (timeOf s) (k .1))
     (all-within letter meridiemByte (λ b e. rw e) (drop (length s - 2) s) (meridiem-end s (k .0) .0))
 
--- am or pm ends it
+-- its last byte, lowered, is an m
 pub meridiem-last : (s : List ℕ) → isMeridiemTime s ≡ true → toLower (getD s (length s - 1) 0) ≡ code "m"
 meridiem-last s h = meridiem-end s (meridiem-parts s h .0) .1
 
@@ -344,7 +344,7 @@ unsigned-bytes s h = all-joined doubleByte (span digit s) s (front s) (go (start
         all-prefixed doubleByte (code ".") rest refl e (all-joined doubleByte (span digit frac) frac (front frac) x)
     go false e k = exponent-bytes rest (and-eq-true-iff (not (eqb (span digit s) 0)) (isExponent rest) .0 k .1)
 
--- a figure is of the bytes of figures
+-- a figure is digits, points, "e", "E" and signs
 pub double-bytes : (s : List ℕ) → isDouble s ≡ true → all doubleByte s ≡ true
 double-bytes s = go (startsWith (code "-") s) refl
   where
@@ -377,14 +377,17 @@ ordinal-bytes s h =
 
 -- ---- names that a row does not take
 
--- a name of a class without the comma, the colon or both marks of a time
+-- a name whose bytes are of the class p
 module _ (p : ℕ → Bool) (s : List ℕ) (h : all p s ≡ true) where
+  -- if the class has no comma, the name is no comma integer
   pub no-comma : p (code ",") ≡ false → isCommaInt s ≡ false
   no-comma n = needs-other (isCommaInt s) p (code ",") s (comma-needed s) n h
 
+  -- if it has no colon, the name is no time
   pub no-time : p (code ":") ≡ false → isTime s ≡ false
   no-time n = needs-other (isTime s) p (code ":") s (colon-needed s) n h
 
+  -- if it has no colon and no point, the name is no time with am or pm
   pub no-meridiem : p (code ":") ≡ false → p (code ".") ≡ false → isMeridiemTime s ≡ false
   no-meridiem m n =
       let t = timeOf s in
@@ -392,7 +395,7 @@ module _ (p : ℕ → Bool) (s : List ℕ) (h : all p s ≡ true) where
       let e : separatorAt t ≡ length t = all-span notColonOrPoint t (unmarked t (all-split p s (length s - 2) h .0)) in
       rw (e, le-ltb (length t) (length t) (omega arith)) (and-false (endsInMeridiem s))
 
--- no row up to those of times takes the name
+-- none of the rows 1 to 5 takes the name
 pub record PastTimes (s : List ℕ) : Type 0 where
   pub empty : eqb (length s) 0 ≡ false
   pub dotted : isDottedAbbrev s ≡ false
@@ -400,7 +403,7 @@ pub record PastTimes (s : List ℕ) : Type 0 where
   pub time : isTime s ≡ false
   pub meridiem : isMeridiemTime s ≡ false
 
--- a name of a class without comma and colon that no letter leads
+-- this holds of a name without comma and colon that is not empty, does not start with a letter, and is no time with am or pm
 pub past-times : (p : ℕ → Bool) (s : List ℕ) → all p s ≡ true → p (code ",") ≡ false → p (code ":") ≡ false → 0 < length s
     → letter (getD s 0 0) ≡ false → isMeridiemTime s ≡ false → PastTimes s
 past-times p s h c d z l m = record {

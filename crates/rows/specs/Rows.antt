@@ -38,7 +38,7 @@ rowNumber Percent = 10
 rowNumber Unit = 11
 rowNumber OneWord = 12
 
--- the value of each sign, and of a row: "for row 8, its sign", 0 where there is none
+-- the value of each sign, and of a row's sign: "for row 8, its sign", 0 if it has none
 abbrev pub signNumber : Sign → ℕ
 signNumber Plus = 1
 signNumber Minus = 2
@@ -58,7 +58,7 @@ rowSign Percent = 0
 rowSign Unit = 0
 rowSign OneWord = 0
 
--- a name's sign is minus where a minus leads it, else plus
+-- a name's sign is minus if the name starts with a minus, else plus
 abbrev pub signOf : List ℕ → Sign
 signOf s = cond (startsWith (code "-") s) Minus Plus
 
@@ -66,7 +66,7 @@ signOf s = cond (startsWith (code "-") s) Minus Plus
 unfoldable pub clock : List ℕ → List ℕ → List Word
 clock hour minute = cardinal hour ++ cond (same minute (bytes "00")) [] (year minute)
 
--- of a time, what stands before its colon and after it
+-- the parts of a time before and after its colon
 abbrev pub hourOf : List ℕ → List ℕ
 hourOf s = takeWhile (except (code ":")) s
 
@@ -93,7 +93,7 @@ pub record Reading : Type 0 where
 abbrev pub by : Row → List Word → Reading
 by r ws = record { row = r; words = ws }
 
--- a row as a rule for the name at hand: whether it takes the name, and how it reads it
+-- a row as a rule for one name: whether it takes the name, and how it reads it
 infix 70 _reads_
 pub data Rule : Type 0 where
   _reads_ : Bool → Reading → Rule

@@ -8,7 +8,7 @@ pub enum Sign {
     Minus,
 }
 
-// The rows, in their order; NoRow is the record's of a refused call.
+// The rows, in their order. NoRow stands in the record of a refused call.
 pub enum Row {
     NoRow,
     Empty,
@@ -43,7 +43,7 @@ impl Sign {
 }
 
 impl Row {
-    // The row's number, 0 where there is none.
+    // The row's number, 0 if there is none.
     pub fn number(self) -> u8
         ensures { λ r. ⌜ r ≡ rowNumber self ⌝ }
     {
@@ -64,7 +64,7 @@ impl Row {
         }
     }
 
-    // The value of the row's sign, 0 where it has none.
+    // The value of the row's sign, 0 if it has none.
     pub fn sign(self) -> u8
         ensures { λ r. ⌜ r ≡ rowSign self ⌝ }
     {

@@ -25,7 +25,7 @@ infix 70 _calls_
 pub data CallExample : Type 0 where
   _calls_ : String → String → CallExample
 
--- 01's own sheet; sentences that end and do not; a name for most rows
+-- document 01's example; sentences that end, and some that do not; a name for most rows
 unfoldable pub callExamples : List CallExample
 callExamples =
     "Bar 12 at 9:30. Rack 5mm (21st)\n"
@@ -39,6 +39,7 @@ callExamples =
 unfoldable pub exampleHolds : CallExample → Bool
 exampleHolds (s calls t) = same (callSheet (bytes s)) (bytes t)
 
+-- each sheet has the call sheet that stands beside it
 pub call-examples-hold : all exampleHolds callExamples ≡ true
 unfolding callExamples exampleHolds sameBy split onto nonEmpty span filterIf all any afterLast countIf recur recurAt unfoldVocabulary unitAbbreviations abbreviations unitWords indexOf isDigits isAlpha isOrdinal splitOnce isHourMinute isDottedAbbrev isCommaGroups isExponent isUnsigned hasUnit timeParts spell spelled digitValues pairWords joinAtScale byScale cardinalStep shortCardinal cardinalOf cardinal digits formIn ordinalForm orZero onLast ordinal yearStep yearOf year pointed realStep real letterWord chars letters clock clockLetters readStep readWith cut tokensStep tokens sentenceStarts sentenceStartsAfter breakAfter entriesOf spacedWords lineOf flatten
 call-examples-hold = refl

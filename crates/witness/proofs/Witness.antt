@@ -1,4 +1,4 @@
--- That call sheets distinguish their sheets is no empty claim: a sheet with a name of each kind is accepted and made only of
+-- There are sheets to which `call-sheets-distinguish-sheets` applies: a sheet with a name of each kind is accepted and made only of
 -- clear entries. Assumes nothing.
 use mathlib.Core.Path.{_≡_, refl}
 use mathlib.Core.Bool.{true}
@@ -21,10 +21,11 @@ use Rattle.clear.specs.Test.{isExponentClear, isFractionClear, isFigureClear, i
 use Rattle.clear.proofs.Tested.{test-clear}
 use Rattle.decoder.specs.Sheets.{names, AllClear}
 
--- the kinds of 01's list, and both kinds that may end in %, with it
+-- a name of each kind in document 01's list; with % a name of each of the two kinds that may have it
 unfoldable pub witnessSheet : List ℕ
 witnessSheet = bytes "rack 12 -1.50e+3 007% -2.5% 9:30 9:00am 21st 5mm A.B"
 
+-- the sheet is accepted
 pub witness-accepted : AcceptedSheet witnessSheet
 unfolding witnessSheet recur recurAt span all afterLast cut tokensStep tokens sentenceStarts sentenceStartsAfter breakAfter entriesOf any textTests utf8 utf8Step sequenceLen
 witness-accepted = refl
@@ -33,5 +34,6 @@ witness-passes : all isClear (names witnessSheet) ≡ true
 unfolding witnessSheet recur recurAt span all afterLast any cut tokensStep tokens isClear isExponentClear isFractionClear isFigureClear suffix tableWords indexOf unitAbbreviations abbreviations unitWords sameBy split onto isDigits isAlpha splitOnce isHourMinute isDottedAbbrev ones teens tens ordinalOnes ordinalTeens ordinalTens
 witness-passes = refl
 
+-- the sheet is made only of clear entries
 pub witness-clear : AllClear (names witnessSheet)
 witness-clear = every-tested isClear Clear test-clear (names witnessSheet) witness-passes

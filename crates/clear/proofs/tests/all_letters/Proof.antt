@@ -1,4 +1,4 @@
--- The loop keeps that every byte passed is of the class. Assumes nothing.
+-- In the loop every byte before i is of the class. Assumes nothing.
 use mathlib.Core.Path.{refl, sym, _∙_}
 use borrow.Author.Tests.{not-true, not-false}
 use Prim.Native.Nat.{_-_}

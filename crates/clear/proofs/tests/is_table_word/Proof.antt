@@ -1,4 +1,4 @@
--- The loop keeps that the word is none of those passed. Assumes nothing.
+-- In the loop the word is none of the words before word i. Assumes nothing.
 use native.Mathlib.Omega.{arith}
 use mathlib.Core.Path.{_≡_, refl, sym, _∙_}
 use Prim.Native.Nat.{_-_, _≤_}

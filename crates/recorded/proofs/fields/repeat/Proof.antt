@@ -1,4 +1,4 @@
--- The loop keeps the length of what it writes. The measure is the bytes that are left. Assumes nothing.
+-- The loop keeps the length of the buffer. The measure is the bytes that are left. Assumes nothing.
 use borrow.Author.Needs.{needs}
 use mathlib.Core.Path.{_≡_}
 use Prim.Native.Nat.{_-_}

@@ -1,4 +1,4 @@
--- The length by a law: computed, it costs seconds and a gigabyte. Assumes nothing.
+-- The length follows from a law. To compute it would cost seconds and a gigabyte. Assumes nothing.
 use mathlib.Core.Path.{sym}
 use Prim.Native.Nat.{ℕ}
 use lib.ListN.{length-replicate}

@@ -1,4 +1,4 @@
--- A part of the buffer is as long as its room. Assumes nothing.
+-- The part of the buffer that is lent has the length that was asked for. Assumes nothing.
 use mathlib.Core.Path.{sym}
 use lib.Seq.{length-take-le}
 use borrow.Author.Needs.{needs}

@@ -1,4 +1,4 @@
--- A part of a buffer is as long as its room. Assumes nothing.
+-- The parts of store and table that are lent have the lengths that were asked for. Assumes nothing.
 use borrow.Author.Needs.{needs}
 use mathlib.Core.Path.{sym}
 use lib.Seq.{length-take-le}

@@ -1,5 +1,5 @@
 -- Nothing has to hold from one iteration to the next.
--- The measure is the bytes of the field that are left, and `past` goes on. Assumes nothing.
+-- The measure is the bytes of the field that are left; `past` makes them fewer. Assumes nothing.
 use borrow.Author.Needs.{needs}
 use native.Mathlib.Omega.{arith}
 use Prim.Native.Nat.{_-_}

@@ -1,4 +1,4 @@
--- A part of the store is as long as its room. Assumes nothing.
+-- The part of the store that is lent has the length that was asked for. Assumes nothing.
 use borrow.Author.Needs.{needs}
 use mathlib.Core.Path.{sym}
 use lib.Seq.{length-take-le}
