@@ -30,9 +30,10 @@
  * What holds for every call
  * -------------------------
  * A text is a pointer and a length in bytes. It needs no final NUL, and may hold NULs. Length 0 is the empty text, a text
- * like any other; its pointer may be NULL. A buffer is lent the same way, so a buffer of length 0 may be NULL too. A
- * lent buffer overlaps neither another buffer nor a text. A call reads what it is lent, and writes only the buffers that it
- * says it writes. It keeps nothing once it has returned and has no state of its own: calls may run on several threads at once.
+ * like any other; its pointer may be NULL. A buffer is lent the same way, so a buffer of length 0 may be NULL too. A lent
+ * buffer must overlap neither another buffer nor a text; texts may overlap. A call reads what it is lent, and writes only the
+ * buffers that it says it writes. It keeps nothing once it has returned and has no state of its own: calls may run on several
+ * threads at once. Digits, letters and cases are ASCII's.
  *
  * Every call is total: whatever the bytes and the lengths are, it answers a complete result or one refusal. At each call
  * stands "Tests:" with the refusals that it may answer, in the order in which it tests for them. It answers the first one
@@ -44,7 +45,7 @@
  * digits, five deep at most, and an entry that ends in % by two functions that call each other, once for each % at its end. So
  * hwk_call_entry and hwk_call_sheet need less than 8 KiB of stack and 80 bytes more for each % at an entry's end, in all less
  * than 512 KiB. Every other call needs less than 4 KiB. If a program is linked dynamically and bound lazily, its first call of
- * memcpy, ours or another, also needs the dynamic linker's own few KiB. Digits, letters and cases are ASCII's.
+ * memcpy, ours or another, also needs the dynamic linker's own few KiB.
  */
 #ifndef HOWHAKIRU_H
 #define HOWHAKIRU_H
@@ -96,7 +97,7 @@ hwk_verdict hwk_is_double(const uint8_t *s, size_t s_len);
 /* A first group of 1 to 3 digits, then one or more groups of 3, with commas between: "1,234". */
 hwk_verdict hwk_is_comma_int(const uint8_t *s, size_t s_len);
 
-/* A digit, then digits and commas, then th, st, nd or rd in any case: "21st", and "21th" and "1,,th" too. */
+/* A digit, then any number of digits and commas, then th, st, nd or rd in any case: "21st", and "21th" and "1,,th" too. */
 hwk_verdict hwk_is_ordinal(const uint8_t *s, size_t s_len);
 
 /* A dollar sign, one or more digits or commas, and nothing more or a point with one or more digits: "$1,500.00", and "$," too. */
@@ -126,7 +127,7 @@ hwk_verdict hwk_is_n_digits(const uint8_t *s, size_t s_len, size_t n);
 /* 1 or 2 digits, a colon, 2 digits of which the first is at most 5: "9:30", and "99:59" too. */
 hwk_verdict hwk_is_time(const uint8_t *s, size_t s_len);
 
-/* Two or more single letters with points between, and with or without a final point: "U.S.A.". */
+/* Two or more single letters with one point between neighbours, and with or without a final point: "U.S.A.". */
 hwk_verdict hwk_is_dotted_abbrev(const uint8_t *s, size_t s_len);
 
 /* Digits, a slash, digits: "3/4". */
@@ -211,8 +212,9 @@ static inline size_t hwk_word_len(const uint8_t *table, size_t i) { return hwk_t
 
 /* A whole number. Only the digits of the text count, whatever stands between them. Up to 12 digits: "1984" is one thousand
  * nine hundred eighty four, "1,000,000" one million. From 13 digits on, one word for each digit. Zeros in front count as
- * digits, three to a group: "0" is zero, "00" and "000" are no words, "05" is five, "0005" is zero thousand five and "000005"
- * five. A text without digits has no words. */
+ * digits, in groups of three from the right. A group 00 or 000 has no words, and neither has its scale; a single 0 in front is
+ * zero: "0" is zero, "00" and "000" are no words, "05" is five, "0005" is zero thousand five and "000005" five. A text without
+ * digits has no words. */
 hwk_words hwk_cardinal(const uint8_t *s, size_t s_len, uint8_t *store, size_t store_len, uint8_t *table, size_t table_len);
 
 /* The same words with the last one as an ordinal: "21" is twenty first, "12" twelfth, "1,000" one thousandth. No words become
@@ -220,19 +222,20 @@ hwk_words hwk_cardinal(const uint8_t *s, size_t s_len, uint8_t *store, size_t st
 hwk_words hwk_ordinal(const uint8_t *s, size_t s_len, uint8_t *store, size_t store_len, uint8_t *table, size_t table_len);
 
 /* A year, or a number in pairs of digits. Only the digits count. "1984" is nineteen eighty four, "07" oh seven, "00" zero zero.
- * An odd count of digits starts with a single one: "747" is seven forty seven; but "500" is five hundred. The last four
- * digits are read as a cardinal if the two in their middle are 00 ("2005" is two thousand five, "0000" zero thousand). Else
- * they are read in hundreds if the last two are 00 ("1900" is nineteen hundred). In a pair before the last one a 0 in front
- * has no word, and 00 has none: "190705" is nineteen seven oh five, "000012" twelve. */
+ * An odd count of digits starts with a single one: "747" is seven forty seven. But if three digits are left, the first not 0
+ * and the others 00, they are hundreds: "500" is five hundred. The last four digits are read as a cardinal if the two in
+ * their middle are 00 ("2005" is two thousand five, "0000" zero thousand). Else they are read in hundreds if the last two are
+ * 00 ("1900" is nineteen hundred). In a pair before the last one a 0 in front has no word, and 00 has none: "190705" is
+ * nineteen seven oh five, "000012" twelve. */
 hwk_words hwk_year(const uint8_t *s, size_t s_len, uint8_t *store, size_t store_len, uint8_t *table, size_t table_len);
 
 /* One word for each digit, nothing for any other character: "555-0123" is five five five zero one two three. */
 hwk_words hwk_digits(const uint8_t *s, size_t s_len, uint8_t *store, size_t store_len, uint8_t *table, size_t table_len);
 
 /* A decimal number: "-1.50" is minus one point five zero. Each sign in front is a word, minus or plus. The first e or E is
- * the word e, and the texts before and after it are read one by one. The second may have signs and a further e: "+2e-10" is
- * plus two e minus ten. In a text without e the first point is the word point, with a cardinal before it and single digits
- * after it: ".5" is point five, "1.2.3" one point two three. A sign that stands elsewhere has no word. */
+ * the word e, and the texts before and after it are read in the same way: "+2e-10" is plus two e minus ten. In a text
+ * without e the first point is the word point, with a cardinal before it and single digits after it: ".5" is point five,
+ * "1.2.3" one point two three. A sign that stands elsewhere has no word. */
 hwk_words hwk_real(const uint8_t *s, size_t s_len, uint8_t *store, size_t store_len, uint8_t *table, size_t table_len);
 
 /* One word for each character, A to Z in lower case: "Mr." is m, r and the point. "a" and "A" are the word _a, so that it is
@@ -296,8 +299,8 @@ static inline size_t hwk_token_len(const uint8_t *table, size_t i, size_t part)
     return hwk_table_number(table + HWK_TOKEN_BYTES * i + 8 * part + 4);
 }
 
-/* Writes a record for each token of `s` to the front of `table`. A text without tokens, the empty one among them, fits an empty
- * table.
+/* Writes a record for each token of `s`, in the order of the text, to the front of `table`. A text without tokens, the empty one
+ * among them, fits an empty table.
  * Tests: HWK_TEXT_TOO_LONG, HWK_NOT_UTF8, HWK_BUFFER_TOO_SHORT if the table is shorter than HWK_TOKEN_BYTES for each token. */
 hwk_tokens hwk_tokenize(const uint8_t *s, size_t s_len, uint8_t *table, size_t table_len);
 
@@ -344,8 +347,9 @@ typedef struct hwk_step {
     hwk_state state; /* the state for the next step; if the step is refused, the one that it was given */
 } hwk_step;
 
-/* Takes the next token, as three texts. Writes nothing. Fed the tokens of a text in turn, from hwk_fresh on, the steps break
- * before those tokens that hwk_sentences marks with 1, the first one left out. The texts may be any others, too.
+/* Takes the next token, as three texts; its prepunctuation does not matter. Writes nothing. Fed the tokens of a text in turn,
+ * from hwk_fresh on, the steps break before those tokens that hwk_sentences marks with 1, the first one left out. The texts may
+ * be any others, too.
  * Tests: HWK_TEXT_TOO_LONG if any of the three is too long, HWK_NOT_UTF8 if any of the three is not UTF-8. */
 hwk_step hwk_push(hwk_state state, const uint8_t *whitespace, size_t whitespace_len, const uint8_t *name, size_t name_len,
                   const uint8_t *punctuation, size_t punctuation_len);
@@ -358,7 +362,7 @@ hwk_step hwk_push(hwk_state state, const uint8_t *whitespace, size_t whitespace_
  *    1  an empty name                     no words
  *    2  hwk_is_dotted_abbrev              hwk_letters of the name without its points: "U.S." is u s
  *    3  hwk_is_comma_int                  hwk_cardinal
- *    4  hwk_is_time                       hwk_cardinal of the hour; then, unless it is "00", hwk_year of the minute
+ *    4  hwk_is_time                       hwk_cardinal of the hour; then hwk_year of the minute, unless the minute is "00"
  *    5  hwk_split_time_meridiem           the same, then hwk_letters of the meridiem: "9:30am" is nine thirty _a m
  *    6  hwk_is_leading_zero_digits        hwk_digits
  *    7  hwk_is_digits                     hwk_cardinal
@@ -369,7 +373,7 @@ hwk_step hwk_push(hwk_state state, const uint8_t *whitespace, size_t whitespace_
  *   12  any other                         the name as one word, A to Z in lower case
  * A line may have no words: an empty name, "00:00", "000,000". */
 typedef struct hwk_entry {
-    uint8_t refusal; /* HWK_ACCEPTED or a refusal's number; then every field below is 0 */
+    uint8_t refusal; /* HWK_ACCEPTED or a refusal's number; if it is a refusal's, every field below is 0 */
     uint8_t row;     /* the row that took the name, 1 to 12 */
     uint8_t sign;    /* in row 8 HWK_MINUS if the name starts with a minus, else HWK_PLUS; in any other row 0 */
     size_t words;    /* how many words the line has */
@@ -390,7 +394,7 @@ typedef struct hwk_entry {
 hwk_entry hwk_call_entry(const uint8_t *s, size_t s_len, size_t number, uint8_t *out, size_t out_len);
 
 typedef struct hwk_sheet {
-    uint8_t refusal; /* HWK_ACCEPTED or a refusal's number; then every field below is 0 */
+    uint8_t refusal; /* HWK_ACCEPTED or a refusal's number; if it is a refusal's, every field below is 0 */
     size_t tokens;   /* how many entries the sheet has, and so how many lines */
     size_t words;    /* how many words all lines have */
     size_t bytes;    /* how many bytes all lines have, at the front of `out` */
@@ -402,12 +406,12 @@ typedef struct hwk_sheet {
  * than all lines. */
 hwk_sheet hwk_call_sheet(const uint8_t *s, size_t s_len, uint8_t *out, size_t out_len);
 
-/* Is the name a clear one? Two sheets that are accepted and have clear names alone have the same call sheet exactly if they have
- * equally many entries, the same names in the same order, and sentences that start at the same entries. This is proved. "Plain"
- * digits are "0", or digits with no 0 in front. Clear names are:
+/* Is the name a clear one? Take two sheets that hwk_call_sheet accepts and that have clear names alone. They have the same call
+ * sheet exactly if they have equally many entries, the same names in the same order, and sentences that start at the same
+ * entries. This is proved. "Plain" digits are "0", or digits with no 0 in front. Clear names are:
  *   - one or more digits
- *   - plain digits with, if wanted, a minus before them, a point and digits behind them, and then an e, a + or - or no sign, and
- *     plain digits: "-1.50e+3"
+ *   - plain digits; there may be a minus before them, a point with digits behind them, and at the end an e with plain digits,
+ *     which may have a + or a - before them: "-1.50e+3"
  *   - either of these with one % behind it
  *   - a plain hour of 1 or 2 digits, a colon, and a minute of 01 to 59; or of 00 to 59 and then am or pm
  *   - plain digits and their right suffix: "1st", "11th", "22nd"
