@@ -6,9 +6,9 @@ use std::str::from_utf8;
 
 use reference::text;
 
+use crate::expected::rows;
 use crate::howhakiru;
 use crate::inputs::{repeated, KIB};
-use crate::rows;
 use crate::timing::{compared, in_turn};
 use crate::Row;
 

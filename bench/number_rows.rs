@@ -3,9 +3,9 @@
 use std::hint::black_box;
 use std::str::from_utf8;
 
+use crate::expected::readings::READINGS;
 use crate::howhakiru;
 use crate::inputs::{repeated, KIB};
-use crate::readings::READINGS;
 use crate::timing::{compared, in_turn};
 use crate::Row;
 

@@ -7,10 +7,10 @@ use std::str::from_utf8;
 
 use reference::text::{self, SentenceBuilder, Token};
 
+use crate::expected::tokens::TOKEN_BYTES;
 use crate::howhakiru;
 use crate::inputs::{repeated, KIB};
 use crate::timing::{compared, in_turn};
-use crate::tokens::TOKEN_BYTES;
 use crate::Row;
 
 /// A kind of sheet, and what it repeats.

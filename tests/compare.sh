@@ -25,7 +25,7 @@ fi
 
 tests/library.sh
 mkdir -p target/compare
-rustc --edition 2021 -C opt-level=3 -o target/compare/harness tests/harness.rs \
+rustc --edition 2021 -C opt-level=3 -o target/compare/harness tests/harness/harness.rs \
     -L target/reference --extern reference=target/reference/libreference.rlib \
     -L target/staticlib -l static=howhakiru
 
