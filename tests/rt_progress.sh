@@ -27,7 +27,7 @@ for crate in $crates; do
     total=$((total + 1))
     [ -e "target/stamp/$crate" ] || unproved=$((unproved + 1))
 done
-if [ "$unproved" -eq "$total" ]; then
+if [ "$unproved" -gt 0 ] && [ "$unproved" -eq "$total" ]; then
     echo "rt $*: proving $total crates; the first time takes minutes (about 4 on two cores)" >&2
 elif [ "$unproved" -gt 0 ]; then
     echo "rt $*: proving $unproved of $total crates" >&2
