@@ -1,4 +1,4 @@
-/* The header's constants and layouts, held against the library. */
+/* The header's constants and layouts must be the library's. */
 #include <assert.h>
 #include <stddef.h>
 #include <stdlib.h>
@@ -6,7 +6,7 @@
 
 #include "howhakiru.h"
 
-/* A layout that differs is an array of negative size. */
+/* If a layout differs, the array has a negative size, which does not compile. */
 #define SAME(name, test) typedef char name[(test) ? 1 : -1]
 SAME(verdict_size, sizeof(hwk_verdict) == 2);
 SAME(verdict_yes, offsetof(hwk_verdict, yes) == 1);
@@ -42,7 +42,7 @@ SAME(sheet_tokens, offsetof(hwk_sheet, tokens) == 8);
 SAME(sheet_words, offsetof(hwk_sheet, words) == 16);
 SAME(sheet_bytes, offsetof(hwk_sheet, bytes) == 24);
 
-/* The comparison with the Rust holds every reading to these same sums. */
+/* The comparison with the Rust tests on every reading that these sums suffice. */
 SAME(store_most, HWK_WORDS_STORE_MOST(1000) == 11011);
 SAME(table_most, HWK_WORDS_TABLE_MOST(1000) == 16016);
 SAME(tokens_table_most, HWK_TOKENS_TABLE_MOST(1000) == 16032);
@@ -67,7 +67,7 @@ static void check_texts(void)
     free(text);
 }
 
-/* Each word fits HWK_UNIT_WORD_MOST bytes and some word takes them all; a byte less than the word is refused. */
+/* Each word fits HWK_UNIT_WORD_MOST bytes, and some word takes them all. A store of a byte less than the word is refused. */
 static void check_words(void)
 {
     size_t most = 0;
@@ -94,7 +94,7 @@ static reading *const readings[] = {hwk_cardinal, hwk_ordinal, hwk_year, hwk_dig
 static const char *const longest[] = {"", "7", "77", "777", "7777", "7777777", "7777777777", "-777777777777", "aaaa", "-----",
                                       "7777777777e7777777777e7777777777", "777777777777777777777777777777777"};
 
-/* What the header says always suffices does, for each reading; the words stand end to end, as the table says. */
+/* The room that the header says always suffices does, for each reading. The words stand end to end, as the table says. */
 static void check_room(void)
 {
     static uint8_t store[HWK_WORDS_STORE_MOST(64)], table[HWK_WORDS_TABLE_MOST(64)];
@@ -172,7 +172,8 @@ static void check_rows(void)
     assert(first_entry("", out, sizeof out).refusal == HWK_NO_SUCH_ENTRY);
 }
 
-/* A name at the limit is called and a longer one is not; what the header says always suffices does, for the longest calls. */
+/* A name at the limit is called, and a longer one is not. The room that the header says always suffices does, for the longest
+ * calls. */
 static void check_calls(void)
 {
     static const char *const repeated[] = {"%", "777777777777 ", "777777777777e", "7 ", "a.", "( ", "-7777777777 "};

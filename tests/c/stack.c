@@ -1,5 +1,5 @@
-/* What the header says of stack: each call runs on a painted stack of its own, and what it touched is counted.
- * Link with -z now: else the first memcpy counts what the dynamic linker takes to find it. */
+/* What the header says of stack: each call runs on a painted stack, and the bytes that it touched are counted.
+ * Link with -z now: else the first call of memcpy also counts the stack that the dynamic linker takes to find it. */
 #define _XOPEN_SOURCE 600
 #include <assert.h>
 #include <stdio.h>

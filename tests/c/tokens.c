@@ -1,4 +1,4 @@
-/* What the header says of tokens, sentences and states, held against the library. */
+/* What the header says of tokens, sentences and states must be what the library does. */
 #include <assert.h>
 #include <stdlib.h>
 #include <string.h>
@@ -70,7 +70,7 @@ static void fill(uint8_t *text, size_t len)
     for (size_t i = 0; i < len; i++) text[i] = i % 2 == 0 ? 'a' : ' ';
 }
 
-/* A byte less than the result is refused; the result's own size suffices, and so does the header's. */
+/* A buffer of a byte less than the result is refused. The result's own size suffices, and so does the header's. */
 static void check_room(size_t len)
 {
     size_t count = (len + 1) / 2, size = HWK_TOKEN_BYTES * count;

@@ -11,8 +11,8 @@ use crate::calls::tokens::TOKEN_CALLS;
 use crate::expected::answers::{self, Admitted};
 use crate::lent::{Buffer, Fenced};
 
-/// The calls of the header, numbered for `one_call`: those about shapes first, then the readings, then those about tokens, then those of the
-/// call sheet.
+/// The calls of the header, numbered for `one_call`: those about shapes first, then the readings, then those about tokens, then
+/// those of the call sheet.
 pub const CALLS: usize = TOKENS_END + CALL_CALLS;
 
 const READINGS_END: usize = SHAPES + READING_CALLS;
@@ -35,14 +35,14 @@ pub struct Counts {
 }
 
 impl Counts {
-    /// With what another thread compared.
+    /// These counts with those of another thread.
     pub fn and(mut self, mut other: Counts) -> Self {
         self.groups.append(&mut other.groups);
         self.differences += other.differences;
         self
     }
 
-    /// Prints each group and the sum, and ends the program with status 1 where anything differed.
+    /// Prints each group and the sum, and ends the program with status 1 if anything differed.
     pub fn finish(&self, seed: u64) {
         let (mut texts, mut comparisons) = (0, 0);
         for group in &self.groups {
@@ -63,7 +63,7 @@ impl Counts {
 pub struct Lent<'a> {
     pub text: &'a [u8],
     pub start: *const u8,
-    /// How many bytes part the text from the fence, and every buffer that is lent beside it.
+    /// How many bytes stand between the text and the fence, and between each buffer and its own.
     pub gap: usize,
     pub admitted: Admitted<'a>,
 }
@@ -123,7 +123,7 @@ impl Comparison {
         self.calls(text, gap, 0..CALLS);
     }
 
-    /// Compares one call, for texts of which there are too many to make every call.
+    /// Compares one call. This is for texts that are too many for every call.
     pub fn one_call(&mut self, text: &[u8], gap: usize, call: usize) {
         self.calls(text, gap, call..call + 1);
     }
@@ -140,7 +140,7 @@ impl Comparison {
         self.calls_without_buffers(lent);
     }
 
-    /// Lends the text, and looks after it once the calls were made.
+    /// Lends the text, makes the calls, and then tests whether the text is as it was.
     pub fn with(&mut self, text: &[u8], gap: usize, calls: impl FnOnce(&mut Self, Lent)) {
         self.group().texts += 1;
         let start = self.texts.lend(text, gap);
@@ -184,7 +184,7 @@ impl Comparison {
     }
 }
 
-/// The bytes, escaped; of many their two ends.
+/// The bytes, escaped. If there are many, their two ends.
 pub fn display(bytes: &[u8]) -> String {
     if bytes.len() <= 200 {
         return format!("\"{}\"", bytes.escape_ascii());

@@ -2,6 +2,9 @@
 //!
 //! harness SECONDS SEED: the fixed groups run whole, the random ones for what is left of the time, once at least. Three threads
 //! share the calls.
+//!
+//! calls/ makes each call and compares its answer with that of expected/, a step's with that of steps.rs. texts/ has the texts,
+//! some of them from corners/.
 
 use std::process;
 use std::thread;
@@ -25,7 +28,7 @@ use texts::{distinguish, exhaustive, linear_forms, long, long_numbers, long_toke
 /// From this many seconds on there is time for texts of one piece more.
 const LONG: u64 = 600;
 
-/// The Rust's year and real go one call deeper for each pair, sign or "e" of a text.
+/// The Rust's year and real call themselves for each pair, sign or "e" of a text, so a long text takes much stack.
 const STACK: usize = 256 << 20;
 
 fn main() {
@@ -47,7 +50,7 @@ fn main() {
 #[derive(Clone, Copy)]
 struct Share {
     name: &'static str,
-    /// The time is divided by this: the longest share is to have a core for itself in the end.
+    /// The time is divided by this, so that the longest share has a core for itself in the end.
     divisor: u64,
     fixed: fn(&mut Comparison, bool),
     round: fn(&mut Comparison, &mut Random),
@@ -76,7 +79,7 @@ fn names(comparison: &mut Comparison, long: bool) {
     numbers(comparison, long);
 }
 
-/// `most`: how many pieces of the alphabet of every piece a text has at most.
+/// `most` bounds the texts over the one alphabet of every piece.
 fn shapes(comparison: &mut Comparison, most: usize) {
     comparison.null_pointers();
     short::named(comparison);
@@ -98,7 +101,7 @@ fn numbers(comparison: &mut Comparison, long: bool) {
     long_numbers::limits(comparison);
 }
 
-/// With time, one piece more: of the texts over eleven characters all of seven, which else have their turn in the rounds.
+/// In a long run texts have one piece more. So all texts of seven of the eleven characters are in it; else each round takes some.
 fn tokens(comparison: &mut Comparison, long: bool) {
     texts::tokens::named(comparison);
     texts::tokens::one_byte_changed(comparison);
@@ -116,7 +119,7 @@ fn tokens(comparison: &mut Comparison, long: bool) {
     step_states::every_choice(comparison);
 }
 
-/// The verdict on clear names among them, and that call sheets distinguish their sheets, on pairs.
+/// Sheets, entries and clear names; and that call sheets distinguish their sheets, on pairs.
 fn calls(comparison: &mut Comparison, long: bool) {
     clear::check_tables();
     texts::sheets::named(comparison);

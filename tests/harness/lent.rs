@@ -16,12 +16,12 @@ extern "C" {
     fn mprotect(at: *mut c_void, len: usize, protection: i32) -> i32;
 }
 
-/// Marks have the top bit, which no letter has; neighbours differ, so that a shifted copy shows too.
+/// A mark has the top bit, which no letter has. Neighbours differ, so that a shifted copy shows too.
 fn mark(place: usize) -> u8 {
     0x80 | (place.wrapping_mul(37) & 0x7f) as u8
 }
 
-/// Byte by byte where there are few: right before the fence, memcmp's wide loads would reach behind it, which is slow.
+/// Byte by byte if there are few: right before the fence, memcmp's wide loads would reach behind it, which is slow.
 fn same(ours: &[u8], wanted: &[u8]) -> bool {
     if wanted.len() < 64 {
         return ours.iter().eq(wanted);
@@ -46,7 +46,7 @@ impl Fenced {
         }
     }
 
-    /// Puts the text where `gap` marks part it from the fence. Reading at the fence ends the program.
+    /// Puts the text so that `gap` marks stand between it and the fence. A read at the fence ends the program.
     pub fn lend(&mut self, text: &[u8], gap: usize) -> *const u8 {
         assert!(GUARD + text.len() + gap <= ROOM);
         // SAFETY: the assertion keeps all three writes inside the mapping.
@@ -90,7 +90,7 @@ impl Buffer {
         Buffer { fence, marks, len: 0, gap: 0 }
     }
 
-    /// A buffer of `len` bytes with `gap` marks between it and the fence; all marks stand anew.
+    /// A buffer of `len` bytes with `gap` marks between it and the fence. All marks are written anew.
     pub fn lend(&mut self, len: usize, gap: usize) -> *mut u8 {
         assert!(GUARD + len + gap <= ROOM);
         let used = self.window();
@@ -115,7 +115,7 @@ impl Buffer {
         bytes[..bytes.len().min(SHOWN)].escape_ascii().to_string()
     }
 
-    /// How many bytes before the fence are looked after.
+    /// How many bytes before the fence are tested.
     fn window(&self) -> usize {
         GUARD + self.len + self.gap
     }

@@ -24,7 +24,7 @@ impl fmt::Display for Fed<'_> {
 }
 
 impl<'a> Fed<'a> {
-    /// The texts as the Rust takes them, or the smallest number that one of them earns.
+    /// The texts as the Rust takes them, or the smallest number of a refusal that one of them gets.
     pub fn admitted(&self) -> Result<[&'a str; 3], u8> {
         let all = [self.whitespace, self.name, self.punctuation].map(answers::admit);
         let [Ok(whitespace), Ok(name), Ok(punctuation)] = all else {

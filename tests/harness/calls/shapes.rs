@@ -39,7 +39,7 @@ impl Comparison {
 
     fn n_digits(&mut self, lent: Lent) {
         let len = lent.text.len();
-        // The last but one is the length again, where a count is cut to fewer bits.
+        // If a count is cut to 32 bits, the last but one is the length again.
         for n in (0..=9).chain([len, len + 1, len + (1 << 32), usize::MAX]) {
             // SAFETY: the text is lent for the call.
             let ours = unsafe { howhakiru::hwk_is_n_digits(lent.start, len, n) };

@@ -13,11 +13,11 @@ pub const CALL_CALLS: usize = 3;
 /// How much longer the buffer is than the whole result.
 const NEAR: [isize; 17] = [-1, 1, -2, 2, -3, 3, -4, 4, -5, 5, -8, 8, -16, 16, -33, 64, 1_000];
 
-/// Of longer sheets not every entry is called each time.
+/// If a sheet has more entries, some of them are called each time.
 const ENTRIES_MOST: usize = 40;
 
 impl Comparison {
-    /// One of the three calls, for texts of which there are too many to make every call.
+    /// One of the three calls. This is for texts that are too many for every call.
     pub fn call_call(&mut self, call: usize, lent: Lent) {
         match call {
             0 => {
@@ -96,7 +96,7 @@ impl Comparison {
         self.settle(lent, format_args!("hwk_call_sheet (null buffer)"), ours, called.whole(sheet.len(), 0));
     }
 
-    /// Entries one by one: of a short sheet all of them, of a longer one those whose turn it is; and numbers that no entry has.
+    /// Entries one by one: all of a short sheet, of a longer one those whose turn it is. Then numbers that no entry has.
     fn entries(&mut self, lent: Lent, called: &Called) {
         let count = called.lines.len();
         let step = count.div_ceil(ENTRIES_MOST).max(1);
@@ -133,7 +133,7 @@ impl Comparison {
         }
     }
 
-    /// The verdict on a name, against document 01's list read by itself.
+    /// The verdict on a name, against document 01's list.
     pub fn clear(&mut self, lent: Lent) {
         // SAFETY: the text is lent for the call.
         let ours = unsafe { howhakiru::hwk_is_clear(lent.start, lent.text.len()) };

@@ -14,11 +14,11 @@ pub const TOKEN_CALLS: usize = 3;
 /// Every length within a record and a byte of the exact one.
 const NEAR: usize = 2 * (TOKEN_BYTES + 1) + 1;
 
-/// The buffers that are tried: those near the exact one, and six far from it or told from the text's length alone. With an odd
-/// number of them, calls that take turns meet each.
+/// The buffers that are tried: those near the exact one, and six more, of which three depend on the text's length alone. Their
+/// number is odd, so two calls that take turns meet each of them.
 const ROOMS: usize = NEAR + 6;
 
-/// A call that fills one buffer, and its side of the Rust's answer.
+/// A call that fills one buffer, and what the Rust has for that buffer.
 #[derive(Clone, Copy)]
 struct Filling<'a> {
     name: &'a str,
@@ -54,7 +54,7 @@ impl Tokenized {
 }
 
 impl Comparison {
-    /// One of the three calls, for texts of which there are too many to make every call.
+    /// One of the three calls. This is for texts that are too many for every call.
     pub fn token_call(&mut self, call: usize, lent: Lent) {
         if call == 2 {
             return self.step_with(lent);
@@ -130,7 +130,7 @@ impl Comparison {
         self.settle(lent, name, ours, tokenized.answer(filling.result.len(), 0));
     }
 
-    /// Steps from a fresh state, fed the tokens of the text where they stand in it: a break before each start but the first.
+    /// Steps from a fresh state over the tokens of the text, in place: a break before each start but the first.
     fn steps_over(&mut self, lent: Lent, tokenized: &Tokenized) {
         // SAFETY: it takes nothing.
         let mut state = unsafe { howhakiru::hwk_fresh() };

@@ -24,7 +24,7 @@ const EVERY_LENGTH: &[&str] = &[
     "0000000000000", "00000000000000",
 ];
 
-// Zeros in front: three to a group, and a lone one is called.
+// Leading zeros, up to several groups of three.
 #[rustfmt::skip]
 const ZEROS_IN_FRONT: &[&str] = &[
     "01", "001", "0001", "00001", "000001", "0000001", "00000001", "000000001", "0000000001", "00000000001", "000000000001",

@@ -171,7 +171,7 @@ const UNITS_AFTER_NUMBERS: &[&str] = &[
     "12345678901234567890123456789kg", "1,234,567,890,123,456,789KHz", "5:kg", "5/kg", ":5kg", "5.kg", "5%kg", "5x", "1.5oz",
 ];
 
-// Names where an offset counted in bytes would fall inside a character.
+// Names in which an offset counted in bytes would fall inside a character.
 #[rustfmt::skip]
 const NOT_ASCII: &[&str] = &[
     "é", "1é", "12é", "123é", "é1", "ét", "éh", "1\u{10348}", "12\u{10348}", "\u{10348}", "\u{10348}t", "€", "1€", "€1", "1€h", "ﬁ",
@@ -186,7 +186,7 @@ const PLAIN: &[&str] = &[
     "'tis", "yahoo!", "a/b", "x=1", "1+1", "#5", "@home", "C++", "\\", "^", "_", "|", "~", "\u{1}", "\u{1f}",
 ];
 
-// Bytes that are not UTF-8, beside the nearest that are.
+// Bytes that are not UTF-8, and the nearest that are.
 #[rustfmt::skip]
 pub const DAMAGED: &[&[u8]] = &[
     // overlong forms, and the first that is not

@@ -125,7 +125,7 @@ pub const PIECES: &[&str] = &[
     "9:30", "5mm",
 ];
 
-/// Whitespace that a step is fed: also what is none.
+/// Whitespace for a step, and texts that are no whitespace.
 #[rustfmt::skip]
 pub const BLANKS: &[&str] = &[
     "", " ", "  ", "\t", "\n", "\r", "\r\n", "\n\n", "\n \n", "\n\n\n", "\r\n\r\n", "\n\r", " \n", "\n ", "a", "a\nb",
@@ -133,7 +133,7 @@ pub const BLANKS: &[&str] = &[
     "                    \n                    \n",
 ];
 
-/// Names that a step is fed: also such as no token has.
+/// Names for a step, and texts that are no name of any token.
 #[rustfmt::skip]
 pub const NAMES: &[&str] = &[
     "", "a", "z", "A", "Z", "1", "@", "[", "`", "{", "é", "É", ".", "?", "\"", " ", " a", " A", "\n", "a b", "A b", "Dr", "dr",
@@ -142,7 +142,7 @@ pub const NAMES: &[&str] = &[
     "𐍈A", "a.b", "U.S", "yahoo\0", "\0", "\0A", "aaaaaaaaaaaaaaaaaaaaaaaaaaaaaaaaaaaaaaaaaaaaaaaaaaaaaaaaaaaaaaaaaaaaaZ",
 ];
 
-/// Punctuation that a step is fed: also what is none.
+/// Punctuation for a step, and texts that are no punctuation.
 #[rustfmt::skip]
 pub const MARKS: &[&str] = &[
     "", ".", ":", "?", "!", ",", ";", ")", "\"", ".)", ").", "!.", ".!", "?!", "!?", ":.", ",!", "...", "!!!", "a", "a.", ".a",

@@ -1,5 +1,5 @@
-//! Clear names, read from document 01's list by itself: no function of the reference or of the library is asked, but for the
-//! words of the tables, which are written out here.
+//! Clear names, as document 01's list has them. No function of the reference or of the library is used; the words of the tables
+//! are written out here.
 
 /// ONES, TEENS, TENS and their ordinal forms, and SCALES. No other word is by itself an answer of `cardinal` or `ordinal`.
 #[rustfmt::skip]
@@ -102,8 +102,8 @@ fn is_word(name: &str) -> bool {
     name.len() >= 2 && name.chars().all(|c| ('a'..='z').contains(&c)) && !BARRED.contains(&name)
 }
 
-/// Whether every one-word answer of the Rust's two functions is barred, on all short numbers and some long ones, and the units are
-/// the first of their words in the Rust's table.
+/// The lists above, held to the Rust: each unit is the first of its word in the Rust's table, and each answer of one word, on all
+/// short numbers and some long ones, is barred.
 pub fn check_tables() {
     use reference::numbers::{cardinal, ordinal};
     use reference::patterns::UNIT_ABBREVIATIONS;

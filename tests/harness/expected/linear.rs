@@ -1,7 +1,7 @@
 //! The Rust's year, real and roman_value in linear time, over its own cardinal and digits.
 //!
-//! The originals copy what was read at each step, or look through the rest of the text at each letter: seconds for one
-//! long text. linear_forms.rs holds these three to the originals.
+//! The originals copy what was read at each step, or look through the rest of the text at each letter, which takes seconds for
+//! one long text. texts/linear_forms.rs compares these three with the originals.
 
 use reference::numbers::{self, cardinal, digits};
 
@@ -19,7 +19,7 @@ pub fn year(text: &str) -> Vec<String> {
     words
 }
 
-/// What stands between two signs "e" is read by itself, its own signs first.
+/// What stands between two letters "e" is read by itself, its own signs first.
 pub fn real(text: &str) -> Vec<String> {
     let mut words = Vec::new();
     for (number, part) in text.split(['e', 'E']).enumerate() {

@@ -32,7 +32,7 @@ pub const READINGS: [(&str, Read); 6] = [
     ("letters", numbers::letters),
 ];
 
-/// From here on the Rust's year, real and roman_value, whose time is quadratic, give way to linear.rs.
+/// From this length on linear.rs stands in for the Rust's year, real and roman_value, which take quadratic time.
 const LONG: usize = 1_024;
 
 fn words(call: usize, text: &str) -> Vec<String> {

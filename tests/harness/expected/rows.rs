@@ -124,7 +124,7 @@ impl Line {
     }
 }
 
-/// What the Rust calls a sheet with, given all the room.
+/// What the Rust calls a sheet with, if there is room for all of it.
 pub struct Called {
     refusal: u8,
     pub lines: Vec<Line>,
@@ -139,12 +139,12 @@ impl Called {
         Called { refusal: tokenized.refusal, lines }
     }
 
-    /// The whole call sheet; of use where no name is too long.
+    /// The whole call sheet, if no name is too long.
     pub fn sheet(&self) -> Vec<u8> {
         self.lines.iter().flat_map(|line| line.bytes.iter().copied()).collect()
     }
 
-    /// The answer of the whole sheet's call in a buffer of this length, where the call sheet has `exact` bytes.
+    /// The answer of the whole sheet's call in a buffer of `len` bytes, if the call sheet has `exact` bytes.
     pub fn whole(&self, exact: usize, len: usize) -> CalledSheet {
         let refused = |refusal| CalledSheet { refusal, ..CalledSheet::default() };
         if self.refusal > 0 {

@@ -1,5 +1,5 @@
 //! The tokens and sentence starts that the Rust gives for any bytes, in the types and buffers of include/howhakiru.h. The
-//! types of a step are here too; steps.rs has its answers.
+//! types of a step are here too; ../steps.rs has its answers.
 
 use reference::text::{self, Token};
 
@@ -78,7 +78,7 @@ impl Tokenized {
         self.table.extend_from_slice(&number.to_le_bytes());
     }
 
-    /// The answer in a buffer of this length, where the whole result has `exact` bytes.
+    /// The answer in a buffer of `len` bytes, if the whole result has `exact` bytes.
     pub fn answer(&self, exact: usize, len: usize) -> Tokens {
         if self.refusal > 0 {
             return Tokens { refusal: self.refusal, tokens: 0 };

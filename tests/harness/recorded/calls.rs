@@ -1,11 +1,10 @@
 //! calls.txt: the call sheet and the verdict on clear names.
 //!
 //! A line has three fields and one for each entry, with a tab between: HEAD CLEAR SHEET ENTRY...
-//! HEAD is REPEAT BYTE TAIL REFUSAL. CLEAR is 1 where the text, as a name, is clear, else 0. SHEET is the whole sheet's call:
-//! REFUSAL TOKENS WORDS LINES. LINES are the lines of all entries, end to end; a refused entry has none. Where the sheet is
-//! not refused they are the call sheet. They are written in pieces COUNTxHEX, bytes that stand so many times, with a comma
-//! between, and - stands for none. An ENTRY is one entry's call: REFUSAL ROW SIGN WORDS BYTES, its line being as many bytes of
-//! LINES, after those of the entries before it.
+//! HEAD is REPEAT BYTE TAIL REFUSAL. CLEAR is 1 if the text, taken as a name, is clear, else 0. SHEET is the whole sheet's call:
+//! REFUSAL TOKENS WORDS LINES. LINES are the lines of all entries, end to end; a refused entry has none. If the sheet is not
+//! refused they are the call sheet. They are written in pieces COUNTxHEX with a comma between: the bytes HEX, COUNT times.
+//! - stands for no lines. An ENTRY is one entry's call: REFUSAL ROW SIGN WORDS BYTES. Its line is the next BYTES bytes of LINES.
 
 use crate::corners;
 use crate::corners::entries::{some_entries, NAMES};
@@ -97,7 +96,7 @@ fn line(recorded: &RecordedText) -> String {
     line + "\n"
 }
 
-/// What is repeated has at most so many bytes, and all of it together at least so many.
+/// A run repeats at most UNIT_MOST bytes, and has RUN_LEAST bytes at least.
 const UNIT_MOST: usize = 12;
 const RUN_LEAST: usize = 64;
 
@@ -110,7 +109,7 @@ fn pieces_of(lines: &[u8]) -> String {
     pieces.join(",")
 }
 
-/// Bytes, and how many times they stand there, one after another.
+/// The bytes as runs: some bytes, and how many times they stand there in a row.
 fn runs(bytes: &[u8]) -> Vec<(&[u8], usize)> {
     let mut runs = Vec::new();
     let (mut from, mut at) = (0, 0);
@@ -129,7 +128,7 @@ fn runs(bytes: &[u8]) -> Vec<(&[u8], usize)> {
     runs
 }
 
-/// What the bytes start with again and again, if that is long enough to be written as such.
+/// The run that the bytes start with, if it is long enough.
 fn run(bytes: &[u8]) -> Option<(&[u8], usize)> {
     let units = (1..=UNIT_MOST.min(bytes.len())).map(|len| &bytes[..len]);
     let mut runs = units.map(|unit| (unit, bytes.chunks(unit.len()).take_while(|&chunk| chunk == unit).count()));

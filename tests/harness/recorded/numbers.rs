@@ -1,10 +1,10 @@
 //! numbers.txt: the readings.
 //!
 //! A line has eight fields with a tab between: HEAD CARDINAL ORDINAL YEAR DIGITS REAL LETTERS ROMAN
-//! HEAD is REPEAT BYTE TAIL REFUSAL. The six after it hold the words of that reading, with a space between; an empty field
-//! has no words, as where the text is refused. In a word a byte that is not from 21 to 7e in hex, and the backslash itself,
-//! is written as a backslash and two hex digits; every other byte stands for itself. A field that is one backslash and
-//! nothing else was left out, since it has more than 64 words. ROMAN is the value, in decimal.
+//! HEAD is REPEAT BYTE TAIL REFUSAL. The six after it hold the words of that reading, with a space between. An empty field has
+//! no words; so have all six if the text is refused. In a word a byte that is not from 21 to 7e in hex, and the backslash itself,
+//! is written as a backslash and two hex digits; every other byte stands for itself. A single backslash stands for a field that
+//! is left out, since it has more than 64 words. ROMAN is the value, in decimal.
 
 use reference::numbers::roman_value;
 
@@ -32,7 +32,7 @@ const AT_THE_LIMIT: &[(u8, &[u8], usize)] = &[
     (b'X', b"M", 101), (b'I', b"M", 1_000), (b'I', b"M", 1_001), (b'I', b"M", 1_002),
     (b',', b"5\xc3", 65_536), (b',', b"5\xc3", 65_537), (b',', b"5\xc3\xa9", 65_536), (b',', b"5\xff", 65_536), (0xff, b"", 65_536),
     (0xff, b"", 65_537), (b'M', b"\xff", 65_536), (b'M', b"\xff", 65_537), (b'M', b"\xc3\xa9", 65_536),
-    // as many words as a field holds, and lengths where a number of the table takes a second byte
+    // as many words as a field holds, and lengths at which a number of the table takes a second byte
     (b'5', b"", 31), (b'5', b"", 32), (b'5', b"", 63), (b'5', b"", 64), (b'5', b"", 65), (b'5', b"7", 64), (b'-', b"7", 63), (b'-', b"", 64),
     (b'a', b"", 63), (b'a', b"", 64), (b'A', b"\xc3\xa9", 65), (b'e', b"7", 63), (b'0', b"7", 64), (b'7', b"2005", 60), (b'7', b"1900", 61),
 ];

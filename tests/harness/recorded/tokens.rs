@@ -2,7 +2,7 @@
 //!
 //! A line is HEAD and a field for each token, with a tab between. HEAD is REPEAT BYTE TAIL REFUSAL. A token has nine numbers in
 //! decimal, with a space between: the offset and the length of whitespace, prepunctuation, name and punctuation, as the token
-//! table has them, and 1 where the token starts a sentence, else 0. A text without tokens, or a refused one, is HEAD alone.
+//! table has them, and 1 if the token starts a sentence, else 0. A text without tokens, or a refused one, is HEAD alone.
 
 use crate::corners::{self, pieces};
 use crate::expected::answers;
@@ -24,7 +24,7 @@ const AT_THE_LIMIT: &[(u8, &[u8], usize)] = &[
     // characters that end at the limit, or are cut by it
     (b'a', b"\xc3\xa9", 65_536), (b'a', b"\xc3\xa9", 65_537), (b'a', b"\xc3", 65_536), (b'a', b"\xc3", 65_537), (b' ', b"\xff", 65_536),
     (b' ', b"\xff", 65_537), (b'.', b"\xe2\x82\xac", 65_536), (b'.', b"\xe2\x82", 65_536), (0xff, b"", 65_536), (0xff, b"", 65_537),
-    // offsets and lengths where a number takes a second and a third byte
+    // offsets and lengths that take a second and a third byte
     (b'a', b" b", 256), (b'a', b" b", 257), (b'a', b" b", 258), (b' ', b"b", 256), (b' ', b"b", 257), (b'(', b"b", 257), (b'.', b"b.", 258),
     (b'a', b"! b c", 1_000), (b'a', b" b", 65_535), (b'a', b" b", 65_536),
 ];

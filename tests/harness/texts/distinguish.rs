@@ -1,5 +1,5 @@
-//! Call sheets distinguish their sheets, on pairs: two sheets of clear entries have the same call sheet exactly when they have the same names and
-//! sentences that start at the same entries. Only the library is asked.
+//! Call sheets distinguish their sheets, on pairs: two sheets of clear entries have the same call sheet exactly when they have the
+//! same names and sentences that start at the same entries. Both call sheets are the library's.
 
 use std::collections::HashMap;
 
@@ -55,7 +55,7 @@ pub fn names(comparison: &mut Comparison) {
     }
 }
 
-/// Random sheets, and beside each one that is the same but for whitespace, marks, a name, or a place where a sentence starts.
+/// Pairs of random sheets: with the same names or all but one, and each with whitespace and marks of its own.
 pub fn sheets(comparison: &mut Comparison, random: &mut Random, pairs: usize) {
     comparison.begin("pairs of sheets of clear entries");
     for _ in 0..pairs {
@@ -145,7 +145,7 @@ impl Comparison {
     }
 }
 
-/// The names, each with whether it starts a sentence, by the Rust.
+/// The names by the Rust's tokens, each with 1 if it starts a sentence, else 0.
 fn entries(sheet: &[u8]) -> Vec<(u8, &[u8])> {
     let tokenized = Tokenized::of(crate::expected::answers::admit(sheet));
     let entries: Vec<(u8, &[u8])> =

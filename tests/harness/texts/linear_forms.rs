@@ -1,4 +1,4 @@
-//! The linear forms beside the Rust's own, on texts long enough to matter and short enough for it.
+//! The linear forms compared with the Rust's own, mostly on texts that are not too long for it.
 
 use reference::numbers;
 
@@ -10,11 +10,11 @@ const PIECES: &[&str] = &["0", "7", "19", "00", "-", "+", "e", "E", ".", ",", "I
 const PIECES_IN_TEXT: usize = 3;
 const TEXTS: usize = 2_000;
 
-/// Repeated to some lengths. At the limit each takes the Rust a second, so there only the first two are, unless there is time.
+/// Repeated to some lengths. At the limit each takes the Rust a second, so only the first two are in every run.
 const REPEATED: &[&str] = &["7", "-7e", "0", "-", "e", "5.", "I", "M", "IM"];
 const LENGTHS: &[usize] = &[400, 16_384];
 
-/// The same words and values from both; a difference is a fault of these tests, and ends them.
+/// Both must give the same words and values. A difference is a fault of these tests, and ends them.
 pub fn check(long: bool) {
     let mut random = Random::new(1);
     for number in 0..TEXTS {

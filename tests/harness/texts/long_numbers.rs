@@ -32,7 +32,7 @@ pub fn limits(comparison: &mut Comparison) {
     }
 }
 
-/// Each pattern at each length of up to 80 bytes, and at lengths where a number of the table takes one byte more.
+/// Each pattern at each length of up to 80 bytes, and at lengths at which a number of the table takes one byte more.
 pub fn growing(comparison: &mut Comparison) {
     comparison.begin("numbers of growing length");
     for pattern in PATTERNS {

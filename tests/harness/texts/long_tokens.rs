@@ -45,7 +45,7 @@ pub fn many_tokens(comparison: &mut Comparison) {
     }
 }
 
-/// Each pattern at each length of up to 80 bytes, and at lengths where a count of one byte would start anew.
+/// Each pattern at each length of up to 80 bytes, and at lengths at which a count of one byte would start anew.
 pub fn growing(comparison: &mut Comparison) {
     comparison.begin("sheets of growing length");
     for pattern in PATTERNS {

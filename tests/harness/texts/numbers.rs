@@ -33,7 +33,7 @@ const THEMES: &[Theme] = &[
 // Roman numerals in both cases, and a letter that is none.
 const NUMERALS: &[&str] = &["I", "V", "X", "L", "C", "D", "M", "i", "v", "x", "l", "c", "d", "m", "a"];
 
-/// Named corners in buffers of every size; damaged ones keep their number whatever the buffers are.
+/// Named corners in buffers of every size. A damaged one is refused with its number whatever the buffers are.
 pub fn named(comparison: &mut Comparison) {
     comparison.begin("corners of numbers, every buffer");
     number_corners().for_each(|text| comparison.every_room(text.as_bytes(), 0));

@@ -1,4 +1,4 @@
-//! Steps from states that no step needs to have left: each value of each field is one.
+//! Steps from any state, also from those that no step leaves: any values of the fields are a state.
 
 use crate::comparison::Comparison;
 use crate::corners::tokens::{BLANKS, MARKS, NAMES};
@@ -35,10 +35,10 @@ const HEADS: &[[u8; 5]] = &[
 
 const LASTS: &[u8] = &[0, b'a', b'A', b'Z', b'@', b'[', b'o', b'1', 0x80, 0xc1, 0xff];
 
-/// No, and several ways to say yes.
+/// 0 is no, and every other value is yes.
 const FLAGS: &[u8] = &[0, 1, 2, 16, 127, 128, 255];
 
-/// Every length, head and last byte with every choice of flags; what the step is fed has its turn.
+/// Every length, head and last byte with every choice of flags. The texts of the step take turns.
 pub fn every_choice(comparison: &mut Comparison) {
     comparison.begin("steps from states made by hand");
     let mut rotation = 0;
@@ -61,7 +61,7 @@ pub fn every_choice(comparison: &mut Comparison) {
     }
 }
 
-/// Fields from few values and from any.
+/// Random states: fields from the lists above, and in one state of four any length and bytes.
 pub fn random(comparison: &mut Comparison, random: &mut Random, steps: usize) {
     comparison.begin("steps from any state");
     for number in 0..steps {

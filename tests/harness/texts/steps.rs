@@ -1,5 +1,4 @@
-//! Texts that are fed to the step form: free ones, which no text's tokens need to have, and such as are refused, alone and
-//! between others.
+//! Texts for the step form. They need not be the parts of any text's tokens. Some are refused, alone and between others.
 
 use crate::comparison::Comparison;
 use crate::corners::pieces::some_pieces;
@@ -9,7 +8,7 @@ use crate::random::Random;
 use crate::steps::{Fed, Steps};
 use crate::texts::step_states::ODD;
 
-/// What the name of a second step starts with decides.
+/// Names of a second step: their first byte decides whether it breaks.
 #[rustfmt::skip]
 const SECOND: &[&str] = &[
     "", "a", "z", "A", "Z", "1", "@", "[", "`", "{", "é", "É", ".", "\"", " a", " A", "\n", "Abc", "yahoo", "\0A",
@@ -39,7 +38,7 @@ pub fn pairs(comparison: &mut Comparison) {
     }
 }
 
-/// The first step is the Rust's alone; the second starts from the state that belongs to it.
+/// Only the Rust makes the first step. The second is compared, from the state after the first.
 fn two_steps(comparison: &mut Comparison, [name, marks, blank, next]: [&str; 4]) {
     let mut steps = Steps::new();
     steps.push(fed(["", name, marks]));
@@ -51,7 +50,7 @@ pub fn fed(texts: [&str; 3]) -> Fed<'_> {
     Fed { whitespace, name, punctuation }
 }
 
-/// Each of the three texts fine, at the limit, over it, damaged, and damaged over it: the smallest number wins.
+/// Each of the three texts whole, at the limit, over it, damaged, and damaged over it: the smallest number wins.
 pub fn refusals(comparison: &mut Comparison) {
     comparison.begin("steps that are refused");
     let repeated = |len: usize, byte: u8| vec![byte; len];
@@ -81,7 +80,7 @@ pub fn refusals(comparison: &mut Comparison) {
     }
 }
 
-/// Long texts, of lengths where a count of one or two bytes would start anew.
+/// Long texts, of lengths at which a count of one or two bytes would start anew.
 pub fn long(comparison: &mut Comparison) {
     comparison.begin("steps with long texts");
     for byte in *b"\n aA.!" {

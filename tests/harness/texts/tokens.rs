@@ -58,7 +58,7 @@ const CHARACTERS: &[char] = &[
     '\u{431}',
 ];
 
-/// Named corners in buffers of every size; damaged ones keep their number whatever the buffer is.
+/// Named corners in buffers of every size. A damaged one is refused with its number whatever the buffer is.
 pub fn named(comparison: &mut Comparison) {
     comparison.begin("corners of tokens, every buffer");
     token_corners().for_each(|text| comparison.every_token_room(text.as_bytes(), 0));
@@ -98,7 +98,7 @@ pub fn placed(comparison: &mut Comparison) {
     }
 }
 
-/// One piece more than a theme says where there is time.
+/// If the run is long, one piece more than a theme says.
 pub fn exhaustive(comparison: &mut Comparison, long: bool) {
     for theme in THEMES {
         comparison.begin(theme.name);
@@ -128,7 +128,7 @@ const NAMES: &[&str] = &[
     "abcdE", "é", "Aé", "éA", "Abé", "yaho", "Yaho", "yahooo", "yahoos", "yahou", "éahoo",
 ];
 
-/// Every text of seven of the eleven characters that has some beginning of two.
+/// Every text of seven of the eleven characters that starts with two random ones.
 pub fn seven(comparison: &mut Comparison, random: &mut Random) {
     comparison.begin("seven of the eleven characters");
     let mut beginning = [*random.one_of(ELEVEN), *random.one_of(ELEVEN)].concat().into_bytes();

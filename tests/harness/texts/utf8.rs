@@ -13,7 +13,7 @@ const FIRST: &[u8] = &[
 const SECOND: &[u8] = &[0x00, 0x7f, 0x80, 0x8f, 0x90, 0x9f, 0xa0, 0xbf, 0xc0, 0xff];
 const LATER: &[u8] = &[0x00, 0x7f, 0x80, 0xbf, 0xc0, 0xff];
 
-/// What a character stands among: one to four bytes each.
+/// The neighbours of a character: one to four bytes each.
 const FILLERS: &[&str] = &["a", "é", "€", "𐍈"];
 
 const MIXES: &[&str] = &[
