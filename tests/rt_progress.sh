@@ -28,7 +28,7 @@ for crate in $crates; do
     [ -e "target/stamp/$crate" ] || unproved=$((unproved + 1))
 done
 if [ "$unproved" -gt 0 ] && [ "$unproved" -eq "$total" ]; then
-    echo "rt $*: proving $total crates; the first time takes minutes (about 4 on two cores)" >&2
+    echo "rt $*: proving $total crates; the first time takes minutes (3 to 4 on two cores)" >&2
 elif [ "$unproved" -gt 0 ]; then
     echo "rt $*: proving $unproved of $total crates" >&2
 fi
