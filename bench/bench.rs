@@ -5,30 +5,18 @@
 //!
 //! Safety of the calls: each gets a text, and some get buffers, that live through the call and overlap nothing.
 
-#[allow(dead_code)]
-#[path = "../tests/answers.rs"]
-mod answers;
 mod call_rows;
 #[allow(dead_code)]
-#[path = "../tests/howhakiru.rs"]
+#[path = "../tests/harness/expected/mod.rs"]
+mod expected;
+#[allow(dead_code)]
+#[path = "../tests/harness/howhakiru.rs"]
 mod howhakiru;
 mod inputs;
-#[allow(dead_code)]
-#[path = "../tests/linear.rs"]
-mod linear;
 mod number_rows;
-#[allow(dead_code)]
-#[path = "../tests/readings.rs"]
-mod readings;
-#[allow(dead_code)]
-#[path = "../tests/rows.rs"]
-mod rows;
 mod shape_rows;
 mod timing;
 mod token_rows;
-#[allow(dead_code)]
-#[path = "../tests/tokens.rs"]
-mod tokens;
 
 /// One row of a table, in nanoseconds a call.
 pub struct Row {

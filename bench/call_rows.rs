@@ -6,9 +6,9 @@ use std::str::from_utf8;
 
 use reference::text;
 
+use crate::expected::rows;
 use crate::howhakiru;
 use crate::inputs::{repeated, KIB};
-use crate::rows;
 use crate::timing::{compared, in_turn};
 use crate::Row;
 
@@ -79,7 +79,7 @@ pub fn rows() -> Vec<Row> {
     rows
 }
 
-/// A table of ours at three sizes, each twice the one before.
+/// A table of our times at three sizes, each twice the one before.
 pub fn doubling() {
     println!("| Call | Sheet | 16 KiB, ns | 32 KiB | 64 KiB | 64 to 16 KiB |");
     println!("|---|---|---:|---:|---:|---:|");

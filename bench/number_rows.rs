@@ -3,9 +3,9 @@
 use std::hint::black_box;
 use std::str::from_utf8;
 
+use crate::expected::readings::READINGS;
 use crate::howhakiru;
 use crate::inputs::{repeated, KIB};
-use crate::readings::READINGS;
 use crate::timing::{compared, in_turn};
 use crate::Row;
 
@@ -22,13 +22,13 @@ const SHORT: &[(&str, &str)] = &[
     ("year", "2005"), ("digits", "5550123"), ("real", "-1.50"), ("real", "6.02e+23"), ("letters", "U.S.A."), (ROMAN_VALUE, "MCMLXXIV"),
 ];
 
-/// Readers whose time is linear in the Rust too.
+/// Readings whose time is linear in the Rust too.
 const LONG: &[(&str, &str)] = &[("digits", "7"), ("cardinal", "7"), ("letters", "Zurich "), ("letters", "aé€𐍈")];
 
 /// Read in buffers of the exact size too, so that ours measures before it writes.
 const EXACT: &[(&str, &str, usize)] = &[("cardinal", "123456", 6), ("cardinal", "777777777777", 12), ("digits", "7", 64 * KIB)];
 
-/// A reading, and what its text repeats. The Rust's year, real and roman_value are quadratic, so all are timed at 8 KiB alone.
+/// A reading, and what its text repeats. The Rust's year, real and roman_value are quadratic, so the Rust is timed at 8 KiB only.
 #[rustfmt::skip]
 const DOUBLED: &[(&str, &str)] = &[
     ("digits", "7"), ("cardinal", "7"), ("letters", "Zurich "), ("year", "77"), ("real", "-1.5e"), ("real", "-"), (ROMAN_VALUE, "MDCLXVI"),
@@ -49,7 +49,7 @@ pub fn rows() -> Vec<Row> {
     rows
 }
 
-/// A table of ours at four sizes, each twice the one before, and of the Rust at the smallest.
+/// A table of our times at four sizes, each twice the one before, and of the Rust's at the smallest.
 pub fn doubling() {
     println!("| Call | Text | 8 KiB, ns | 16 KiB | 32 KiB | 64 KiB | 64 to 8 KiB | Rust at 8 KiB, ns |");
     println!("|---|---|---:|---:|---:|---:|---:|---:|");

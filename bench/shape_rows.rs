@@ -70,7 +70,7 @@ fn n_digits(input: &Input) -> (f64, f64) {
     )
 }
 
-/// The answers are compared by the meridiem's place, with 1 added where there is one.
+/// The answers are compared by the meridiem's place, with 1 added if there is one.
 fn split_time_meridiem(input: &Input) -> (f64, f64) {
     compared(
         input.name,

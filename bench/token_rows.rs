@@ -7,10 +7,10 @@ use std::str::from_utf8;
 
 use reference::text::{self, SentenceBuilder, Token};
 
+use crate::expected::tokens::TOKEN_BYTES;
 use crate::howhakiru;
 use crate::inputs::{repeated, KIB};
 use crate::timing::{compared, in_turn};
-use crate::tokens::TOKEN_BYTES;
 use crate::Row;
 
 /// A kind of sheet, and what it repeats.
@@ -38,7 +38,7 @@ const SIZES: [usize; 3] = [16 * KIB, 32 * KIB, LONGEST];
 
 type Call = fn(&mut Buffers, &[u8]) -> usize;
 
-/// Ours by what is asked for; the Rust's is `tokenize` each time.
+/// Our calls. The Rust's side is `tokenize` for each of them.
 const CALLS: [(&str, Call); 3] =
     [("tokenize", Buffers::tokenize), ("sentences", Buffers::sentences), ("tokenize, then sentences", Buffers::both)];
 
@@ -105,7 +105,7 @@ fn chosen(kinds: &[&str]) -> Vec<(&'static str, Vec<u8>)> {
     sheets.map(|&(sheet, piece)| (sheet, repeated(piece, LONGEST))).collect()
 }
 
-/// A table of ours at three sizes, each twice the one before.
+/// A table of our times at three sizes, each twice the one before.
 pub fn doubling() {
     println!("| Call | Sheet | 16 KiB, ns | 32 KiB | 64 KiB | 64 to 16 KiB |");
     println!("|---|---|---:|---:|---:|---:|");
@@ -166,7 +166,7 @@ fn ours_in_steps(tokens: &[Parts]) -> usize {
     breaks
 }
 
-/// Makes no token: those of a sentence that comes back go to the end of the queue, and so all of them, in their order.
+/// Makes no token anew: the tokens of each finished sentence go back to the end of the queue, so the queue is the same after it.
 fn rust_in_steps(tokens: &mut VecDeque<Token>) -> usize {
     let mut builder = SentenceBuilder::default();
     let mut breaks = 0;

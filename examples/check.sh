@@ -42,8 +42,3 @@ says '^refused: the sheet is not UTF-8$' "$voice_unit" "$sheet"
 printf 'a %04097d 5mm' 0 >"$sheet"
 says '^   1 refused: .* too long to be called$' "$voice_unit" "$sheet"
 says '^   2 - five millimeters$' "$voice_unit" "$sheet"
-
-# The quick start of README.md works as it stands there.
-sed -n "/cat >quick.c/,/^    END/p" README.md | sed '1d;$d;s/^    //' >target/examples/quick.c
-gcc -Iinclude target/examples/quick.c target/staticlib/libhowhakiru.a -o target/examples/quick
-target/examples/quick | diff crates/callsheet/stdout -

@@ -1,4 +1,4 @@
-/* Says of each name what the voice unit's reader makes of it, and reads it aloud where it is a number; takes a sheet apart into
+/* Says of each name what the voice unit's reader makes of it, and reads it aloud if it is a number; takes a sheet apart into
  * its tokens and sentences.
  *
  * take_apart NAME..
@@ -86,7 +86,7 @@ static void print_part(const char *label, const uint8_t *start, size_t len)
     printf("\n");
 }
 
-/* The words are parts of the store; the table tells where each starts and how long it is. */
+/* The words are parts of the store; the table says where each starts and how long it is. */
 static void print_words(const char *label, reading *read, const uint8_t *text, size_t len)
 {
     uint8_t store[HWK_WORDS_STORE_MOST(CALLED_MOST)], table[HWK_WORDS_TABLE_MOST(CALLED_MOST)];
@@ -182,7 +182,7 @@ static const uint8_t *part(size_t i, size_t which) { return sheet + hwk_token_at
 static size_t part_len(size_t i, size_t which) { return hwk_token_len(tokens, i, which); }
 static void write_part(size_t i, size_t which) { fwrite(part(i, which), 1, part_len(i, which), stdout); }
 
-/* One line for each token: + where a sentence starts, else -; then the name, with its marks outside of the bars. */
+/* One line for each token: + if it starts a sentence, else -; then the name, with its marks outside of the bars. */
 static void print_tokens(size_t count)
 {
     size_t i;

@@ -34,7 +34,7 @@ static int is_clear(size_t number)
     return hwk_is_clear(sheet + hwk_token_at(tokens, number, HWK_NAME), hwk_token_len(tokens, number, HWK_NAME)).yes;
 }
 
-/* Speaks one entry: its number, its line, and a word of warning where another entry may sound the same. */
+/* Speaks one entry: its number, its line, and a word of warning if another entry may sound the same. */
 static uint8_t speak(size_t len, size_t number)
 {
     hwk_entry called = hwk_call_entry(sheet, len, number, line, sizeof line);

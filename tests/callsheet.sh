@@ -3,11 +3,8 @@
 set -euo pipefail
 cd "$(dirname "$0")/.."
 
+tests/rt_progress.sh check callsheet
 mkdir -p target/callsheet
-rt check callsheet >target/callsheet/log || {
-    tail -n 20 target/callsheet/log
-    exit 1
-}
 program=target/bin/callsheet
 
 # check WHAT WANTED: standard input is the sheet, printf's format WANTED what is written, to the byte.

@@ -1,8 +1,8 @@
 #!/usr/bin/env bash
 # Compares the static library with the Rust reference.
 #   tests/compare.sh [--long] [SECONDS [SEED]]
-# 60 seconds unless told otherwise; --long takes 20 minutes. Without a seed the clock gives one.
-# Without the reference source there is nothing to compare; with CI set that is a failure.
+# It runs for 60 seconds if no SECONDS are given, and for 20 minutes with --long. Without a SEED the clock gives one.
+# Without the reference source there is nothing to compare. If CI is set, that is a failure.
 set -euo pipefail
 cd "$(dirname "$0")/.."
 
@@ -25,12 +25,12 @@ fi
 
 tests/library.sh
 mkdir -p target/compare
-rustc --edition 2021 -C opt-level=3 -o target/compare/harness tests/harness.rs \
+rustc --edition 2021 -C opt-level=3 -o target/compare/harness tests/harness/harness.rs \
     -L target/reference --extern reference=target/reference/libreference.rlib \
     -L target/staticlib -l static=howhakiru
 
 target/compare/harness "$seconds" "$seed" || status=$?
 if [ "$status" -gt 128 ]; then
-    echo "compare: ended by signal $((status - 128)), as where a call reads or writes outside of what it was lent"
+    echo "compare: ended by signal $((status - 128)); a call that reads or writes outside of what it was lent ends so"
 fi
 exit "$status"

@@ -15,6 +15,6 @@ tests/library.sh
 mkdir -p target/header
 for program in constants tokens; do
     gcc -std=c99 "${strict[@]}" -g -fsanitize=address,undefined -fno-sanitize-recover=all -Iinclude \
-        -o "target/header/$program" "tests/$program.c" target/staticlib/libhowhakiru.a
+        -o "target/header/$program" "tests/c/$program.c" target/staticlib/libhowhakiru.a
     "target/header/$program"
 done

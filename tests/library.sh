@@ -1,13 +1,11 @@
 #!/usr/bin/env bash
-# Builds the static library where it is missing or older than a source; says something only where that fails.
+# Builds the static library if it is missing or older than a source; else says nothing.
 set -euo pipefail
 cd "$(dirname "$0")/.."
 
 library=target/staticlib/libhowhakiru.a
 if [ ! -e "$library" ] || [ -n "$(find crates.txt crates -newer "$library" -type f | head -n 1)" ]; then
-    mkdir -p target
-    rt staticlib howhakiru >target/library.log 2>&1 || {
-        tail -n 40 target/library.log
-        exit 1
-    }
+    # rt staticlib proves one crate after another, rt check several at a time. These three stand on all others but howhakiru.
+    tests/rt_progress.sh check numbers clear calls
+    tests/rt_progress.sh staticlib howhakiru
 fi

@@ -8,7 +8,7 @@ cd "$(dirname "$0")/.."
 folder=${1:-target/recorded}
 tests/reference.sh
 mkdir -p target/compare "$folder"
-rustc --edition 2021 -C opt-level=1 -o target/compare/record tests/record.rs \
+rustc --edition 2021 -C opt-level=1 -o target/compare/record tests/harness/record.rs \
     -L target/reference --extern reference=target/reference/libreference.rlib
 target/compare/record "$folder"
 

@@ -1,5 +1,5 @@
 #!/usr/bin/env bash
-# Records anew and holds the repository's recorded answers to it, byte for byte.
+# Records the Rust's answers anew. The recorded answers in the repository must be the same, byte for byte.
 set -euo pipefail
 cd "$(dirname "$0")/.."
 

@@ -5,5 +5,5 @@ cd "$(dirname "$0")/.."
 
 tests/library.sh
 mkdir -p target/stack
-gcc -std=c99 -pedantic -Wall -Wextra -Werror -O1 -Wl,-z,now -Iinclude -o target/stack/stack tests/stack.c target/staticlib/libhowhakiru.a
+gcc -std=c99 -pedantic -Wall -Wextra -Werror -O1 -Wl,-z,now -Iinclude -o target/stack/stack tests/c/stack.c target/staticlib/libhowhakiru.a
 target/stack/stack
