@@ -32,6 +32,8 @@ callExamples =
     calls "+ bar\n- twelve\n- at\n- nine thirty\n+ rack\n- five millimeters\n- twenty first\n"
     ∷ "Yahoo! is\nNote: me? a\n\nb Abcd. Who Dr. Who Abc.  Who Yahoo!\n\nis"
     calls "+ yahoo\n- is\n- note\n+ me\n+ a\n+ b\n- abcd\n+ who\n- dr\n- who\n- abc\n+ who\n- yahoo\n+ is\n"
+    ∷ "end. then Stop! now yahoo? is Yahoo! Is ABCD. Who abc. Who \" 5"
+    calls "+ end\n- then\n- stop\n+ now\n- yahoo\n+ is\n- yahoo\n+ is\n- abcd\n- who\n- abc\n+ who\n-\n- five\n"
     ∷ "A.b 1,200 9:00 9:00PM 007 1.5E3 -2 5% 5kg 3lbs"
     calls "+ _a b\n- one thousand two hundred\n- nine\n- nine p m\n- zero zero seven\n- one point five e three\n- minus two\n- five per cent\n- five kilograms\n- three pounds\n"
     ∷ []
