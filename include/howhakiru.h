@@ -7,8 +7,9 @@
  *     uint8_t line[HWK_CALL_MOST(32)];
  *     for (size_t i = 0;; i++) {
  *         hwk_entry called = hwk_call_entry((const uint8_t *)sheet, strlen(sheet), i, line, sizeof line);
- *         if (called.refusal != HWK_ACCEPTED) break;     // HWK_NO_SUCH_ENTRY after the last one
- *         fwrite(line, 1, called.bytes, stdout);         // "+ bar", "- twelve", "- at", "- nine thirty", ..
+ *         if (called.refusal == HWK_NO_SUCH_ENTRY) break;            // after the last one
+ *         if (called.refusal != HWK_ACCEPTED) return called.refusal; // the sheet or this entry can't be called
+ *         fwrite(line, 1, called.bytes, stdout);                     // "+ bar", "- twelve", "- at", "- nine thirty", ..
  *     }
  *
  *     const char *name = "9:30";
@@ -157,7 +158,7 @@ typedef struct hwk_part {
     size_t len;
 } hwk_part;
 
-/* "5kg": digits and commas, and after the last digit one of the 22 unit abbreviations, in the very case that stands here:
+/* "5kg": digits and commas, and after the last digit one of the 22 unit abbreviations. Case counts:
  *   LB LBS lb lbs   ft FT   kg   km   cm   mm   ml   oz   hz Hz HZ   KHz   MHz   GHz   KB   GB   MB   TB
  * The part is the abbreviation; the number is the bytes before it. Writes nothing.
  * Tests: HWK_TEXT_TOO_LONG, HWK_NOT_UTF8. */
@@ -178,7 +179,7 @@ hwk_word hwk_unit_word(const uint8_t *unit, size_t unit_len, uint8_t *store, siz
 
 /* Number words
  * ------------
- * Six calls read a text aloud, as words. Each reads `s`, `s_len` bytes, and writes two buffers. The words stand end to end,
+ * Six calls turn a text into words. Each reads `s`, `s_len` bytes, and writes two buffers. The words stand end to end,
  * with nothing between and no NUL, at the front of `store`. `table` has 8 bytes for each word, in the order of the words:
  * where the word starts in the store, then how many bytes it has, each number in four bytes, the lowest first. Read it with
  * hwk_word_at and hwk_word_len below.
@@ -217,13 +218,13 @@ static inline size_t hwk_word_len(const uint8_t *table, size_t i) { return hwk_t
  * digits has no words. */
 hwk_words hwk_cardinal(const uint8_t *s, size_t s_len, uint8_t *store, size_t store_len, uint8_t *table, size_t table_len);
 
-/* The same words with the last one as an ordinal: "21" is twenty first, "12" twelfth, "1,000" one thousandth. No words become
- * one: "", "00" and "th" are zeroth. The suffix of "21st" has no digits, so it may stay. */
+/* The same words with the last one as an ordinal: "21" is twenty first, "12" twelfth, "1,000" one thousandth. If the
+ * number has no words, the answer is zeroth: so it is for "", "00" and "th". The suffix of "21st" has no digits, so it may stay. */
 hwk_words hwk_ordinal(const uint8_t *s, size_t s_len, uint8_t *store, size_t store_len, uint8_t *table, size_t table_len);
 
 /* A year, or a number in pairs of digits. Only the digits count. "1984" is nineteen eighty four, "07" oh seven, "00" zero zero.
- * An odd count of digits starts with a single one: "747" is seven forty seven. But if three digits are left, the first not 0
- * and the others 00, they are hundreds: "500" is five hundred. The last four digits are read as a cardinal if the two in
+ * An odd count of digits starts with a single one: "747" is seven forty seven. But exactly three digits, the first not 0 and
+ * the others 00, are hundreds: "500" is five hundred. The last four digits are read as a cardinal if the two in
  * their middle are 00 ("2005" is two thousand five, "0000" zero thousand). Else they are read in hundreds if the last two are
  * 00 ("1900" is nineteen hundred). In a pair before the last one a 0 in front has no word, and 00 has none: "190705" is
  * nineteen seven oh five, "000012" twelve. */
@@ -283,8 +284,8 @@ typedef struct hwk_tokens {
     size_t tokens;   /* how many tokens the text has */
 } hwk_tokens;
 
-/* Room for the tokens of every text of up to `len` bytes, in a table and in a buffer of sentence starts. A call that is lent
- * so much writes at once; one that is lent less counts the tokens first. */
+/* Room for the tokens of every text of up to `len` bytes, in a table and in a buffer of sentence starts. This is proved. A call
+ * that is lent so much writes at once; one that is lent less counts the tokens first. */
 #define HWK_TOKENS_TABLE_MOST(len) (HWK_TOKEN_BYTES * ((size_t)(len) / 2 + 1))
 #define HWK_TOKENS_STARTS_MOST(len) ((size_t)(len) / 2 + 1)
 
@@ -383,8 +384,9 @@ typedef struct hwk_entry {
 #define HWK_PLUS 1
 #define HWK_MINUS 2
 
-/* Room for the call of every sheet of up to `len` bytes, and so for every line of it. This is proved. A call that is lent so much
- * writes at once; one that is lent less measures first. */
+/* Room for the call of every sheet of up to `len` bytes, and for the line of every name of up to `len` bytes. This is proved. So
+ * HWK_CALL_MOST(HWK_NAME_LIMIT) is room for every line. A call that is lent so much writes at once; one that is lent less
+ * measures first. */
 #define HWK_CALL_MOST(len) (11 * (size_t)(len) + 11)
 
 /* Calls entry `number` of the sheet: writes its line to the front of `out`. The sheet is walked from its start, so an entry far
@@ -408,7 +410,8 @@ hwk_sheet hwk_call_sheet(const uint8_t *s, size_t s_len, uint8_t *out, size_t ou
 
 /* Is the name a clear one? Take two sheets that hwk_call_sheet accepts and that have clear names alone. They have the same call
  * sheet exactly if they have equally many entries, the same names in the same order, and sentences that start at the same
- * entries. This is proved. "Plain" digits are "0", or digits with no 0 in front. Clear names are:
+ * entries. This is proved. It is about the words as they are written: "2" and "to" are both clear, though two and to sound
+ * alike. "Plain" digits are "0", or digits with no 0 in front. Clear names are:
  *   - one or more digits
  *   - plain digits; there may be a minus before them, a point with digits behind them, and at the end an e with plain digits,
  *     which may have a + or a - before them: "-1.50e+3"

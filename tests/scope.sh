@@ -15,10 +15,10 @@ named() {
     fi
 }
 
-# A reference is an indented line: its kind, a place, and names with commas between; a star behind a name is a remark.
+# A reference is an indented line: its kind, a place, and names with commas between.
 count=0
 while read -r kind place names; do
-    for name in $(tr -d ',*' <<<"$names"); do
+    for name in $(tr -d , <<<"$names"); do
         count=$((count + 1))
         case $kind in
         definition)

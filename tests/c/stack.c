@@ -11,6 +11,7 @@
 #define PAINT 0xC3
 #define MOST 4096             /* the header's bounds: on every call but the two that call entries, */
 #define CALL_MOST 8192        /* on those two, on sheets without a name that ends in %, */
+#define LEVEL_MOST 80         /* what each % at an entry's end adds, */
 #define PERCENT_MOST (512 << 10) /* and on all sheets */
 
 typedef hwk_verdict verdict(const uint8_t *s, size_t s_len);
@@ -130,7 +131,7 @@ static size_t within(const char *what, size_t bytes, size_t most)
 
 int main(void)
 {
-    size_t most = 0, entries = 0, i;
+    size_t most = 0, entries = 0, hundred, percents, i;
 
     for (i = 0; i < sizeof names / sizeof names[0]; i++) {
         text = (const uint8_t *)names[i];
@@ -145,8 +146,13 @@ int main(void)
         repeat(repeated[i], HWK_NAME_LIMIT);
         entries = larger(entries, most_of_entries());
     }
+    repeat("%", 100);
+    hundred = most_of_entries();
     repeat("%", HWK_NAME_LIMIT);
+    percents = most_of_entries();
     return !(within("entries without % at their end need", entries, CALL_MOST)
-             & within("an entry of 4,096 % needs", most_of_entries(), PERCENT_MOST)
+             & within("an entry of 100 % needs", hundred, CALL_MOST + 100 * LEVEL_MOST)
+             & within("an entry of 4,096 % needs", percents, CALL_MOST + HWK_NAME_LIMIT * LEVEL_MOST)
+             & (percents < PERCENT_MOST) & (percents - hundred <= (HWK_NAME_LIMIT - 100) * LEVEL_MOST)
              & within("the other calls need", most, MOST));
 }
