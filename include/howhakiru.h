@@ -361,7 +361,7 @@ hwk_step hwk_push(hwk_state state, const uint8_t *whitespace, size_t whitespace_
  * starts a sentence, else "-"; then a space and the word for each word; then LF. The first row that takes the name gives its
  * words:
  *    1  an empty name                     no words
- *    2  hwk_is_dotted_abbrev              hwk_letters of the name without its points: "U.S." is u s
+ *    2  hwk_is_dotted_abbrev              hwk_letters of the name without its points: "U.S" is u s
  *    3  hwk_is_comma_int                  hwk_cardinal
  *    4  hwk_is_time                       hwk_cardinal of the hour; then hwk_year of the minute, unless the minute is "00"
  *    5  hwk_split_time_meridiem           the same, then hwk_letters of the meridiem: "9:30am" is nine thirty _a m
