@@ -10,10 +10,10 @@
 /* The byte over the limit is for sheets that are too long, so that they are refused. */
 static uint8_t sheet[HWK_TEXT_LIMIT + 1];
 
-/* No line is longer than the call of a sheet that is one name. */
+/* Room for the line of every entry. */
 static uint8_t line[HWK_CALL_MOST(HWK_NAME_LIMIT)];
 
-/* The names, to say of each entry whether it is sure to be told apart by ear. */
+/* The names, to say of each entry whether its name is clear (see hwk_is_clear). */
 static uint8_t tokens[HWK_TOKENS_TABLE_MOST(HWK_TEXT_LIMIT)];
 
 /* The header's refusals in words. */
@@ -34,7 +34,7 @@ static int is_clear(size_t number)
     return hwk_is_clear(sheet + hwk_token_at(tokens, number, HWK_NAME), hwk_token_len(tokens, number, HWK_NAME)).yes;
 }
 
-/* Speaks one entry: its number, its line, and a word of warning if another entry may sound the same. */
+/* Speaks one entry: its number, its line, and a note if its name is not clear. */
 static uint8_t speak(size_t len, size_t number)
 {
     hwk_entry called = hwk_call_entry(sheet, len, number, line, sizeof line);

@@ -1,4 +1,4 @@
-/* howhakiru: the reader of the voice unit, for C.
+/* howhakiru: the reader of the voice unit, for C99 and C++11.
  *
  * `make` builds target/staticlib/libhowhakiru.a for x86-64 Linux, and `make install` puts it, this header and howhakiru.pc in
  * their places; `pkg-config --cflags --libs howhakiru` answers the flags. Of the C library it needs memcpy alone.
@@ -8,7 +8,7 @@
  *     for (size_t i = 0;; i++) {
  *         hwk_entry called = hwk_call_entry((const uint8_t *)sheet, strlen(sheet), i, line, sizeof line);
  *         if (called.refusal == HWK_NO_SUCH_ENTRY) break;            // after the last one
- *         if (called.refusal != HWK_ACCEPTED) return called.refusal; // the sheet or this entry can't be called
+ *         if (called.refusal != HWK_ACCEPTED) return called.refusal; // after HWK_NAME_TOO_LONG one may go on instead
  *         fwrite(line, 1, called.bytes, stdout);                     // "+ bar", "- twelve", "- at", "- nine thirty", ..
  *     }
  *
@@ -45,8 +45,8 @@
  * Nothing is allocated. Only two things recurse: a number of up to 12 digits is read by a function that calls itself on fewer
  * digits, five deep at most, and an entry that ends in % by two functions that call each other, once for each % at its end. So
  * hwk_call_entry and hwk_call_sheet need less than 8 KiB of stack and 80 bytes more for each % at an entry's end, in all less
- * than 512 KiB. Every other call needs less than 4 KiB. If a program is linked dynamically and bound lazily, its first call of
- * memcpy, ours or another, also needs the dynamic linker's own few KiB.
+ * than 512 KiB. Every other call needs less than 4 KiB. These bounds are measured, not proved. If a program is linked
+ * dynamically and bound lazily, its first call of memcpy, ours or another, also needs the dynamic linker's own few KiB.
  */
 #ifndef HOWHAKIRU_H
 #define HOWHAKIRU_H
@@ -58,7 +58,7 @@
 extern "C" {
 #endif
 
-/* The most bytes of a text. */
+/* The most bytes of a text. A program that reads a sheet into a buffer of one byte more finds out if it is too long. */
 #define HWK_TEXT_LIMIT 65536
 
 /* The most bytes of a name that is called. */
@@ -197,7 +197,7 @@ typedef struct hwk_words {
 
 /* Room for the words of every text of up to `len` bytes, whichever of the six calls reads it. This is proved; most readings need
  * far less. A call that is lent so much writes at once. One that is lent less measures the words first, which takes about as
- * long again, and is accepted if the words fit: ten sevens are 16 words of together 99 bytes. */
+ * long again, and is accepted if the words fit: hwk_cardinal of ten sevens is 16 words of together 99 bytes. */
 #define HWK_WORDS_STORE_MOST(len) (11 * (size_t)(len) + 11)
 #define HWK_WORDS_TABLE_MOST(len) (16 * (size_t)(len) + 16)
 
@@ -390,7 +390,8 @@ typedef struct hwk_entry {
 #define HWK_CALL_MOST(len) (11 * (size_t)(len) + 11)
 
 /* Calls entry `number` of the sheet: writes its line to the front of `out`. The sheet is walked from its start, so an entry far
- * behind costs more. To call all entries at once, call the sheet.
+ * behind costs more, and each call tests the whole sheet again. To call all entries at once, call the sheet. After
+ * HWK_NAME_TOO_LONG the other entries can still be called.
  * Tests: HWK_TEXT_TOO_LONG, HWK_NOT_UTF8, HWK_NO_SUCH_ENTRY, HWK_NAME_TOO_LONG if this entry's name is too long (other names do
  * not count), HWK_BUFFER_TOO_SHORT if `out` is shorter than the line. */
 hwk_entry hwk_call_entry(const uint8_t *s, size_t s_len, size_t number, uint8_t *out, size_t out_len);
@@ -420,10 +421,10 @@ hwk_sheet hwk_call_sheet(const uint8_t *s, size_t s_len, uint8_t *out, size_t ou
  *   - plain digits and their right suffix: "1st", "11th", "22nd"
  *   - plain digits and one of  LB ft kg km cm mm ml oz hz KHz MHz GHz KB GB MB TB
  *   - two or more capitals with single points between: "A.B"
- *   - two or more letters a to z, other than the words of the number tables: "rack", "to", "hundred", but not "one", "first",
- *     "thousand"
- * A name that is not clear may sound like one that is: "9:00" like "9", "5lb" like "5LB". Reads `s`, a name and not a sheet, and
- * writes nothing.
+ *   - two or more letters a to z, but not zero to nineteen, twenty, thirty, to ninety, their ordinal forms, thousand, million or
+ *     billion: "rack", "to", "hundred", but not "one", "first", "thousand"
+ * A name that is not clear may have the same words as one that is: "9:00" as "9", "5lb" as "5LB". Reads `s`, a name and not a
+ * sheet, and writes nothing.
  * Tests: HWK_TEXT_TOO_LONG, HWK_NOT_UTF8. */
 hwk_verdict hwk_is_clear(const uint8_t *s, size_t s_len);
 

@@ -30,7 +30,7 @@ check 'a character cut at 4,096' 'refused 2\n' < <(printf '%04095d\303\251' 0 | 
 # A sheet that comes in pieces is read whole.
 check 'pieces' '+ one\n- two\n' < <(printf '1'; sleep 0.2; printf ' 2')
 
-# The longest call sheets there are: no sheet of 4,096 bytes is refused for room.
+# Long call sheets: no sheet of 4,096 bytes is refused for room.
 for piece in '777777777777 ' '%' '777777777777e' '7 ' '-7777777777 '; do
     yes -- "$piece" | tr -d '\n' | head -c 4096 >target/callsheet/in || true
     "$program" <target/callsheet/in | grep -q '^[+-]'

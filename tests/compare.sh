@@ -1,7 +1,8 @@
 #!/usr/bin/env bash
 # Compares the static library with the Rust reference.
 #   tests/compare.sh [--long] [SECONDS [SEED]]
-# It runs for 60 seconds if no SECONDS are given, and for 20 minutes with --long. Without a SEED the clock gives one.
+# It runs for 60 seconds if no SECONDS are given; --long stands for 1200. From 600 seconds on the fixed groups of texts are larger.
+# Without a SEED the clock gives one.
 # Without the reference source there is nothing to compare. If CI is set, that is a failure.
 set -euo pipefail
 cd "$(dirname "$0")/.."

@@ -1,10 +1,10 @@
 #!/usr/bin/env bash
 # Installs into a fresh folder. The quick start of README.md must build from there with the flags that pkg-config answers, as C99
-# and as C++, and write document 01's call sheet.
+# and as C++, and write what crates/callsheet/stdout has.
 set -euo pipefail
 cd "$(dirname "$0")/.."
 
-# What the make that runs the gate was given is not for the ones here.
+# The makes below must not take over the settings of a make that runs the gate.
 unset MAKEFLAGS MAKEOVERRIDES
 
 room=$PWD/target/install

@@ -1,5 +1,5 @@
 #!/usr/bin/env bash
-# The header's bounds on the stack must hold, measured on painted stacks.
+# The header's bounds on the stack must hold. They are measured on stacks that are filled with one byte before each call.
 set -euo pipefail
 cd "$(dirname "$0")/.."
 

@@ -1,4 +1,5 @@
-/* What the header says of stack: each call runs on a painted stack, and the bytes that it touched are counted.
+/* What the header says of stack: each call runs on a stack that is filled with one byte before, and the bytes that it
+ * changed are counted.
  * Link with -z now: else the first call of memcpy also counts the stack that the dynamic linker takes to find it. */
 #define _XOPEN_SOURCE 600
 #include <assert.h>

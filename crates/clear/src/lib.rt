@@ -1,4 +1,4 @@
-// Clear names: which entries are sure to be told apart by ear.
+// Clear names: sheets that have such names alone are told apart by their call sheets.
 pub mod tests;
 
 use crate::tests::is_clear_name;

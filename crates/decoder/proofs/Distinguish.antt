@@ -85,6 +85,10 @@ entries-from s t h =
     ext-getD false _ _ (marks-length s ∙ h .same-count ∙ sym (marks-length t)) (λ k l. both-true _ _ (h .same-starts k)) in
     rw marks (entries-same (sentenceStarts (tokens t)) (tokens s) (tokens t) (h .same-names))
 
+-- sheets with the same entries have the same call sheet, whether their names are clear or not
+pub same-entries-same-call-sheet : (s t : List ℕ) → SameEntries s t → callSheet s ≡ callSheet t
+same-entries-same-call-sheet s t h = ap (λ (es : List SheetEntry). flatten (map lineOf es)) (entries-from s t h)
+
 -- two accepted sheets made only of clear entries have the same call sheet exactly when they have equally many entries, the same
 -- names in the same order, and sentences starting at the same entries. That they are accepted is part of the claim, but the proof
 -- does not need it
@@ -94,7 +98,7 @@ call-sheets-distinguish-sheets s t a b p q = (
   λ e. entries-same-parts s t
       (sym (sheet-decoded (entries s) (entries-separatorFree s) (entries-decoded _ _ p)) ∙ ap decodeSheet e
       ∙ sheet-decoded (entries t) (entries-separatorFree t) (entries-decoded _ _ q)),
-  λ h. ap (λ (es : List SheetEntry). flatten (map lineOf es)) (entries-from s t h),
+  same-entries-same-call-sheet s t,
 )
 
 -- "A sheet is accepted when calling it whole, with room for the result, isn't held back."

@@ -1,4 +1,4 @@
-//! Call sheets distinguish their sheets, on pairs: two sheets of clear entries have the same call sheet exactly when they have the
+//! Call sheets distinguish their sheets, on pairs: two sheets of clear entries have the same call sheet exactly if they have the
 //! same names and sentences that start at the same entries. Both call sheets are the library's.
 
 use std::collections::HashMap;
