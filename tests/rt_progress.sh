@@ -33,13 +33,15 @@ elif [ "$unproved" -gt 0 ]; then
     echo "rt $*: proving $unproved of $total crates" >&2
 fi
 
-# show <what rt writes: a line for each crate that was proved just now.
+# show <what rt writes: a line for each crate that was proved just now, and one for a library that was written.
 show() {
-    local count=0 line proved='^rt: ([a-z0-9_]+) proved \((.*)\)$'
+    local count=0 line proved='^rt: ([a-z0-9_]+) proved \((.*)\)$' written='^rt: (target/[^ ]+) has '
     while IFS= read -r line; do
         if [[ $line =~ $proved ]]; then
             count=$((count + 1))
             [[ ${BASH_REMATCH[2]} == unchanged* ]] || echo "proved $count of $total: ${BASH_REMATCH[1]}, ${BASH_REMATCH[2]}" >&2
+        elif [[ $line =~ $written ]]; then
+            echo "wrote ${BASH_REMATCH[1]}" >&2
         fi
     done
 }
