@@ -1,6 +1,6 @@
 #!/usr/bin/env bash
 # Runs rt and shows on standard error how far it is: tests/rt_progress.sh check NAME.., or staticlib NAME
-# A crate that is proved already is counted and not shown, so nothing is said if there is nothing to prove.
+# A crate that is proved already is counted and not shown, so nothing is said if there is nothing to prove or to write.
 # All that rt writes goes to a log in target/. If rt fails, its last 40 lines are shown, and the status is rt's.
 set -euo pipefail
 cd "$(dirname "$0")/.."

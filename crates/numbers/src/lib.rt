@@ -98,7 +98,7 @@ fn too_short(interpretation: SayAs, s: &[u8], store: usize, table: usize) -> boo
     measured.exceeds(store, table)
 }
 
-// Writes the words of s to store and table. They are measured first, so that a refused call writes nothing.
+// Writes the words of s to store and table. They are measured first if the room is not ample, so that a refused call writes nothing.
 fn write_words(interpretation: SayAs, s: &[u8], store: &mut [u8], table: &mut [u8]) -> WordCounts
     ensures { λ r. ⌜ asWords r (now (store .exit)) (now (table .exit))
         ≡ wordsCall (now (s .entry)) (spelled (wordsAs interpretation (now (s .entry)))) (now (store .entry)) (now (table .entry)) ⌝ }
