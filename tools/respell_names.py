@@ -111,7 +111,7 @@ def turned(path, text, names):
 
     def token(m):
         t = m[0]
-        if t in names and (t not in ONLY_IN or re.search(rf"crates/({ONLY_IN[t]})/", path)):
+        if t in names and t not in lent and (t not in ONLY_IN or re.search(rf"crates/({ONLY_IN[t]})/", path)):
             met[t] = names[t]
             return names[t]
         if m.string[m.start() - 1 : m.start()] != "." and not line_now[0].lstrip().startswith(("--", "//")) and not (re.match(r"\s*(pub |ghost )*use ", line_now[0]) and m.string[m.end() : m.end() + 1] == "."):
@@ -119,6 +119,10 @@ def turned(path, text, names):
         return t
 
     line_now = [""]
+    # What the file takes from the toolchain's libraries keeps its spelling.
+    lent = set()
+    for m in re.finditer(r"use (?!Rattle\.(?!std\b))[^{;\n]*\{([^}]*)\}", text):
+        lent |= {w for it in m[1].split(",") for w in it.split()}
 
     def piece(line):
         line_now[0] = line

@@ -8,7 +8,7 @@ use native.Mathlib.Omega.{arith}
 use lib.Dec.{eqb, leb}
 use lib.ListN.{length, take, drop, get_or, length-append, length-drop, take-append-drop}
 use lib.Seq.{drop-cons, take_all, take-append_seam, drop-append_seam}
-use borrow.Author.Tests.{leb-true, leb-false, le-leb, lt-leb, eqb_true, eqb-false, ne_eqb, lt_ltb, le-ltb, ltb-true}
+use borrow.Author.Tests.{leb-true, leb-false, le-leb, lt-leb, eqb-true, eqb-false, ne_eqb, lt-ltb, le-ltb, ltb-true}
 use Rattle.lists.specs.Bytes.{Every}
 use Rattle.lists.specs.Classes.{ascii}
 use Rattle.lists.proofs.Bools.{or_true_elim}
@@ -68,7 +68,7 @@ char_encode : (c : ℕ) → Scalar c → (r : List ℕ) → char_len (encode c +
 unfolding sequence_len
 char_encode c s r =
     encode_elim (λ l. char_len (l ++ r) ≡ length l) c
-    (λ h. rw (lt_ltb c 0x80 (omega arith)))
+    (λ h. rw (lt-ltb c 0x80 (omega arith)))
     (λ h. rw (le-ltb (0xC0 + c / 64) 0x80 (omega arith), in_range_true 0xC2 0xDF (0xC0 + c / 64) (omega arith), tail_true c))
     (λ h. simp (le-ltb (0xE0 + c / 4096) 0x80 (omega arith), lt-leb (0xE0 + c / 4096) 0xDF (omega arith), and-false, encoded_3 s h, tail_true c))
     (λ h.
@@ -161,11 +161,11 @@ encoded_3 a b c h k =
     pair_elim false ((eqb a 0xE0, in_range 0xA0 0xBF b) ∷ (in_range 0xE1 0xEC a, utf8_tail b) ∷ (eqb a 0xED, in_range 0x80 0x9F b) ∷
     (in_range 0xEE 0xEF a, utf8_tail b) ∷ [])
     (λ e. absurd (false≢true e)) (
-      λ x y. low (omega (arith, eqb_true, bounds 0xA0 0xBF b y)),
+      λ x y. low (omega (arith, eqb-true, bounds 0xA0 0xBF b y)),
       (
         λ x y. low (omega (arith, bounds 0xE1 0xEC a x, bounds 0x80 0xBF b y)),
         (
-          λ x y. low (omega (arith, eqb_true, bounds 0x80 0x9F b y)),
+          λ x y. low (omega (arith, eqb-true, bounds 0x80 0x9F b y)),
           (λ x y. high (omega (arith, bounds 0xEE 0xEF a x, bounds 0x80 0xBF b y)), tt),
         ),
       ),
@@ -191,10 +191,10 @@ unfolding encode
 encoded_4 a b c d h k l =
     pair_elim false ((eqb a 0xF0, in_range 0x90 0xBF b) ∷ (in_range 0xF1 0xF3 a, utf8_tail b) ∷ (eqb a 0xF4, in_range 0x80 0x8F b) ∷ [])
     (λ e. absurd (false≢true e)) (
-      λ x y. some (omega (arith, eqb_true, bounds 0x90 0xBF b y)),
+      λ x y. some (omega (arith, eqb-true, bounds 0x90 0xBF b y)),
       (
         λ x y. some (omega (arith, bounds 0xF1 0xF3 a x, bounds 0x80 0xBF b y)),
-        (λ x y. some (omega (arith, eqb_true, bounds 0x80 0x8F b y)), tt),
+        (λ x y. some (omega (arith, eqb-true, bounds 0x80 0x8F b y)), tt),
       ),
     )
     h
@@ -282,7 +282,7 @@ EncodedText s = (cs : List ℕ) × Every Scalar cs × (s ≡ text_of cs)
 utf8_text : (s : List ℕ) → utf8 s ≡ true → EncodedText s
 unfolding utf8 utf8_step flatten
 utf8_text s = recur_induct (λ s t. t ≡ true → EncodedText s) false utf8_step (λ f s i.
-    cond_elim (λ t. t ≡ true → EncodedText s) (eqb (length s) 0) (λ e h. ([], tt, sym (take_all 0 s (omega (arith, eqb_true))))) (λ n.
+    cond_elim (λ t. t ≡ true → EncodedText s) (eqb (length s) 0) (λ e h. ([], tt, sym (take_all 0 s (omega (arith, eqb-true))))) (λ n.
     cond_elim (λ t. t ≡ true → EncodedText s) (eqb (char_len s) 0) (λ e h. absurd (false≢true h)) (λ m.
     let l : 0 < length s = omega (arith, eqb-false (length s) 0 n) in
     let k : length (drop (char_len s) s) < length s = simp length-drop (omega (arith, eqb-false (char_len s) 0 m)) in

@@ -5,7 +5,7 @@ use mathlib.Core.List.{List, [], ◌∷◌}
 use Prim.Native.Nat.{ℕ, ◌-◌, ◌≤◌, ◌<◌}
 use lib.Dec.{leb, ltb}
 use lib.ListN.{length, take, drop}
-use borrow.Author.Tests.{ltb-true, ltb-false, le-ltb, lt_ltb, le-leb, lt-leb}
+use borrow.Author.Tests.{ltb-true, ltb-false, le-ltb, lt-ltb, le-leb, lt-leb}
 use Rattle.admit.specs.Refusals.{Test, ◌when◌, text_limit, text_tests, text_refusal}
 use Rattle.admit.specs.declared.Refusal.TheVariants.{NoSuchEntry, NameTooLong, BufferTooShort}
 use Rattle.admit.proofs.Calls.{refused_first, passed_first}
@@ -32,7 +32,7 @@ module _ (e : SheetEntry) (old : List ℕ) where
   -- if the name is too long, the call is refused with 4
   pub name_long : name_limit < length e.name → {r : CalledEntry} → r ≡ refused_entry 4 → as_entry r old ≡ name_call e old
   unfolding name_call
-  name_long h q = rw (q, lt_ltb name_limit (length e.name) h)
+  name_long h q = rw (q, lt-ltb name_limit (length e.name) h)
 
   module _ (h : length e.name ≤ name_limit) where
     -- if the buffer is too short for the line, the call is refused with 5

@@ -9,7 +9,7 @@ use native.Mathlib.Omega.{arith}
 use lib.Dec.{ltb}
 use lib.ListN.{length, length-append}
 use lib.Seq.{sets}
-use borrow.Author.Tests.{ltb-false, le-ltb, lt_ltb}
+use borrow.Author.Tests.{ltb-false, le-ltb, lt-ltb}
 use Rattle.lists.specs.Bytes.{bytes, overwrite}
 use Rattle.lists.proofs.Sets.{sets_append, sets_front, le_or_lt}
 use Rattle.word_writer.specs.Writer.{usize_max, Writer, writer, put_byte, put_word, put_words}
@@ -143,7 +143,7 @@ module _ {b : List ℕ} {n : ℕ} {f : Writer → Writer} (w : Writes b n f) (wo
   measured_lines room h =
       let a = all_wrote.at in
       ⊎_elim (λ (l : length b ≤ room). le-ltb room p.at (omega arith) ∙ sym (le-ltb room (length b) l))
-      (λ (l : room < length b). lt_ltb room p.at (omega arith) ∙ sym (lt_ltb room (length b) l))
+      (λ (l : room < length b). lt-ltb room p.at (omega arith) ∙ sym (lt-ltb room (length b) l))
       (le_or_lt (length b) room)
 
   -- a buffer that is long enough holds them, and the cursor has their counts

@@ -7,7 +7,7 @@ use native.Mathlib.Nat.{add-zero}
 use native.Mathlib.Omega.{arith}
 use lib.ListN.{length, take, drop, get_or, length-append}
 use lib.Seq.{take_at, drop_at, get_or_at, split_at, drop-length}
-use borrow.Author.Tests.{eqb_true, eq-eqb, ne_eqb}
+use borrow.Author.Tests.{eqb-true, eq-eqb, ne_eqb}
 use Rattle.lists.specs.Bytes.{all, span, same_by, same, starts_with, ends_with, take_while, drop_while}
 use Rattle.lists.specs.Classes.{digit}
 use Rattle.lists.proofs.Scan.{span_append, class_apart, starts_with_first}
@@ -36,7 +36,7 @@ same_false s t n = go (same s t) refl
 -- a text that starts with c is c and the rest
 pub starts_with_cons : (c : ℕ) (s : List ℕ) → starts_with c s ≡ true → c ∷ drop 1 s ≡ s
 starts_with_cons c [] h = absurd (false≢true h)
-starts_with_cons c (b ∷ s) h = let e : b ≡ c = eqb_true b c (sym (starts_with_first c b s) ∙ h) in rw e
+starts_with_cons c (b ∷ s) h = let e : b ≡ c = eqb-true b c (sym (starts_with_first c b s) ∙ h) in rw e
 
 -- ---- at the end
 
@@ -54,7 +54,7 @@ pub ends_with_snoc : (c : ℕ) (s : List ℕ) → ends_with c s ≡ true → tak
 ends_with_snoc c [] h = absurd (false≢true h)
 ends_with_snoc c (b ∷ s) h =
     let e : suc (length s) - 1 ≡ length s = omega arith in
-    let l : get_or (b ∷ s) (length s) 0 ≡ c = eqb_true _ _ (rw (ne_eqb (suc (length s)) 0 (omega arith), e) at h) in
+    let l : get_or (b ∷ s) (length s) 0 ≡ c = eqb-true _ _ (rw (ne_eqb (suc (length s)) 0 (omega arith), e) at h) in
     rw e (sym (rw (l, drop-length s) at (split_at (b ∷ s) (length s) 0 (omega arith))))
 
 -- a text with c after it ends in c

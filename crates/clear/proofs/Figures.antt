@@ -7,8 +7,8 @@ use Prim.Native.Char.{code}
 use native.Mathlib.Omega.{arith}
 use lib.Dec.{eqb}
 use lib.ListN.{length, take, drop, take-append-drop}
-use lib.Seq.{length_take_le}
-use borrow.Author.Tests.{eqb_true, not_true}
+use lib.Seq.{length-take-le}
+use borrow.Author.Tests.{eqb-true, not-true}
 use Rattle.lists.specs.Bytes.{bytes, span, starts_with, ends_with, strip_prefix, take_while, drop_while}
 use Rattle.lists.specs.Classes.{digit}
 use Rattle.lists.proofs.Scan.{span_all, span_le, starts_with_first}
@@ -27,7 +27,7 @@ plain_digits s h = ((and-eq-true_iff (is_digits s) (not (is_leading_zero_digits 
 
 empty_text : (s : List ℕ) → eqb (length s) 0 ≡ true → [] ≡ s
 empty_text [] h = refl
-empty_text (b ∷ s) h = absurd (let e = eqb_true (suc (length s)) 0 h in omega arith)
+empty_text (b ∷ s) h = absurd (let e = eqb-true (suc (length s)) 0 h in omega arith)
 
 signed_exponent : (s : List ℕ) → plain (strip_sign s) ≡ true → Exponent (code "e" ∷ s)
 signed_exponent s h = go (starts_with (code "+") s) (starts_with (code "-") s) refl refl h
@@ -74,7 +74,7 @@ record FractionTail (s : List ℕ) : Type 0 where
 
 span_digits : (s : List ℕ) → eqb (span digit s) 0 ≡ false → is_digits (take_while digit s) ≡ true
 unfolding is_digits
-span_digits s h = rw (length_take_le (span digit s) s (span_le digit s), h, span_all digit s)
+span_digits s h = rw (length-take-le (span digit s) s (span_le digit s), h, span_all digit s)
 
 test_fraction : (s : List ℕ) → is_fraction_clear s ≡ true → FractionTail s
 unfolding is_fraction_clear
@@ -90,7 +90,7 @@ test_fraction s h = go (starts_with (code ".") s) refl h
         record {
           f = code "." ∷ take_while digit d;
           x = drop_while digit d;
-          point = a_point (take_while digit d) (span_digits d (not_true _ p.0));
+          point = a_point (take_while digit d) (span_digits d (not-true _ p.0));
           exponent = test_exponent (drop_while digit d) p.1;
           whole = ap (λ (r : List ℕ). code "." ∷ r) (take-append-drop (span digit d) d) ∙ starts_with_cons (code ".") s e;
         }

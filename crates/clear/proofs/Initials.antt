@@ -7,7 +7,7 @@ use Prim.Native.Char.{code}
 use native.Mathlib.Omega.{arith}
 use lib.Dec.{leb, eqb}
 use lib.ListN.{length}
-use borrow.Author.Tests.{eqb_true, ne_eqb, leb-true, le-leb, not_true}
+use borrow.Author.Tests.{eqb-true, ne_eqb, leb-true, le-leb, not-true}
 use Rattle.lists.specs.Bytes.{all, uppercase, ends_with, split, onto}
 use Rattle.lists.proofs.Scan.{class_apart}
 use Rattle.shapes.specs.Shapes.{is_alpha, is_one_letter, is_dotted_abbrev}
@@ -96,7 +96,7 @@ test_initials_of (b ∷ d ∷ s) h a = go (eqb b point_byte) (eqb d point_byte) 
         let r =
         i ((and-eq-true_iff (is_one_letter (b ∷ [])) (all_one_letter (split point_byte s))).0 h).1
         ((and-eq-true_iff (uppercase_or_point d) (all uppercase_or_point s)).0 p.1).1 in
-        let g : d ≡ point_byte = eqb_true d point_byte f in
+        let g : d ≡ point_byte = eqb-true d point_byte f in
         record { first = b; others = r.first ∷ r.others; capitals = rw (p.0, r.capitals); whole = cc }
 
 -- a name that passes the test is clear
@@ -105,7 +105,7 @@ unfolding is_dotted_abbrev
 test_initials s h =
     let p = (and-eq-true_iff (is_dotted_abbrev s && not (ends_with point_byte s)) (all uppercase_or_point s)).0 h in
     let q = (and-eq-true_iff (is_dotted_abbrev s) (not (ends_with point_byte s))).0 p.0 in
-    let e : ends_with point_byte s ≡ false = not_true _ q.1 in
+    let e : ends_with point_byte s ≡ false = not-true _ q.1 in
     let r = (and-eq-true_iff (leb 2 (length (split point_byte s))) (all_one_letter (split point_byte s))).0 (rw e at q.0) in
     let d = test_initials_of s r.1 p.1 in
     go d.first d.others d.capitals (leb-true 2 _ r.0) d.whole

@@ -10,7 +10,7 @@ use native.Mathlib.Omega.{arith}
 use lib.Dec.{ltb, eqb}
 use lib.ListN.{length, drop, get_or, drop_of_length-le}
 use lib.Seq.{drop-cons}
-use borrow.Author.Tests.{le-ltb, not_true}
+use borrow.Author.Tests.{le-ltb, not-true}
 use Rattle.lists.specs.Bytes.{any, same, listed}
 use Rattle.lists.proofs.Sets.{le_or_lt}
 use Rattle.lists.proofs.Table.{below, same_true}
@@ -22,7 +22,7 @@ use Rattle.clear.specs.Clear.{table_words}
 -- two tests agree
 agree : (a b : Bool) → cond a b (not b) ≡ true → a ≡ b
 agree true b t = sym t
-agree false b t = sym (not_true b t)
+agree false b t = sym (not-true b t)
 
 -- there is a row k, and it is the first with its word
 abbrev is_first_at : ℕ → Bool

@@ -9,7 +9,7 @@ use native.Mathlib.Omega.{arith}
 use lib.Dec.{ltb, eqb}
 use lib.ListN.{length, take, drop, get_or, take-append-drop}
 use lib.Seq.{take_at, drop_at}
-use borrow.Author.Tests.{eqb_true, eq-eqb, ltb-true, lt_ltb}
+use borrow.Author.Tests.{eqb-true, eq-eqb, ltb-true, lt-ltb}
 use Rattle.lists.specs.Bytes.{bytes, span, after_last, same_by, same}
 use Rattle.lists.specs.Classes.{digit}
 use Rattle.lists.proofs.Recursion.{cond_elim}
@@ -75,7 +75,7 @@ test_unit s h =
     let q = (and-eq-true_iff (is_unit u) (eqb (index_of (unit_word u) unit_words) (unit_index u))).0 p.1 in
     let l : unit_index u < 22 = ltb-true _ _ (sym (unit_in_table u) ∙ q.0) in
     let e : get_or abbreviations (unit_index u) [] ≡ u = index_of_at u abbreviations (rw columns.0 l) in
-    rw (e, take-append-drop) at (clear_unit (take (unit_at s) s) (unit_index u) p.0 (rw columns.1 l) (eqb_true _ _ q.1))
+    rw (e, take-append-drop) at (clear_unit (take (unit_at s) s) (unit_index u) p.0 (rw columns.1 l) (eqb-true _ _ q.1))
 
 -- a row's abbreviation stands in no row before it, and has no digit
 pub record UnitFacts (k : ℕ) : Type 0 where
@@ -93,7 +93,7 @@ unit_facts_lem k l =
     let u = get_or abbreviations k [] in
     let y = (and-eq-true_iff (eqb (unit_index u) k && eqb (span digit u) 0) (eqb (after_last digit u) 0)).0 (below unit_facts 22 refl k l) in
     let z = (and-eq-true_iff (eqb (unit_index u) k) (eqb (span digit u) 0)).0 y.0 in
-    record { first = eqb_true _ _ z.0; front = eqb_true _ _ z.1; last = eqb_true _ _ y.1 }
+    record { first = eqb-true _ _ z.0; front = eqb-true _ _ z.1; last = eqb-true _ _ y.1 }
 
 -- the unit starts after the digits
 pub unit_at_lem : (s : List ℕ) (k : ℕ) → plain s ≡ true → k < length unit_words → unit_at (s ++ get_or abbreviations k []) ≡ length s
@@ -116,7 +116,7 @@ unit_test s k h l w =
       h,
       unit_in_table u,
       (unit_facts_lem k l).first,
-      lt_ltb k 22 r,
+      lt-ltb k 22 r,
       w,
     )
     (eq-eqb k k refl)

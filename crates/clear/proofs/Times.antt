@@ -9,7 +9,7 @@ use native.Mathlib.Omega.{arith}
 use lib.Dec.{leb, ltb}
 use lib.ListN.{length, drop, get_or, length-append, take-append-drop}
 use lib.Seq.{take_at, drop_at, split_at, drop-drop}
-use borrow.Author.Tests.{eqb_true, ltb-true, lt_ltb, leb-true, le-leb, not_true, not-false}
+use borrow.Author.Tests.{eqb-true, ltb-true, lt-ltb, leb-true, le-leb, not-true, not-false}
 use Rattle.lists.specs.Bytes.{bytes, span, same_by, same, take_while, drop_while}
 use Rattle.lists.specs.Classes.{digit, except}
 use Rattle.lists.proofs.Scan.{span_fails, all_within, all_span, span_before, class_apart}
@@ -48,7 +48,7 @@ test_plain s h =
     let d = (and-eq-true_iff (bound && is_digits (hour s)) (is_n_digits 2 (minute s))).0 c.0 in
     let e = (and-eq-true_iff bound (is_digits (hour s))).0 d.0 in
     let f = (and-eq-true_iff (leb 1 (length (hour s))) (leb (length (hour s)) 2)).0 e.0 in
-    let colon : get_or s at 0 ≡ code ":" = eqb_true _ _ (not-false _ (span_fails (except (code ":")) s l)) in
+    let colon : get_or s at 0 ≡ code ":" = eqb-true _ _ (not-false _ (span_fails (except (code ":")) s l)) in
     record {
       hours = rw (a.1, f.1);
       minutes = rw (d.1, c.1);
@@ -93,7 +93,7 @@ module _ (h m : List ℕ) (p : is_hour h ≡ true) (q : is_minute m ≡ true) wh
       let t = h ++ (bytes ":" ++ m) in
       let n = span (except (code ":")) t in
       let b : drop (n + 1) t ≡ m = sym (drop-drop 1 n t) ∙ minute_of_lem in
-      let l : ltb n (length t) ≡ true = lt_ltb n (length t) (omega (arith, at, length-append h (code ":" ∷ m))) in
+      let l : ltb n (length t) ≡ true = lt-ltb n (length t) (omega (arith, at, length-append h (code ":" ∷ m))) in
       rw (l, b, hour_of_lem, hour_minute h m p q, (hour_parts h p).0)
 
 -- a name that passes the test is clear
@@ -101,7 +101,7 @@ pub test_time : (s : List ℕ) → is_time_clear s ≡ true → Clear s
 test_time s h =
     let p = (and-eq-true_iff (is_plain_time s) (not (same (minute s) (bytes "00")))).0 h in
     let t = test_plain s p.0 in
-    let n : minute s ≡ bytes "00" → ⊥ = λ e. true≢false (sym (same_self (bytes "00")) ∙ sym (ap (λ (m : List ℕ). same m (bytes "00")) e) ∙ not_true _ p.1) in
+    let n : minute s ≡ bytes "00" → ⊥ = λ e. true≢false (sym (same_self (bytes "00")) ∙ sym (ap (λ (m : List ℕ). same m (bytes "00")) e) ∙ not-true _ p.1) in
     rw t.whole at (clear_time (hour s) (minute s) t.hours t.minutes n)
 
 -- an hour, a colon and a minute other than 00 pass the test

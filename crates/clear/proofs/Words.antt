@@ -7,7 +7,7 @@ use Prim.Native.Char.{code}
 use native.Mathlib.Omega.{arith}
 use lib.Dec.{leb}
 use lib.ListN.{length}
-use borrow.Author.Tests.{leb-true, le-leb, not_true}
+use borrow.Author.Tests.{leb-true, le-leb, not-true}
 use Rattle.lists.specs.Bytes.{all, lowercase, filter_if, listed, any}
 use Rattle.lists.specs.Classes.{except}
 use Rattle.lists.proofs.Table.{below}
@@ -131,7 +131,7 @@ pub test_word : (s : List ℕ) → is_word_clear s ≡ true → Clear s
 test_word s h =
     let p = (and-eq-true_iff (leb 2 (length s) && all lowercase s) (not (listed s table_words))).0 h in
     let q = (and-eq-true_iff (leb 2 (length s)) (all lowercase s)).0 p.0 in
-    let n : listed s table_words ≡ false = not_true _ p.1 in
+    let n : listed s table_words ≡ false = not-true _ p.1 in
     clear_word s (leb-true 2 (length s) q.0) q.1 n (λ a. true≢false (sym (cardinal_alone s a) ∙ n)) (λ a. true≢false (sym (ordinal_alone s a) ∙ n))
 
 -- letters that are no word of the tables pass the test

@@ -8,7 +8,7 @@ use native.Mathlib.Nat.{suc-add, add-suc, zero-add}
 use native.Mathlib.Omega.{arith}
 use lib.Dec.{leb}
 use lib.ListN.{length, get_or, length-map}
-use borrow.Author.Tests.{lt_ltb, le-ltb, eq-eqb, ne_eqb, leb-true, not_true}
+use borrow.Author.Tests.{lt-ltb, le-ltb, eq-eqb, ne_eqb, leb-true, not-true}
 use Rattle.lists.specs.Bytes.{all, filter_if}
 use Rattle.lists.specs.Classes.{digit}
 use Rattle.shapes.specs.Shapes.{is_digits, is_leading_zero_digits}
@@ -54,9 +54,9 @@ digit_values_length s h = ap length (digit_values_all s (digits_all s h)) ∙ le
 plain_first : (b : ℕ) (r : List ℕ) → plain (b ∷ r) ≡ true → 0 < length r → b ≡ code "0" → ⊥
 plain_first b r h l e =
     let i = plain_digits (b ∷ r) h in
-    let n = not_true (is_leading_zero_digits (b ∷ r)) ((and-eq-true_iff (is_digits (b ∷ r)) (not (is_leading_zero_digits (b ∷ r)))).0 h).1 in
+    let n = not-true (is_leading_zero_digits (b ∷ r)) ((and-eq-true_iff (is_digits (b ∷ r)) (not (is_leading_zero_digits (b ∷ r)))).0 h).1 in
     let z : is_leading_zero_digits (b ∷ r) ≡ true =
-    rw (lt_ltb 1 (suc (length r)) (omega arith), ne_eqb (suc (length r)) 0 (omega arith), eq-eqb b (code "0") e, i) in
+    rw (lt-ltb 1 (suc (length r)) (omega arith), ne_eqb (suc (length r)) 0 (omega arith), eq-eqb b (code "0") e, i) in
     true≢false (sym z ∙ n)
 
 -- values of digits, at least one; if there are more, the first is not 0
@@ -92,7 +92,7 @@ decimal_digits_decimal (d ∷ s) f n acc h t =
 decimal_digits_last : (f a : ℕ) (acc : List ℕ) → a < 10 → decimal_digits f a acc ≡ a ∷ acc
 unfolding decimal_digits
 decimal_digits_last zero a acc h = refl
-decimal_digits_last (suc f) a acc h = rw (lt_ltb a 10 h, decimal_digits)
+decimal_digits_last (suc f) a acc h = rw (lt-ltb a 10 h, decimal_digits)
 
 -- the decimal digits of a number are those that it was read from
 pub decimal_digits_plain : (s : List ℕ) (f : ℕ) → BelowTen s → PlainValues s → length s ≤ suc f → decimal_digits f (decimal s) [] ≡ s

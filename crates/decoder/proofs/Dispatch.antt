@@ -6,7 +6,7 @@ use Prim.Native.Nat.{ℕ, ◌-◌, ◌≤◌}
 use native.Mathlib.Omega.{arith}
 use lib.ListN.{length, get_or, length-append}
 use lib.Seq.{take_at, get_or_at}
-use borrow.Author.Tests.{ne_eqb, not_true}
+use borrow.Author.Tests.{ne_eqb, not-true}
 use Rattle.lists.specs.Bytes.{bytes, all, same, Every, listed}
 use Rattle.lists.proofs.Every.{every_imply}
 use Rattle.vocabulary.specs.Vocabulary.{ordinals}
@@ -45,7 +45,7 @@ number_words_parsed ws h = every_parsed ws (every_imply NumberWord (λ w. parse_
 -- no word of a number is a letter's word
 pub number_word_no_letter : (w : Word) → NumberWord w → is_letter_word (spell w) ≡ false
 unfolding number_words consecutive_words spell unfold_vocabulary all
-number_word_no_letter w n = not_true (is_letter_word (spell w)) (number_word_test (λ w. not (is_letter_word (spell w))) refl w n)
+number_word_no_letter w n = not-true (is_letter_word (spell w)) (number_word_test (λ w. not (is_letter_word (spell w))) refl w n)
 
 -- a line that starts with the words of plain digits and has more words is not one word alone
 pub plain_not_one_word : (s : List ℕ) → plain s ≡ true → (x : List ℕ) (vs : List (List ℕ)) → is_one_word_name (spelled (cardinal s) ++ x ∷ vs) ≡ false
@@ -72,7 +72,7 @@ module _ (ns : List Word) (x : List ℕ) (e : Every NumberWord ns) (q : is_ordin
   ordinary_end =
       let k = (and-eq-true_iff (not (is_letter_word x)) _).0 q in
       let l = (and-eq-true_iff (not (same x (bytes "cent"))) (not (same x (bytes "m")))).0 k.1 in
-      (not_true _ k.0, not_true _ l.0, not_true _ l.1)
+      (not-true _ k.0, not-true _ l.0, not-true _ l.1)
 
   first : is_letter_word (first_word line) ≡ false
   unfolding spelled

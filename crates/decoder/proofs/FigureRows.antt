@@ -8,7 +8,7 @@ use native.Mathlib.Omega.{arith}
 use lib.Dec.{ltb}
 use lib.ListN.{length, get_or}
 use lib.Seq.{drop-append_seam}
-use borrow.Author.Tests.{not_true}
+use borrow.Author.Tests.{not-true}
 use Rattle.lists.specs.Bytes.{all, span, starts_with, uppercase, to_lower}
 use Rattle.lists.specs.Classes.{digit, letter}
 use Rattle.lists.proofs.Scan.{all_append, all_at, starts_with_first}
@@ -106,7 +106,7 @@ sign_not_leading_zero a c r n =
 figure_leading : {m f x : List ℕ} → OptionalMinus m → (a : List ℕ) → plain a ≡ true → Fraction f → Exponent x → is_leading_zero_digits (m ++ (a ++ (f ++ x))) ≡ false
 figure_leading {f = f} {x = x} a_minus a h t e = sign_not_leading_zero [] (code "-") (a ++ (f ++ x)) refl
 figure_leading no_minus a h no_point no_exponent =
-    rw (append-nil a) (not_true (is_leading_zero_digits a) ((and-eq-true_iff (is_digits a) (not (is_leading_zero_digits a))).0 h).1)
+    rw (append-nil a) (not-true (is_leading_zero_digits a) ((and-eq-true_iff (is_digits a) (not (is_leading_zero_digits a))).0 h).1)
 figure_leading no_minus a h no_point (an_exponent g x s k) = sign_not_leading_zero a (code "e") (g ++ x) refl
 figure_leading {x = x} no_minus a h (a_point f k) e = sign_not_leading_zero a (code ".") (f ++ x) refl
 

@@ -7,7 +7,7 @@ use Prim.Native.Char.{code}
 use native.Mathlib.Omega.{arith}
 use lib.Dec.{eqb, leb}
 use lib.ListN.{length}
-use borrow.Author.Tests.{leb-true, eqb_true, ne_eqb}
+use borrow.Author.Tests.{leb-true, eqb-true, ne_eqb}
 use Rattle.lists.specs.Bytes.{all, filter_if, same_by, uppercase, ends_with}
 use Rattle.lists.specs.Classes.{letter, except}
 use Rattle.lists.proofs.Scan.{all_within, class_apart}
@@ -56,7 +56,7 @@ module _ (b : ℕ) (h : uppercase b ≡ true) where
 
   same_uppercase : letter_of_word (initial b) ≡ b
   unfolding is_read_back
-  same_uppercase = eqb_true _ b ((and-eq-true_iff (is_letter_word (initial b)) _).0 (uppercase_read_back b h)).1
+  same_uppercase = eqb-true _ b ((and-eq-true_iff (is_letter_word (initial b)) _).0 (uppercase_read_back b h)).1
 
 -- ---- the name
 

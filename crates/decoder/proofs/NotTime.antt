@@ -6,7 +6,7 @@ use Prim.Native.Nat.{ℕ, zero, suc, ◌+◌, ◌<◌}
 use native.Mathlib.Omega.{arith}
 use lib.Dec.{ltb, eqb}
 use lib.ListN.{length, length-append}
-use borrow.Author.Tests.{lt_ltb, ne_eqb}
+use borrow.Author.Tests.{lt-ltb, ne_eqb}
 use Rattle.lists.specs.Bytes.{all, any}
 use Rattle.lists.proofs.Scan.{all_append}
 use Rattle.numerals.specs.Words.{Word, one, teen, ten, hundred, scale}
@@ -23,7 +23,7 @@ pub record NotTime (ws : List Word) : Type 0 where
 
 single_not_time : (w : Word) → value_below_hundred w < 100 → NotTime (w ∷ [])
 unfolding all any
-single_not_time w h = record { not_time_like = and-false (all is_below_hundred (w ∷ [])); alone = rw (lt_ltb (value_below_hundred w) 100 h) }
+single_not_time w h = record { not_time_like = and-false (all is_below_hundred (w ∷ [])); alone = rw (lt-ltb (value_below_hundred w) 100 h) }
 
 -- words are not all below a hundred if one of them is not
 large_among : (u : List Word) (w : Word) (r : List Word) → ltb (value_below_hundred w) 100 ≡ false → all is_below_hundred (u ++ w ∷ r) ≡ false
@@ -44,12 +44,12 @@ pair_not_time zero zero p q = record { not_time_like = refl; alone = refl }
 pair_not_time zero (suc b) p q = single_not_time (one (suc b)) (omega arith)
 pair_not_time (suc a) zero p q = single_not_time (ten (suc a)) (omega arith)
 pair_not_time (suc zero) (suc b) p q = single_not_time (teen (suc b)) (omega arith)
-pair_not_time (suc (suc a)) (suc b) p q = record { not_time_like = rw (lt_ltb (suc b) 10 q, and-false (ltb (suc b) 100), and-false); alone = refl }
+pair_not_time (suc (suc a)) (suc b) p q = record { not_time_like = rw (lt-ltb (suc b) 10 q, and-false (ltb (suc b) 100), and-false); alone = refl }
 
 ones_not_minute_only : (s : List ℕ) → BelowTen s → any is_minute_only (map one s) ≡ false
 unfolding any value_below_hundred digit_of
 ones_not_minute_only [] h = refl
-ones_not_minute_only (d ∷ s) h = rw (ones_not_minute_only s h.1, lt_ltb d 10 h.0, and-false (ltb d 100))
+ones_not_minute_only (d ∷ s) h = rw (ones_not_minute_only s h.1, lt-ltb d 10 h.0, and-false (ltb d 100))
 
 ones_not_time : (s : List ℕ) → BelowTen s → NotTime (map one s)
 unfolding all any value_below_hundred

@@ -9,7 +9,7 @@ use Prim.Native.Char.{code}
 use native.Mathlib.Omega.{arith}
 use lib.Dec.{ltb, eqb}
 use lib.ListN.{length, get_or, length-map}
-use borrow.Author.Tests.{lt_ltb, le-leb, lt-leb, ltb-true, eqb_true}
+use borrow.Author.Tests.{lt-ltb, le-leb, lt-leb, ltb-true, eqb-true}
 use Rattle.lists.specs.Bytes.{same, starts_with, Every, any}
 use Rattle.lists.proofs.Sets.{le_or_lt}
 use Rattle.lists.proofs.Table.{below}
@@ -51,7 +51,7 @@ pub number_word_parsed : (w : Word) → NumberWord w → parse_word (spell w) �
 unfolding parses_back parse_word number_words consecutive_words index_of any spell unfold_vocabulary
 number_word_parsed w n =
     let k = n.0 in
-    let e : index_of (spell (get_or number_words k hundred)) (map spell number_words) ≡ k = eqb_true _ _ (below parses_back 32 refl k n.1) in
+    let e : index_of (spell (get_or number_words k hundred)) (map spell number_words) ≡ k = eqb-true _ _ (below parses_back 32 refl k n.1) in
     rw (n.2, parse_first number_words (spell (get_or number_words k hundred)) (rw e n.1), e)
 
 -- words are parsed from their spellings if each of them is
@@ -72,7 +72,7 @@ each_two : (d : List ℕ) → BelowTen d → 1 < length d → two_ones (map one 
 unfolding two_ones digit_of
 each_two [] t l = absurd (omega arith)
 each_two (a ∷ []) t l = absurd (omega arith)
-each_two (a ∷ b ∷ d) t l = rw (lt_ltb a 10 t.0, lt_ltb b 10 t.1.0)
+each_two (a ∷ b ∷ d) t l = rw (lt-ltb a 10 t.0, lt-ltb b 10 t.1.0)
 
 decode_each : (s : List ℕ) → is_digits s ≡ true → 1 < length s → decode_digits (digits s) ≡ s
 unfolding decode_digits digits

@@ -8,7 +8,7 @@ use native.Mathlib.Omega.{arith}
 use lib.Dec.{ltb}
 use lib.ListN.{length, length-append, length-map, get_or-append}
 use lib.Seq.{append_snoc}
-use borrow.Author.Tests.{not_true, not-false}
+use borrow.Author.Tests.{not-true, not-false}
 use Rattle.lists.specs.Bytes.{bytes, all, same, same_by, starts_with, Every, listed}
 use Rattle.lists.proofs.Every.{every_append, every_map, every_imply, every_at}
 use Rattle.vocabulary.specs.Vocabulary.{ordinals}
@@ -142,10 +142,10 @@ module _ {s : List ℕ} {ws : List Word} (o : NumberDecoded s ws) where
       rw (
         o.not_one_word,
         o.first,
-        not_true (same w (bytes "cent")) ((and-eq-true_iff c m).0 b).0,
-        not_true (same w (bytes "m")) ((and-eq-true_iff c m).0 b).1,
-        not_true (listed w unit_words) ((and-eq-true_iff (c && m) u).0 a).1,
-        not_true (listed w (map bytes ordinals)) ((and-eq-true_iff (c && m && u) n).0 figure_word_last).1,
+        not-true (same w (bytes "cent")) ((and-eq-true_iff c m).0 b).0,
+        not-true (same w (bytes "m")) ((and-eq-true_iff c m).0 b).1,
+        not-true (listed w unit_words) ((and-eq-true_iff (c && m) u).0 a).1,
+        not-true (listed w (map bytes ordinals)) ((and-eq-true_iff (c && m && u) n).0 figure_word_last).1,
         figure_words_parsed,
         o.not_time_like,
       )

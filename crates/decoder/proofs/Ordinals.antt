@@ -8,7 +8,7 @@ use native.Mathlib.Omega.{arith}
 use lib.Dec.{eqb}
 use lib.ListN.{length, take, get_or, length-append}
 use lib.Seq.{take_at, drop_at, take-suc, take-length}
-use borrow.Author.Tests.{le-leb, eqb_true, not_true}
+use borrow.Author.Tests.{le-leb, eqb-true, not-true}
 use Rattle.lists.specs.Bytes.{bytes, all, same, same_by, Every, listed, any}
 use Rattle.lists.specs.Classes.{digit, letter, digit_or_comma}
 use Rattle.lists.proofs.Scan.{all_within, all_at}
@@ -87,7 +87,7 @@ module _ (w : Word) (n : NumberWord w) where
 
   form_no_unit : listed (form_of w) unit_words ≡ false
   unfolding number_words consecutive_words spell unfold_vocabulary ordinal_form form_in index_of any unit_words unit_abbreviations all
-  form_no_unit = not_true (listed (form_of w) unit_words) (number_word_test (λ w. not (listed (form_of w) unit_words)) refl w n)
+  form_no_unit = not-true (listed (form_of w) unit_words) (number_word_test (λ w. not (listed (form_of w) unit_words)) refl w n)
 
   form_listed : listed (form_of w) (map bytes ordinals) ≡ true
   unfolding number_words consecutive_words spell unfold_vocabulary ordinal_form form_in index_of any all
@@ -121,7 +121,7 @@ module _ (s : List ℕ) (p : plain s ≡ true) where
 
       go : (b : Bool) → eqb (words_value (w ∷ [])) 0 ≡ b → (b || listed (form_of w) table_words) ≡ true → listed (form_of w) table_words ≡ true
       go true z h =
-          let f : w ∷ [] ≡ one 0 ∷ [] = sym e ∙ zero_named s p short (ap words_value e ∙ eqb_true (words_value (w ∷ [])) 0 z) in
+          let f : w ∷ [] ≡ one 0 ∷ [] = sym e ∙ zero_named s p short (ap words_value e ∙ eqb-true (words_value (w ∷ [])) 0 z) in
           let g : w ≡ one 0 = cc in
           rw g zeroth_in_table
       go false z h = h

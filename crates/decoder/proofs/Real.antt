@@ -7,7 +7,7 @@ use Prim.Native.Char.{code}
 use native.Mathlib.Omega.{arith}
 use lib.ListN.{length, length-append}
 use lib.Seq.{take-append_seam, drop-append-add}
-use borrow.Author.Tests.{lt_ltb, le-ltb}
+use borrow.Author.Tests.{lt-ltb, le-ltb}
 use Rattle.lists.specs.Bytes.{bytes, all, starts_with}
 use Rattle.lists.specs.Classes.{digit, except, not_e}
 use Rattle.lists.proofs.Scan.{all_append, all_span, all_within, span_before, class_apart, starts_with_first}
@@ -45,7 +45,7 @@ pointed_some s f h =
     span_before (except (code ".")) s (code ".") f refl ∙ all_span (except (code ".")) s (digits_but (code ".") s refl h) in
     rw (
       e,
-      lt_ltb (length s) (length (s ++ code "." ∷ f)) (omega (arith, length-append s (code "." ∷ f))),
+      lt-ltb (length s) (length (s ++ code "." ∷ f)) (omega (arith, length-append s (code "." ∷ f))),
       take-append_seam s (code "." ∷ f),
       drop-append-add s (code "." ∷ f) 1,
     )
@@ -75,7 +75,7 @@ module _ (s : List ℕ) (m : starts_with (code "-") s ≡ false) (p : starts_wit
         a,
         b,
         e,
-        lt_ltb (length s) (length (s ++ code "e" ∷ r)) (omega (arith, length-append s (code "e" ∷ r))),
+        lt-ltb (length s) (length (s ++ code "e" ∷ r)) (omega (arith, length-append s (code "e" ∷ r))),
         take-append_seam s (code "e" ∷ r),
         drop-append-add s (code "e" ∷ r) 1,
       )

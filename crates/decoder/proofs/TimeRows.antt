@@ -8,7 +8,7 @@ use native.Mathlib.Omega.{arith}
 use lib.Dec.{eqb}
 use lib.ListN.{length, take, drop, length-append}
 use lib.Seq.{take_at, drop_at, take-append_seam, drop-append_seam, drop-append-add}
-use borrow.Author.Tests.{ne_eqb, lt_ltb, le-leb}
+use borrow.Author.Tests.{ne_eqb, lt-ltb, le-leb}
 use Rattle.lists.specs.Bytes.{bytes, span, elem, same_by, to_lower, any}
 use Rattle.lists.specs.Classes.{digit, digit_or_comma, except, not_colon_or_point}
 use Rattle.lists.proofs.Scan.{class_apart}
@@ -72,7 +72,7 @@ time_row word h m p q =
       take-append_seam h (bytes ":" ++ m),
       past_byte h 58 m,
       hour_minute h m p q,
-      lt_ltb (length h) (length s) (omega arith),
+      lt-ltb (length h) (length s) (omega arith),
       drop-append_seam h (bytes ":" ++ m),
     )
 
@@ -116,7 +116,7 @@ module _ (h m x : List ℕ) (p : is_hour h ≡ true) (q : is_minute m ≡ true) 
         take-append_seam h (bytes ":" ++ m),
         past_byte h 58 m,
         hour_minute h m p q,
-        lt_ltb (length h) (length time) (omega (arith, name_length h m p)),
+        lt-ltb (length h) (length time) (omega (arith, name_length h m p)),
       )
 
   meridiem_row : (word : List ℕ → List ℕ) → read_with word whole ≡ by Meridiem (clock h m ++ letters x)

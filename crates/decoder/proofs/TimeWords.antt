@@ -9,7 +9,7 @@ use native.Mathlib.Omega.{arith}
 use lib.Dec.{eqb}
 use lib.ListN.{length, get_or, length-map, length-append, get_or-append}
 use lib.Seq.{get_or-append_seam, get_or-append-add}
-use borrow.Author.Tests.{eqb_true, not_true}
+use borrow.Author.Tests.{eqb-true, not-true}
 use Rattle.lists.specs.Bytes.{bytes, same, same_by, all, any, Every, listed}
 use Rattle.lists.proofs.Recursion.{cond_elim}
 use Rattle.lists.proofs.Every.{every_append, every_map, every_imply, every_at}
@@ -52,7 +52,7 @@ two_digits (a ∷ b ∷ c ∷ s) h p q = absurd (omega arith)
 two_digits (a ∷ b ∷ []) h p q =
     rw (year_two a b) (cond_elim (Every TimeWord) (eqb a 0)
     (λ e. cond_elim (Every TimeWord) (eqb b 0)
-    (λ f. let z : NumberWord (one 0) = rw (eqb_true a 0 e) at p.0 in (inl z, (inl z, tt)))
+    (λ f. let z : NumberWord (one 0) = rw (eqb-true a 0 e) at p.0 in (inl z, (inl z, tt)))
     (λ f. (inr refl, (inl p.1.0, tt))))
     (λ e. every_imply NumberWord TimeWord (λ w n. inl n) (pair_words a b) (rw (cardinal_2 (a ∷ b ∷ []) refl) at q)))
 
@@ -127,7 +127,7 @@ module _ (h m : List ℕ) (q : is_minute m ≡ true) where
   clock_fails : (p : List ℕ → Bool) → all (λ w. not (p (spell w))) number_words ≡ true → not (p (bytes "oh")) ≡ true → (i : ℕ)
       → i < length (clock h m) → p (get_or (spelled (clock h m)) i []) ≡ false
   clock_fails p a b i l =
-      not_true (p (get_or (spelled (clock h m)) i []))
+      not-true (p (get_or (spelled (clock h m)) i []))
       (every_at (λ w. not (p w) ≡ true) (spelled (clock h m)) i [] (rw spelled_length l) (clock_test (λ w. not (p w)) a b))
 
   -- the minute is not 00

@@ -6,7 +6,7 @@ use Prim.Native.Nat.{ℕ, ◌+◌, ◌-◌, ◌*◌, ◌/◌, ◌%◌, ◌≤◌
 use native.Mathlib.Omega.{arith}
 use lib.Dec.{ltb, leb, eqb}
 use lib.ListN.{length, get_or}
-use borrow.Author.Tests.{leb-true, eqb_true, not_true}
+use borrow.Author.Tests.{leb-true, eqb-true, not-true}
 use Rattle.lists.specs.Bytes.{bytes, same, same_by, filter_if, all, any}
 use Rattle.lists.specs.Recur.{recur, recur_at}
 use Rattle.lists.proofs.Table.{upto, below}
@@ -33,7 +33,7 @@ pub minute_parts : (m : List ℕ) → is_minute m ≡ true → (is_digits m ≡ 
 minute_parts m e =
     let p : is_n_digits 2 m ≡ true = ((and-eq-true_iff (is_n_digits 2 m) (leb (get_or m 0 0) 53)).0 e).0 in (
       ((and-eq-true_iff (eqb (length m) 2) (is_digits m)).0 p).1,
-      eqb_true (length m) 2 ((and-eq-true_iff (eqb (length m) 2) (is_digits m)).0 p).0,
+      eqb-true (length m) 2 ((and-eq-true_iff (eqb (length m) 2) (is_digits m)).0 p).0,
       leb-true (get_or m 0 0) 53 ((and-eq-true_iff (is_n_digits 2 m) (leb (get_or m 0 0) 53)).0 e).1,
     )
 
@@ -123,24 +123,24 @@ minute_words_lem m p =
 
 minute_decoded : (m : ℕ) (vs : List Word) → is_minute_of m vs ≡ true → decode_minute vs ≡ m
 unfolding is_minute_of decode_minute
-minute_decoded m [] q = eqb_true 0 m q
-minute_decoded m (v ∷ vs) q = eqb_true (decode_minute (v ∷ vs)) m ((and-eq-true_iff (not (is_one v)) _).0 q).1
+minute_decoded m [] q = eqb-true 0 m q
+minute_decoded m (v ∷ vs) q = eqb-true (decode_minute (v ∷ vs)) m ((and-eq-true_iff (not (is_one v)) _).0 q).1
 
 hour_minute_decoded : (h m : ℕ) (ws vs : List Word) → is_hour_of h ws ≡ true → is_minute_of m vs ≡ true → decode_time (ws ++ vs) ≡ time_text h m
 unfolding is_hour_of is_minute_of decode_time
 hour_minute_decoded h m [] vs p q = absurd (false≢true p)
 hour_minute_decoded h m (w ∷ []) [] p q =
-    let e : value_below_hundred w ≡ h = eqb_true (value_below_hundred w) h p in
-    let z : 0 ≡ m = eqb_true 0 m q in
+    let e : value_below_hundred w ≡ h = eqb-true (value_below_hundred w) h p in
+    let z : 0 ≡ m = eqb-true 0 m q in
     ap₂ time_text e z
 hour_minute_decoded h m (w ∷ []) (v ∷ vs) p q =
-    let e : value_below_hundred w ≡ h = eqb_true (value_below_hundred w) h p in
-    let o : is_one v ≡ false = not_true (is_one v) ((and-eq-true_iff (not (is_one v)) _).0 q).0 in
+    let e : value_below_hundred w ≡ h = eqb-true (value_below_hundred w) h p in
+    let o : is_one v ≡ false = not-true (is_one v) ((and-eq-true_iff (not (is_one v)) _).0 q).0 in
     rw (o, and-false, and-false) (ap₂ time_text e (minute_decoded m (v ∷ vs) q))
 hour_minute_decoded h m (w ∷ v ∷ []) vs p q =
     let two : Bool = ltb 19 (value_below_hundred w) && (ltb 0 (digit_of v) && is_one v) in
     let o : two ≡ true = ((and-eq-true_iff two (eqb (value_below_hundred w + value_below_hundred v) h)).0 p).0 in
-    let e : value_below_hundred w + value_below_hundred v ≡ h = eqb_true _ h ((and-eq-true_iff two (eqb (value_below_hundred w + value_below_hundred v) h)).0 p).1 in
+    let e : value_below_hundred w + value_below_hundred v ≡ h = eqb-true _ h ((and-eq-true_iff two (eqb (value_below_hundred w + value_below_hundred v) h)).0 p).1 in
     rw o (ap₂ time_text e (minute_decoded m vs q))
 hour_minute_decoded h m (w ∷ v ∷ u ∷ ws) vs p q = absurd (false≢true p)
 
@@ -150,7 +150,7 @@ minute_only_append ws vs q = rw (any_append is_minute_only ws vs, q) (or-true (a
 -- a minute other than 0 has a word that only a minute has
 some_minute_only : (m : ℕ) (vs : List Word) → minutely m vs ≡ true → (m ≡ 0 → ⊥) → any is_minute_only vs ≡ true
 unfolding is_minute_of all any
-some_minute_only m [] q n = absurd (n (sym (eqb_true 0 m q)))
+some_minute_only m [] q n = absurd (n (sym (eqb-true 0 m q)))
 some_minute_only m (v ∷ vs) q n =
     let s = ((and-eq-true_iff (ltb (value_below_hundred v) 100) (all is_below_hundred vs)).0 ((and-eq-true_iff (all is_below_hundred (v ∷ vs)) _).0 q).0).0 in
     let o = ((and-eq-true_iff (not (is_one v)) _).0 ((and-eq-true_iff (all is_below_hundred (v ∷ vs)) _).0 q).1).0 in

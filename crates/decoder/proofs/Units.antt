@@ -7,7 +7,7 @@ use native.Mathlib.Omega.{arith}
 use lib.Dec.{leb}
 use lib.ListN.{length, drop, get_or, length-append}
 use lib.Seq.{take_at, drop_at, drop-append-add}
-use borrow.Author.Tests.{lt_ltb, leb-true, not_true}
+use borrow.Author.Tests.{lt-ltb, leb-true, not-true}
 use Rattle.lists.specs.Bytes.{all, same_by, any}
 use Rattle.lists.specs.Classes.{digit, letter, digit_or_comma}
 use Rattle.lists.proofs.Scan.{all_within}
@@ -49,7 +49,7 @@ module _ (k : ℕ) (h : k < length unit_words) where
 
   no_double : all double_byte (abbreviation_at k) ≡ false
   unfolding abbreviations unit_abbreviations all
-  no_double = not_true (all double_byte (abbreviation_at k)) (each_unit_test (λ k. not (all double_byte (abbreviation_at k))) refl k h)
+  no_double = not-true (all double_byte (abbreviation_at k)) (each_unit_test (λ k. not (all double_byte (abbreviation_at k))) refl k h)
 
   size : 2 ≤ length (abbreviation_at k)
   unfolding abbreviations unit_abbreviations
@@ -58,7 +58,7 @@ module _ (k : ℕ) (h : k < length unit_words) where
   no_suffix : is_ordinal_suffix (drop (length (abbreviation_at k) - 2) (abbreviation_at k)) ≡ false
   unfolding abbreviations unit_abbreviations same_by
   no_suffix =
-      not_true (is_ordinal_suffix (drop (length (abbreviation_at k) - 2) (abbreviation_at k)))
+      not-true (is_ordinal_suffix (drop (length (abbreviation_at k) - 2) (abbreviation_at k)))
       (each_unit_test (λ k. not (is_ordinal_suffix (drop (length (abbreviation_at k) - 2) (abbreviation_at k)))) refl k h)
 
   in_table : is_unit (abbreviation_at k) ≡ true
@@ -112,4 +112,4 @@ unit_decoded {word} s k p h b =
     let q = unit_ordinary_end k h in
     let l = plain_not_one_word s p (unit_word_at k) [] in
     decoded_ordinary (cardinal s) (unit_word_at k) e q l (s ++ abbreviation_at k) (words s k p h word)
-    (decode_unit_lem (cardinal s) (unit_word_at k) e q l (listed_index_of (unit_word_at k) unit_words ∙ rw b (lt_ltb k (length unit_words) h)) ∙ rw (b, decode_plain s p))
+    (decode_unit_lem (cardinal s) (unit_word_at k) e q l (listed_index_of (unit_word_at k) unit_words ∙ rw b (lt-ltb k (length unit_words) h)) ∙ rw (b, decode_plain s p))

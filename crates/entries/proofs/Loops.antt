@@ -6,7 +6,7 @@ use Prim.Native.Nat.{ℕ, suc, ◌+◌, ◌-◌, ◌≤◌}
 use native.Mathlib.Nat.{sub-zero}
 use native.Mathlib.Omega.{arith}
 use lib.ListN.{length, take, drop, get_or, get_or-eq_default}
-use borrow.Author.Tests.{lt_ltb, le-ltb}
+use borrow.Author.Tests.{lt-ltb, le-ltb}
 use Rattle.tokens.specs.Tokens.{Token, tokens}
 use Rattle.tokens.specs.declared.Places.{Places}
 use Rattle.tokens.proofs.Walks.{Next, Left, left_on}
@@ -62,7 +62,7 @@ pub found_here : {s : List ℕ} {n k at : ℕ} {p : Places} {b : Bool} {m : List
 found_here {s} {n} {k} {b = b} {es = es} l next e f o q =
     let d : 0 ≡ k - n = omega arith in
     let r = (left_on l next).count in
-    let t = sym (lt_ltb k (length (tokens s)) (omega arith)) in
+    let t = sym (lt-ltb k (length (tokens s)) (omega arith)) in
     let h = ap (entry_named b) (sym f) ∙ ap (λ (xs : List SheetEntry). get_or xs 0 no_entry) (sym o) ∙ ap (λ (i : ℕ). get_or es i no_entry) d ∙ q in
     λ j. record { found = t j; entry = h j }
 

@@ -6,7 +6,7 @@ use Prim.Native.Nat.{ℕ, ◌-◌, ◌≤◌, ◌<◌}
 use native.Mathlib.Omega.{arith}
 use lib.Dec.{ltb}
 use lib.ListN.{length, drop}
-use borrow.Author.Tests.{lt_ltb, le-ltb}
+use borrow.Author.Tests.{lt-ltb, le-ltb}
 use Rattle.lists.specs.Bytes.{any}
 use Rattle.tokens.specs.Tokens.{Token, first_token, tokens}
 use Rattle.tokens.specs.declared.Places.{Places}
@@ -55,7 +55,7 @@ module _ {s : List ℕ} {at : ℕ} {p : Places} (next : Next s at p) where
 
   -- if the next name is long, the answer is yes
   pub long_here : name_limit < p.punctuation - p.name → {z : Bool} → long_names (tokens (drop at s)) ≡ z → true ≡ z
-  long_here l q = sym (long_next ∙ rw (lt_ltb name_limit (p.punctuation - p.name) l)) ∙ q
+  long_here l q = sym (long_next ∙ rw (lt-ltb name_limit (p.punctuation - p.name) l)) ∙ q
 
   -- if it is not, the names after it decide
   pub long_later : p.punctuation - p.name ≤ name_limit → {z : Bool} → long_names (tokens (drop at s)) ≡ z → long_names (tokens (drop p.end s)) ≡ z

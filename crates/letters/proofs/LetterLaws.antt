@@ -7,7 +7,7 @@ use Prim.Native.Char.{code}
 use native.Mathlib.Numerals.{add-one}
 use native.Mathlib.Omega.{arith}
 use lib.ListN.{length, take, drop, get_or, length-take, length-drop}
-use lib.Seq.{drop-drop, length_take_le}
+use lib.Seq.{drop-drop, length-take-le}
 use borrow.Author.Tests.{eq-eqb, ne_eqb}
 use Rattle.lists.specs.Bytes.{bytes, to_lower, span, onto}
 use Rattle.lists.specs.Classes.{continuation}
@@ -54,7 +54,7 @@ letters_cons (b ∷ s) h = ap (map (λ (c : List ℕ). other (letter_word c))) (
 
 char_length : (s : List ℕ) → 0 < length s → length (take (char_span s) s) ≡ char_span s
 char_length [] h = absurd (omega arith)
-char_length (b ∷ s) h = length_take_le (char_span (b ∷ s)) (b ∷ s) (omega (arith, span_le continuation s))
+char_length (b ∷ s) h = length-take-le (char_span (b ∷ s)) (b ∷ s) (omega (arith, span_le continuation s))
 
 -- the first character as the code takes it: one byte, and the n continuation bytes after it
 pub first_char : (s : List ℕ) {t : List ℕ} {n : ℕ} → t ≡ drop 1 s → n ≡ span continuation t → take (n + 1) s ≡ take (char_span s) s

@@ -10,7 +10,7 @@ use native.Mathlib.Omega.{arith}
 use lib.Dec.{eqb, leb, ltb, leb-suc-suc}
 use lib.ListN.{length, take, drop}
 use lib.Seq.{take_all, take-length}
-use borrow.Author.Tests.{ltb-true, ltb-false, lt_ltb, le-leb}
+use borrow.Author.Tests.{ltb-true, ltb-false, lt-ltb, le-leb}
 use Rattle.lists.specs.Bytes.{span, elem, split, onto, all, non_empty, any}
 use Rattle.lists.specs.Classes.{except}
 use Rattle.lists.proofs.Scan.{span_le}
@@ -88,7 +88,7 @@ elem_span c [] = refl
 elem_span c (b ∷ s) = go (eqb b c) (elem_span c s)
   where
     go : (t : Bool) → elem c s ≡ ltb (span (except c) s) (length s) → (t || elem c s) ≡ ltb (cond (not t) (suc (span (except c) s)) 0) (suc (length s))
-    go true i = sym (lt_ltb 0 (suc (length s)) (omega arith))
+    go true i = sym (lt-ltb 0 (suc (length s)) (omega arith))
     go false i = i ∙ sym (leb-suc-suc (suc (span (except c) s)) (length s))
 
 -- the first part is counted if it is not empty

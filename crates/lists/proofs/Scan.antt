@@ -9,8 +9,8 @@ use native.Mathlib.Numerals.{add-one}
 use native.Mathlib.Omega.{arith}
 use lib.Dec.{eqb}
 use lib.ListN.{length, take, drop, get_or, length-drop, take-append-drop, drop_of_length-le, get_or-eq_default}
-use lib.Seq.{drop-cons, take_all, take-suc, length_take_le}
-use borrow.Author.Tests.{eqb_true, ne_eqb}
+use lib.Seq.{drop-cons, take_all, take-suc, length-take-le}
+use borrow.Author.Tests.{eqb-true, ne_eqb}
 use Rattle.lists.specs.Classes.{one_of}
 use Rattle.lists.proofs.Bools.{or_true_elim}
 use Rattle.lists.specs.Bytes.{all, any, span, count_if, filter_if, after_last, same_by, starts_with}
@@ -95,7 +95,7 @@ pub last_more : (p : ℕ → Bool) (s : List ℕ) (i : ℕ) → 0 < i → i ≤ 
     → after_last p (take i s) ≡ cond (p (get_or s (i - 1) 0)) i (after_last p (take (i - 1) s))
 last_more p s zero z h = absurd (omega arith)
 last_more p s (suc i) z h =
-    let e : length (take i s) ≡ i = length_take_le i s (omega arith) in
+    let e : length (take i s) ≡ i = length-take-le i s (omega arith) in
     let d : suc i - 1 ≡ i = omega arith in
     rw (d, take-suc s i 0) (rw e at (last_snoc p (take i s) (get_or s i 0)))
 
@@ -336,7 +336,7 @@ last_span p (b ∷ s) = go (p b) refl (eqb (after_last p s) 0) refl (last_span p
   where
     go : (u : Bool) → p b ≡ u → (v : Bool) → eqb (after_last p s) 0 ≡ v → after_last p s ≡ span p s + after_last p (drop (span p s) s)
         → cond v (cond u 1 0) (suc (after_last p s)) ≡ cond u (suc (span p s)) 0 + after_last p (drop (cond u (suc (span p s)) 0) (b ∷ s))
-    go true e true z i = omega (arith, eqb_true)
+    go true e true z i = omega (arith, eqb-true)
     go true e false z i = omega arith
     go false e v z i = rw (e, z) (omega arith)
 
@@ -393,7 +393,7 @@ unfolding all any
 one_of_all q [] h b e = absurd (true≢false (sym e))
 one_of_all q (c ∷ cs) h b e =
     let k = (and-eq-true_iff (q c) (all q cs)).0 h in
-    or_true_elim (eqb b c) (one_of cs b) (λ f. rw (eqb_true b c f) k.0) (one_of_all q cs k.1 b) e
+    or_true_elim (eqb b c) (one_of cs b) (λ f. rw (eqb-true b c f) k.0) (one_of_all q cs k.1 b) e
 
 -- the bytes listed, tested from the left, as the code does
 abbrev found_in : Bool → List ℕ → ℕ → Bool

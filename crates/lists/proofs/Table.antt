@@ -6,7 +6,7 @@ use Prim.Native.Nat.{ℕ, zero, suc, ◌≤◌, ◌<◌}
 use native.Mathlib.Omega.{arith}
 use native.Mathlib.Decide.{dec_lt}
 use lib.Dec.{eqb}
-use borrow.Author.Tests.{eqb_true}
+use borrow.Author.Tests.{eqb-true}
 use Rattle.lists.specs.Bytes.{same, same_by}
 
 -- the test f passes at each number below n
@@ -31,7 +31,7 @@ same_true [] (y ∷ ys) t = absurd (false≢true t)
 same_true (x ∷ xs) [] t = absurd (false≢true t)
 same_true (x ∷ xs) (y ∷ ys) t =
     let a = (and-eq-true_iff (eqb x y) (same xs ys)).0 t in
-    ap₂ ◌∷◌ (eqb_true x y a.0) (same_true xs ys a.1)
+    ap₂ ◌∷◌ (eqb-true x y a.0) (same_true xs ys a.1)
 
 -- what the last arm of a `match` on k knows: k is none of the numbers below n
 abbrev pub NoneOf : ℕ → ℕ → Type 0

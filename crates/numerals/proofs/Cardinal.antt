@@ -7,8 +7,8 @@ use Prim.Native.Nat.{ℕ, ◌+◌, ◌-◌, ◌*◌, ◌≤◌, ◌<◌}
 use native.Mathlib.Omega.{arith}
 use lib.Dec.{leb, eqb}
 use lib.ListN.{length, take, drop, get_or, length-take, length-drop}
-use lib.Seq.{length_take_le}
-use borrow.Author.Tests.{leb-true, lt_ltb, le-ltb}
+use lib.Seq.{length-take-le}
+use borrow.Author.Tests.{leb-true, lt-ltb, le-ltb}
 use Rattle.vocabulary.specs.Vocabulary.{ones_at}
 use Rattle.lists.specs.Bytes.{Every}
 use Rattle.lists.proofs.Every.{every_take, every_drop}
@@ -32,8 +32,8 @@ scale_split_lem n h =
     ⊎_elim
     (λ (u : n ≤ 9).
     ⊎_elim (λ (v : n ≤ 6). by 1 (rw (le-ltb 9 n u, le-ltb 6 n v)) (omega arith) (omega arith) (λ w. omega arith))
-    (λ (v : 6 < n). by 2 (rw (le-ltb 9 n u, lt_ltb 6 n v)) (omega arith) (omega arith) (λ w. omega arith)) (le_or_lt n 6))
-    (λ (u : 9 < n). by 3 (rw (lt_ltb 9 n u)) (omega arith) (omega arith) (λ w. omega arith)) (le_or_lt n 9)
+    (λ (v : 6 < n). by 2 (rw (le-ltb 9 n u, lt-ltb 6 n v)) (omega arith) (omega arith) (λ w. omega arith)) (le_or_lt n 6))
+    (λ (u : 9 < n). by 3 (rw (lt-ltb 9 n u)) (omega arith) (omega arith) (λ w. omega arith)) (le_or_lt n 9)
   where
     by : (k : ℕ) → scale_for n ≡ k → 0 < k → 3 * k < n → (n ≤ 12 → n - 3 * k ≤ 3) → ScaleSplit n
     by k e z r f = record { right = omega arith; left = omega arith; whole = omega arith; left_short = λ u. omega (arith, f u) }
@@ -86,7 +86,7 @@ short_cardinal_induct D P r = recur_induct (λ s ws. Every D s → P (length s) 
         let t = a ∷ b ∷ c ∷ d ∷ s in
         let n = split_at (length t) in
         let p = scale_split_lem (length t) (omega arith) in
-        let j : length (take n t) ≡ n = length_take_le n t (omega arith) in
+        let j : length (take n t) ≡ n = length-take-le n t (omega arith) in
         let k : length (drop n t) ≡ length t - n = length-drop n t in
         let x = i (take n t) (omega arith) (every_take D n t h) in
         let y = i (drop n t) (omega arith) (every_drop D n t h) in
@@ -198,7 +198,7 @@ unfolding by_scale
 cardinal_more s h m =
     let n = split_at (length s) in
     let p = scale_split_lem (length s) h in
-    let e : length (take n s) ≡ n = length_take_le n s (omega (arith, p.left)) in
+    let e : length (take n s) ≡ n = length-take-le n s (omega (arith, p.left)) in
     cardinal_long_digits s h ∙ join_parts (short_cardinal (take n s)) (scale (scale_for (length s))) (short_cardinal (drop n s))
     ∙ rw (zero_group_nil (take n s) (omega (arith, p.whole, p.right)) (omega (arith, p.left_short m)))
 

@@ -6,7 +6,7 @@ use Prim.Native.Nat.{ℕ, suc, ◌+◌, ◌-◌, ◌≤◌, ◌<◌}
 use native.Mathlib.Omega.{arith}
 use lib.Dec.{eqb}
 use lib.ListN.{length, get_or, take, drop}
-use borrow.Author.Tests.{le-leb, lt-leb, eqb_true, eqb-false}
+use borrow.Author.Tests.{le-leb, lt-leb, eqb-true, eqb-false}
 use Rattle.lists.specs.Bytes.{bytes, filter_if, after_last}
 use Rattle.lists.specs.Classes.{digit, except}
 use Rattle.lists.proofs.Scan.{filter_if_append, ByParts, next_byte}
@@ -75,7 +75,7 @@ digit_values_commas (b ∷ s) = go (eqb b 44) refl (digit_values_commas s) ∙ s
   where
     go : (t : Bool) → eqb b 44 ≡ t → digit_values (filter_if (except 44) s) ≡ digit_values s
         → digit_values (cond (not t) (b ∷ filter_if (except 44) s) (filter_if (except 44) s)) ≡ cond (digit b) (digit_value b ∷ digit_values s) (digit_values s)
-    go true e r = r ∙ rw (eqb_true b 44 e)
+    go true e r = r ∙ rw (eqb-true b 44 e)
     go false e r = digit_values_cons b (filter_if (except 44) s) ∙ rw r
 
 -- ---- the last digit
@@ -88,7 +88,7 @@ no_last_digit (b ∷ s) e = go (digit b) (eqb (after_last digit s) 0) refl refl 
     go : (t u : Bool) → digit b ≡ t → eqb (after_last digit s) 0 ≡ u → cond u (cond t 1 0) (suc (after_last digit s)) ≡ 0
         → (after_last digit s ≡ 0 → digit_values s ≡ []) → digit_values (b ∷ s) ≡ []
     go true true d z e r = absurd (omega arith)
-    go false true d z e r = digit_values_cons b s ∙ rw d (r (eqb_true (after_last digit s) 0 z))
+    go false true d z e r = digit_values_cons b s ∙ rw d (r (eqb-true (after_last digit s) 0 z))
     go t false d z e r = absurd (omega arith)
 
 -- the digits of a text: those before its last digit, and that digit
@@ -112,7 +112,7 @@ digit_values_last (b ∷ s) n = go (digit b) (eqb (after_last digit s) 0) refl r
     go : (t u : Bool) → digit b ≡ t → eqb k 0 ≡ u → (cond u (cond t 1 0) (suc k) ≡ 0 → ⊥)
         → ((k ≡ 0 → ⊥) → digit_values s ≡ digit_values (take (k - 1) s) ++ digit_value (get_or s (k - 1) 0) ∷ [])
         → digit_values (b ∷ s) ≡ digit_values (take (cond u (cond t 1 0) (suc k) - 1) (b ∷ s)) ++ digit_value (get_or (b ∷ s) (cond u (cond t 1 0) (suc k) - 1) 0) ∷ []
-    go true true d z n r = digit_values_cons b s ∙ rw (d, no_last_digit s (eqb_true k 0 z), no_digit_values)
+    go true true d z n r = digit_values_cons b s ∙ rw (d, no_last_digit s (eqb-true k 0 z), no_digit_values)
     go false true d z n r = absurd (n refl)
     go t false d z n r = more (k - 1) (let q = eqb-false k 0 z in omega arith) (r (eqb-false k 0 z))
 

@@ -5,7 +5,7 @@ use Prim.Native.Nat.{ℕ, ◌+◌, ◌-◌, ◌<◌}
 use native.Mathlib.Omega.{arith}
 use lib.Dec.{ltb}
 use lib.ListN.{get_or}
-use borrow.Author.Tests.{ltb-true, lt_ltb, le-leb}
+use borrow.Author.Tests.{ltb-true, lt-ltb, le-leb}
 use Rattle.lists.specs.Bytes.{bytes, all, Every}
 use Rattle.lists.proofs.Every.{every_imply}
 use Rattle.vocabulary.specs.Vocabulary.{word_of, cardinals, ordinals, ones_at, scales_at, ordinal_step}
@@ -47,7 +47,7 @@ unfolding number_of ordinal_number
 digit_form d h =
     let e : ones_at + d + ordinal_step ≡ ones_at + ordinal_step + d = omega arith in
     form_number (one d) (one_number_word d h)
-    ∙ rw (le-leb ones_at (ones_at + d) (omega arith), lt_ltb (ones_at + d) (ones_at + ordinal_step) (omega arith)) (ap word_of e)
+    ∙ rw (le-leb ones_at (ones_at + d) (omega arith), lt-ltb (ones_at + d) (ones_at + ordinal_step) (omega arith)) (ap word_of e)
 
 -- the word stands in `cardinals`, and its ordinal form at the same place in `ordinals`
 pub record Listed (w : Word) : Type 0 where

@@ -10,7 +10,7 @@ use native.Mathlib.Omega.{arith}
 use lib.Dec.{eqb}
 use lib.ListN.{length, take, drop, get_or, length-take, length-drop, take-append-drop}
 use lib.Pow.{pow-add}
-use borrow.Author.Tests.{eqb_true, le-leb}
+use borrow.Author.Tests.{eqb-true, le-leb}
 use Rattle.lists.specs.Bytes.{filter_if, same_by, Every}
 use Rattle.lists.specs.Classes.{except}
 use Rattle.vocabulary.proofs.Laws.{unfold_vocabulary}
@@ -50,7 +50,7 @@ group_value t (a ∷ b ∷ c ∷ []) ws h = rw (cardinal_eq (a ∷ b ∷ c ∷ [
     go : (z : Bool) → eqb a 0 ≡ z
         → words_value_from t 0 (cond z (short_cardinal (b ∷ c ∷ [])) (one a ∷ hundred ∷ pair_words b c) ++ ws) ≡ words_value_from t
         (((0 * 10 + a) * 10 + b) * 10 + c) ws
-    go true e = two_value t b c ws ∙ ap (λ (x : ℕ). words_value_from t x ws) (omega (arith, eqb_true a 0 e))
+    go true e = two_value t b c ws ∙ ap (λ (x : ℕ). words_value_from t x ws) (omega (arith, eqb-true a 0 e))
     go false e = pair_value t ((0 + a) * 100) b c ws ∙ ap (λ (x : ℕ). words_value_from t x ws) (omega arith)
 group_value t (a ∷ b ∷ c ∷ d ∷ s) ws h = absurd (omega arith)
 

@@ -5,7 +5,7 @@ use mathlib.Core.List.{List, [], ◌∷◌, append-nil}
 use Prim.Native.Nat.{ℕ, ◌+◌, ◌≤◌, ◌<◌}
 use Prim.Native.Char.{code}
 use lib.ListN.{length, take, drop}
-use borrow.Author.Tests.{lt_ltb, le-ltb}
+use borrow.Author.Tests.{lt-ltb, le-ltb}
 use Rattle.lists.specs.Bytes.{bytes, starts_with}
 use Rattle.vocabulary.specs.Vocabulary.{word_of}
 use Rattle.vocabulary.proofs.Laws.{unfold_vocabulary}
@@ -28,7 +28,7 @@ module _ (s : List ℕ) (σ : Writer) {n : ℕ} (e : n ≡ point_at s) where
       → τ ≡ put_words (spelled (cardinal w)) σ → υ ≡ put_word (word_of 85) τ → φ ≡ put_words (spelled (digits f)) υ → φ ≡ put_words (spelled (pointed s)) σ
   unfolding pointed spell unfold_vocabulary
   pointed_parts h {w} {f} {τ} p q a b c =
-      rw (← e, lt_ltb n (length s) h, ← p, ← q)
+      rw (← e, lt-ltb n (length s) h, ← p, ← q)
       (says_more (cardinal w) (other (bytes "point") ∷ digits f) refl σ a
       (says_more (other (bytes "point") ∷ []) (digits f) refl τ (said_word (other (bytes "point")) τ b) c))
 
@@ -62,7 +62,7 @@ module _ (s : List ℕ) (σ : Writer) where
         pub part_e : n < length s → {υ : Writer} → υ ≡ put_word (word_of 88) τ → PartSaid υ (n + 1)
         unfolding part_words part_size spell unfold_vocabulary
         part_e h c =
-            let l = lt_ltb n (length s) h in (
+            let l = lt-ltb n (length s) h in (
               rw (← i, m, ← j, p, ← e, l, ← f) (says_more (pointed t) (other (bytes "e") ∷ []) refl σ d (said_word (other (bytes "e")) τ c)),
               rw (← i, m, ← j, p, ← e, l),
             )

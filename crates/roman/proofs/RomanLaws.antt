@@ -10,7 +10,7 @@ use native.Mathlib.Omega.{arith}
 use lib.Dec.{ltb, eqb}
 use lib.ListN.{length, drop, get_or}
 use lib.Seq.{drop-cons, drop-length}
-use borrow.Author.Tests.{lt_ltb, le-ltb, ne_eqb}
+use borrow.Author.Tests.{lt-ltb, le-ltb, ne_eqb}
 use Rattle.lists.specs.Bytes.{bytes, elem, any}
 use Rattle.lists.proofs.Sets.{le_or_lt}
 use Rattle.roman.specs.Roman.{roman_letter_value, any_larger, sum_added, sum_subtracted, roman_value}
@@ -39,8 +39,8 @@ ltb_max : (v w m : ℕ) → (ltb v w || ltb v m) ≡ ltb v (max w m)
 ltb_max v w m =
     ⊎_elim
     (λ (h : w ≤ v). ⊎_elim (λ (k : m ≤ v). rw (le-ltb v w h, le-ltb v m k) (sym (le-ltb v (max w m) (omega arith))))
-    (λ (k : v < m). rw (le-ltb v w h, lt_ltb v m k) (sym (lt_ltb v (max w m) (omega arith)))) (le_or_lt m v))
-    (λ (h : v < w). rw (lt_ltb v w h) (sym (lt_ltb v (max w m) (omega arith)))) (le_or_lt w v)
+    (λ (k : v < m). rw (le-ltb v w h, lt-ltb v m k) (sym (lt-ltb v (max w m) (omega arith)))) (le_or_lt m v))
+    (λ (h : v < w). rw (lt-ltb v w h) (sym (lt-ltb v (max w m) (omega arith)))) (le_or_lt w v)
 
 any_larger_max : (v : ℕ) (vs : List ℕ) → any_larger v vs ≡ ltb v (maximum vs)
 unfolding any maximum

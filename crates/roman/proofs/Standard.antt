@@ -7,7 +7,7 @@ use Prim.Native.String.{String}
 use native.Mathlib.Omega.{arith}
 use lib.Dec.{eqb, leb, ltb}
 use lib.ListN.{take, drop, take-append-drop}
-use borrow.Author.Tests.{le-ltb, leb-true, eqb_true, ne_eqb}
+use borrow.Author.Tests.{le-ltb, leb-true, eqb-true, ne_eqb}
 use Rattle.lists.specs.Bytes.{bytes, all, any, elem, to_lower, Every}
 use Rattle.lists.proofs.Bools.{or_false_both}
 use Rattle.lists.proofs.Every.{every_append, every_imply, every_tested}
@@ -62,7 +62,7 @@ module _ (lo hi unit : ℕ) (table : List String) where
   unfolding digit_test
   digit_reads n t d h =
       let k = (and-eq-true_iff (all (in_range lo hi) (map roman_letter_value (roman_digit table d))) _).0 (below digit_test n t d h) in
-      record { sizes = every_tested _ _ (bounds lo hi) _ k.0; sum = eqb_true _ _ k.1 }
+      record { sizes = every_tested _ _ (bounds lo hi) _ k.0; sum = eqb-true _ _ k.1 }
 
 -- if each value is at least 1, no letter is foreign, so the numeral's value is the number that they come to
 comes_to_value : (s : List ℕ) (n hi : ℕ) → ComesTo 1 hi n (map roman_letter_value s) → roman_value s ≡ n
@@ -128,7 +128,7 @@ letter_value_lower b = go (leb 65 b) (leb b 90) refl refl
     go : (t u : Bool) → leb 65 b ≡ t → leb b 90 ≡ u → roman_letter_value (cond (t && u) (b + 32) b) ≡ roman_letter_value b
     go true true p q =
         let e : b - 65 + 65 ≡ b = omega (arith, leb-true 65 b p) in
-        let k = eqb_true (roman_letter_value (to_lower (b - 65 + 65))) (roman_letter_value (b - 65 + 65))
+        let k = eqb-true (roman_letter_value (to_lower (b - 65 + 65))) (roman_letter_value (b - 65 + 65))
         (below same_value_lowered 26 refl (b - 65) (omega (arith, leb-true 65 b p, leb-true b 90 q))) in
         rw (p, q) at (rw e at k)
     go true false p q = refl

@@ -6,7 +6,7 @@ use Prim.Native.Nat.{ℕ, ◌+◌, ◌-◌, ◌<◌}
 use Prim.Native.Char.{code}
 use lib.Dec.{eqb}
 use lib.ListN.{length, take, drop, get_or}
-use borrow.Author.Tests.{ltb-true, eq-eqb, ne_eqb, not_true}
+use borrow.Author.Tests.{ltb-true, eq-eqb, ne_eqb, not-true}
 use Rattle.lists.specs.Bytes.{filter_if, all}
 use Rattle.lists.specs.Classes.{except, letter, digit_or_comma}
 use Rattle.units.specs.Units.{unit_index, is_unit, unit_word, word_numbers}
@@ -120,7 +120,7 @@ letter_initial b n = rw (ne_eqb b (code ".") n)
 
 -- a byte of a dotted abbreviation that is no point is a letter
 kept_letter : (b : ℕ) → dotted_byte b ≡ true → except (code ".") b ≡ true → letter b ≡ true
-kept_letter b h k = sym (or-false (letter b)) ∙ rw (not_true (eqb b (code ".")) k) at h
+kept_letter b h k = sym (or-false (letter b)) ∙ rw (not-true (eqb b (code ".")) k) at h
 
 kept_letters : (s : List ℕ) → all dotted_byte s ≡ true → all letter (filter_if (except (code ".")) s) ≡ true
 unfolding all filter_if

@@ -6,7 +6,7 @@ use Prim.Native.Nat.{ℕ, ◌-◌, ◌<◌, ◌≤◌}
 use Prim.Native.Char.{code}
 use native.Mathlib.Omega.{arith}
 use lib.ListN.{length, take}
-use lib.Seq.{length_take_le}
+use lib.Seq.{length-take-le}
 use Rattle.lists.specs.Bytes.{ends_with, to_lower}
 use Rattle.lists.proofs.Recursion.{Local, recur_eq}
 use Rattle.rows.specs.Rows.{Rule, ◌reads◌, Reading, by, row_number, rows, read_step, read_with, read}
@@ -19,7 +19,7 @@ ends_some c (b ∷ s) e = omega arith
 
 -- without its last byte a text is shorter
 pub shorter : (s : List ℕ) → 1 ≤ length s → length (take (length s - 1) s) < length s
-shorter s h = let e = length_take_le (length s - 1) s (omega arith) in omega arith
+shorter s h = let e = length-take-le (length s - 1) s (omega arith) in omega arith
 
 read_local : (word : List ℕ → List ℕ) → Local (read_step word)
 unfolding read_step

@@ -7,7 +7,7 @@ use Prim.Native.Char.{code}
 use native.Mathlib.Omega.{arith}
 use lib.Dec.{eqb, ltb}
 use lib.ListN.{length, take, get_or}
-use borrow.Author.Tests.{eqb_true, eq-eqb, ne_eqb}
+use borrow.Author.Tests.{eqb-true, eq-eqb, ne_eqb}
 use Rattle.lists.specs.Bytes.{all, elem, to_lower, starts_with, ends_with, any}
 use Rattle.lists.specs.Classes.{digit, digit_or_comma}
 use Rattle.shapes.specs.Shapes.{is_dotted_abbrev, is_comma_int, is_time, is_leading_zero_digits, is_digits, is_double, is_ordinal}
@@ -28,7 +28,7 @@ elem_at c (b ∷ s) (suc i) h e = rw (elem_at c s i (omega arith) e, or-true (eq
 ends_elem : (c : ℕ) (s : List ℕ) → ends_with c s ≡ true → elem c s ≡ true
 ends_elem c s e =
     elem_at c s (length s - 1) (omega (arith, ends_some c s e))
-    (eqb_true (get_or s (length s - 1) 0) c ((and-eq-true_iff (not (eqb (length s) 0)) (eqb (get_or s (length s - 1) 0) c)).0 e).1)
+    (eqb-true (get_or s (length s - 1) 0) c ((and-eq-true_iff (not (eqb (length s) 0)) (eqb (get_or s (length s - 1) 0) c)).0 e).1)
 
 -- the name passes none of the tests of rows 1 to 9
 pub record Untaken (s : List ℕ) : Type 0 where

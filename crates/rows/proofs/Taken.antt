@@ -8,7 +8,7 @@ use native.Mathlib.Omega.{arith}
 use lib.Dec.{eqb, leb, ltb}
 use lib.ListN.{length, take, drop, get_or, take-append-drop, drop_of_length-le}
 use lib.Seq.{get_or-drop}
-use borrow.Author.Tests.{eqb_true, ltb-true, ltb-false, leb-true, not-false, le-ltb, ne_eqb}
+use borrow.Author.Tests.{eqb-true, ltb-true, ltb-false, leb-true, not-false, le-ltb, ne_eqb}
 use Rattle.lists.specs.Bytes.{bytes, all, span, elem, split, onto, same_by, uppercase, lowercase, to_lower, starts_with, ends_with, strip_suffix, ends_with_by, any}
 use Rattle.lists.specs.Classes.{digit, letter, digit_or_comma, not_colon_or_point, except}
 use Rattle.lists.proofs.Scan.{all_append, all_more, all_within, span_all, span_fails, all_span, all_split, all_at, class_apart}
@@ -31,7 +31,7 @@ lacks p c [] h k = absurd (false≢true k)
 lacks p c (b ∷ s) h k = go (eqb b c) refl k (lacks p c s h)
   where
     go : (t : Bool) → eqb b c ≡ t → (t || elem c s) ≡ true → (elem c s ≡ true → all p s ≡ false) → (p b && all p s) ≡ false
-    go true e k i = rw (eqb_true b c e, h)
+    go true e k i = rw (eqb-true b c e, h)
     go false e k i = rw (i k) (and-false (p b))
 
 -- if all bytes of a shape's names are of a class, the shape takes no text with a byte outside that class
@@ -75,14 +75,14 @@ module _ (p : ℕ → Bool) where
       go : (t : Bool) → ends_with c s ≡ t → all p (cond t (take (length s - 1) s) s) ≡ true → all p s ≡ true
       go true e h =
           let l : length s - 1 < length s = omega (arith, ends_some c s e) in
-          let f = eqb_true (get_or s (length s - 1) 0) c ((and-eq-true_iff (not (eqb (length s) 0)) (eqb (get_or s (length s - 1) 0) c)).0 e).1 in
+          let f = eqb-true (get_or s (length s - 1) 0) c ((and-eq-true_iff (not (eqb (length s) 0)) (eqb (get_or s (length s - 1) 0) c)).0 e).1 in
           all_around s (length s - 1) l h (rw f q) (rw (drop_of_length-le s {i = length s - 1 + 1} (omega arith)))
       go false e h = h
 
   all_prefixed : (c : ℕ) (s : List ℕ) → p c ≡ true → starts_with c s ≡ true → all p (drop 1 s) ≡ true → all p s ≡ true
   unfolding all
   all_prefixed c [] q e h = refl
-  all_prefixed c (b ∷ s) q e h = rw (eqb_true b c ((and-eq-true_iff (not (eqb (suc (length s)) 0)) (eqb b c)).0 e).1, q, h)
+  all_prefixed c (b ∷ s) q e h = rw (eqb-true b c ((and-eq-true_iff (not (eqb (suc (length s)) 0)) (eqb b c)).0 e).1, q, h)
 
   -- a text is of a class if its parts and their separator are
   all_onto : (b : ℕ) (ps : List (List ℕ)) → all (all p) (onto b ps) ≡ p b && all (all p) ps
@@ -96,7 +96,7 @@ module _ (p : ℕ → Bool) where
   all_parts_lem c q (b ∷ s) = go (eqb b c) refl (all_parts_lem c q s)
     where
       go : (t : Bool) → eqb b c ≡ t → all (all p) (split c s) ≡ all p s → all (all p) (cond t ([] ∷ split c s) (onto b (split c s))) ≡ p b && all p s
-      go true e i = i ∙ rw (eqb_true b c e, q)
+      go true e i = i ∙ rw (eqb-true b c e, q)
       go false e i = all_onto b (split c s) ∙ rw i
 
 parts_first : (p : List ℕ → Bool) (c : ℕ) (s : List ℕ) → all p (split c s) ≡ true → p (take (span (except c) s) s) ≡ true
@@ -233,7 +233,7 @@ lowered_letters (b ∷ s) [] k h = absurd (false≢true h)
 lowered_letters (b ∷ s) (c ∷ t) k h =
     let x = (and-eq-true_iff (eqb (to_lower b) c) (same_by to_lower s t)).0 h in
     let y = (and-eq-true_iff (lowercase c) (all lowercase t)).0 k in
-    rw (lowered_letter b (rw (eqb_true (to_lower b) c x.0) y.0), lowered_letters s t y.1 x.1)
+    rw (lowered_letter b (rw (eqb-true (to_lower b) c x.0) y.0), lowered_letters s t y.1 x.1)
 
 -- the last of two bytes
 second : (f : ℕ → ℕ) (c d : ℕ) (s : List ℕ) → same_by f s (c ∷ d ∷ []) ≡ true → f (get_or s 1 0) ≡ d
@@ -241,7 +241,7 @@ unfolding same_by
 second f c d [] h = absurd (false≢true h)
 second f c d (a ∷ []) h = absurd (false≢true ((and-eq-true_iff (eqb (f a) c) false).0 h).1)
 second f c d (a ∷ b ∷ s) h =
-    eqb_true (f b) d
+    eqb-true (f b) d
     ((and-eq-true_iff (eqb (f b) d) (same_by f s [])).0 ((and-eq-true_iff (eqb (f a) c) (eqb (f b) d && same_by f s [])).0 h).1).0
 
 -- the last two bytes of a text that ends in two letters, for am and pm
@@ -309,7 +309,7 @@ double_digits s h = all_within digit double_byte digit_double s (digits_all s h)
 empty_all : (p : ℕ → Bool) (s : List ℕ) → eqb (length s) 0 ≡ true → all p s ≡ true
 unfolding all
 empty_all p [] h = refl
-empty_all p (b ∷ s) h = absurd (let e = eqb_true (suc (length s)) 0 h in omega arith)
+empty_all p (b ∷ s) h = absurd (let e = eqb-true (suc (length s)) 0 h in omega arith)
 
 exponent_bytes : (s : List ℕ) → is_exponent s ≡ true → all double_byte s ≡ true
 unfolding is_exponent

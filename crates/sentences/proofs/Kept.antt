@@ -6,7 +6,7 @@ use Prim.Native.Nat.{ℕ}
 use native.Mathlib.Omega.{arith}
 use lib.Dec.{eqb}
 use lib.ListN.{length}
-use borrow.Author.Tests.{eqb_true, eqb-false}
+use borrow.Author.Tests.{eqb-true, eqb-false}
 use Rattle.lists.specs.Bytes.{bytes, same_by, to_lower}
 use Rattle.lists.proofs.Scan.{same_long}
 use Rattle.tokens.specs.Tokens.{Token}
@@ -33,7 +33,7 @@ head_same : (s w : List ℕ) → length w ≡ 5 → (eqb (length s) 5 && same_by
 head_same s w l = go (eqb (length s) 5) refl
   where
     go : (t : Bool) → eqb (length s) 5 ≡ t → (t && same_by to_lower (head_of s) w) ≡ same_by to_lower s w
-    go true e = ap (λ (h : List ℕ). same_by to_lower h w) (head_five s (eqb_true (length s) 5 e))
+    go true e = ap (λ (h : List ℕ). same_by to_lower h w) (head_five s (eqb-true (length s) 5 e))
     go false e = sym (same_long to_lower s w (λ k. eqb-false (length s) 5 e (k ∙ l)))
 
 -- the state after a token has all that the tests ask about the token

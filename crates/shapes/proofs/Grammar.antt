@@ -10,7 +10,7 @@ use native.Mathlib.Omega.{arith}
 use lib.Dec.{eqb, leb, ltb}
 use lib.ListN.{length, take, drop, get_or, length-append, length-take, take-append-drop, drop_of_length-le}
 use lib.Seq.{take_at, drop_at, get_or_at, split_at, take-suc, drop-drop, drop-length}
-use borrow.Author.Tests.{eqb_true, eqb-false, eq-eqb, ne_eqb, ltb-true, lt_ltb, leb-true, le-leb, not_true, not-false}
+use borrow.Author.Tests.{eqb-true, eqb-false, eq-eqb, ne_eqb, ltb-true, lt-ltb, leb-true, le-leb, not-true, not-false}
 use Rattle.lists.specs.Bytes.{bytes, all, any, span, after_last, listed, split, onto, same, same_by, uppercase, to_lower, starts_with, ends_with}
 use Rattle.lists.specs.Classes.{digit, digit_or_comma, not_colon_or_point, except}
 use Rattle.lists.proofs.Bools.{or_true_elim}
@@ -42,7 +42,7 @@ once_parts c both s h =
     let n = span (except c) s in
     let k = (and-eq-true_iff (ltb n (length s)) (both (take n s) (drop (n + 1) s))).0 h in
     let l = ltb-true n (length s) k.0 in
-    let e : get_or s n 0 ≡ c = eqb_true _ _ (not-false _ (span_fails (except c) s l)) in
+    let e : get_or s n 0 ≡ c = eqb-true _ _ (not-false _ (span_fails (except c) s l)) in
     record { front = take n s; rest = drop (n + 1) s; joined = rw (e, ← add-one n) at (split_at s n 0 l); first = span_all (except c) s; passed = k.1 }
 
 -- and `split_once` takes two such parts with c between them
@@ -52,7 +52,7 @@ once_taken c both a b f p =
     let n = span (except c) (a ++ (c ∷ b)) in
     let e : n ≡ length a = span_before (except c) a c b (rw (eq-eqb c c refl)) ∙ all_span (except c) a f in
     let m : drop (n + 1) (a ++ (c ∷ b)) ≡ b = sym (drop-drop 1 n (a ++ (c ∷ b))) ∙ ap (drop 1) (drop_at a (c ∷ b) n (sym e)) in
-    rw (lt_ltb n (length (a ++ (c ∷ b))) (omega (arith, e, length-append a (c ∷ b))), take_at a (c ∷ b) n (sym e), m, p)
+    rw (lt-ltb n (length (a ++ (c ∷ b))) (omega (arith, e, length-append a (c ∷ b))), take_at a (c ∷ b) n (sym e), m, p)
 
 -- a separator that is no digit does not stand among digits
 no_separator : (c : ℕ) → digit c ≡ false → (s : List ℕ) → is_digits s ≡ true → all (except c) s ≡ true
@@ -121,7 +121,7 @@ join_by_split c (b ∷ s) = go (eqb b c) refl (split c s) (split_some c s) (join
   where
     go : (t : Bool) → eqb b c ≡ t → (ps : List (List ℕ)) → 0 < length ps → join_by c ps ≡ s → join_by c (cond t ([] ∷ ps) (onto b ps)) ≡ b ∷ s
     go t e [] l i = absurd (omega arith)
-    go true e (p ∷ ps) l i = rw (eqb_true b c e) (ap (λ (r : List ℕ). c ∷ r) i)
+    go true e (p ∷ ps) l i = rw (eqb-true b c e) (ap (λ (r : List ℕ). c ∷ r) i)
     go false e (p ∷ ps) l i = ap (λ (r : List ℕ). b ∷ r) i
 
 -- if the first part of the rest is empty, a part without the separator that is put before the rest takes its place
@@ -130,7 +130,7 @@ unfolding split onto all
 front_part c [] rest ps e h = e
 front_part c (b ∷ p) rest ps e h =
     let k = (and-eq-true_iff (except c b) (all (except c) p)).0 h in
-    rw (not_true (eqb b c) k.0, front_part c p rest ps e k.1)
+    rw (not-true (eqb b c) k.0, front_part c p rest ps e k.1)
 
 -- parts without the separator, joined by it, are split into these parts again
 pub split_join_by : (c : ℕ) (p : List ℕ) (ps : List (List ℕ)) → all (all (except c)) (p ∷ ps) ≡ true → split c (join_by c (p ∷ ps)) ≡ p ∷ ps
@@ -170,7 +170,7 @@ comma_form s = (λ e. go (split (code ",") s) (join_by_split (code ",") s) e, co
 zero_taken : (s : List ℕ) → LeadingZeroForm s → is_leading_zero_digits s ≡ true
 unfolding is_digits all
 zero_taken _ (leading_zero d h) =
-    rw (lt_ltb 1 (suc (length d)) (omega (arith, digits_some d h)), ne_eqb (suc (length d)) 0 (omega arith), digits_all d h)
+    rw (lt-ltb 1 (suc (length d)) (omega (arith, digits_some d h)), ne_eqb (suc (length d)) 0 (omega arith), digits_all d h)
 
 -- is_leading_zero_digits takes a text exactly when it has this form
 pub zero_form : (s : List ℕ) → (is_leading_zero_digits s ≡ true) ↔ LeadingZeroForm s
@@ -180,7 +180,7 @@ zero_form (b ∷ d) = (
   λ e.
       let p = (and-eq-true_iff (ltb 1 (suc (length d)) && starts_with (code "0") (b ∷ d)) (is_digits (b ∷ d))).0 e in
       let q = (and-eq-true_iff (ltb 1 (suc (length d))) (starts_with (code "0") (b ∷ d))).0 p.0 in
-      let z : b ≡ code "0" = eqb_true b (code "0") (sym (starts_with_first (code "0") b d) ∙ q.1) in
+      let z : b ≡ code "0" = eqb-true b (code "0") (sym (starts_with_first (code "0") b d) ∙ q.1) in
       let l = ltb-true 1 (suc (length d)) q.0 in
       let h = ((and-eq-true_iff (digit b) (all digit d)).0 (digits_all (b ∷ d) p.1)).1 in
       subst (λ c. LeadingZeroForm (c ∷ d)) (sym z) (leading_zero d (rw (ne_eqb (length d) 0 (omega arith), h))),
@@ -224,7 +224,7 @@ number_form s = (
       let p = (and-eq-true_iff (leb 2 (length s) && ends_with (code "s") s) (is_digits (take n s))).0 e in
       let q = (and-eq-true_iff (leb 2 (length s)) (ends_with (code "s") s)).0 p.0 in
       let two = leb-true 2 (length s) q.0 in
-      let last : get_or s n 0 ≡ code "s" = eqb_true _ _ ((and-eq-true_iff (not (eqb (length s) 0)) (eqb (get_or s n 0) (code "s"))).0 q.1).1 in
+      let last : get_or s n 0 ≡ code "s" = eqb-true _ _ ((and-eq-true_iff (not (eqb (length s) 0)) (eqb (get_or s n 0) (code "s"))).0 q.1).1 in
       let w : s ≡ take n s ++ bytes "s" = rw (last, drop_of_length-le s {i = suc n} (omega arith)) at (split_at s n 0 (omega arith)) in
       subst NumberSForm (sym w) (number_s (take n s) p.1),
   number_taken s,
@@ -235,7 +235,7 @@ two_bytes : (s : List ℕ) (c d : ℕ) → c < 128 → same_by to_lower s (c ∷
 unfolding same_by
 two_bytes [] c d l h = absurd (false≢true h)
 two_bytes (a ∷ []) c d l h = absurd (false≢true ((and-eq-true_iff (eqb (to_lower a) c) false).0 h).1)
-two_bytes (a ∷ b ∷ []) c d l h = (refl, rw (lt_ltb a 128 (go (uppercase a) (eqb_true (to_lower a) c ((and-eq-true_iff (eqb (to_lower a) c) _).0 h).0))))
+two_bytes (a ∷ b ∷ []) c d l h = (refl, rw (lt-ltb a 128 (go (uppercase a) (eqb-true (to_lower a) c ((and-eq-true_iff (eqb (to_lower a) c) _).0 h).0))))
   where
     go : (t : Bool) → cond t (a + 32) a ≡ c → a < 128
     go true e = omega arith
@@ -275,7 +275,7 @@ meridiem_taken _ (meridiem_time h m x c p q e) =
       take_at t x (length s - 2) (omega arith),
       e,
       sep,
-      lt_ltb (length h) (length t) (omega (arith, length-append h (c ∷ m))),
+      lt-ltb (length h) (length t) (omega (arith, length-append h (c ∷ m))),
       take_at h (c ∷ m) (length h) refl,
       ← drop-drop 1 (length h) t,
       drop_at h (c ∷ m) (length h) refl,
@@ -315,7 +315,7 @@ same_lowered (b ∷ s) (c ∷ t) = rw (same_lowered s t) (ap (λ (x : Bool). x &
     eqb_sym m n = go (eqb n m) refl
       where
         go : (x : Bool) → eqb n m ≡ x → eqb m n ≡ x
-        go true e = eq-eqb m n (sym (eqb_true n m e))
+        go true e = eq-eqb m n (sym (eqb-true n m e))
         go false e = ne_eqb m n (λ z. eqb-false n m e (sym z))
 
 -- a text is a suffix exactly when it is one of the list once it is lowered
@@ -393,7 +393,7 @@ amount_form s e = go (drop n s) refl p.1
     p = (and-eq-true_iff (not (eqb n 0)) (cond (starts_with (code ".") (drop n s)) (is_digits (drop 1 (drop n s))) (eqb (length (drop n s)) 0))).0 e
 
     some : 0 < length (take n s)
-    some = omega (arith, eqb-false n 0 (not_true (eqb n 0) p.0), length-take n s, span_le digit_or_comma s)
+    some = omega (arith, eqb-false n 0 (not-true (eqb n 0) p.0), length-take n s, span_le digit_or_comma s)
 
     whole : (r : List ℕ) → drop n s ≡ r → take n s ++ r ≡ s
     whole r q = ap (λ (x : List ℕ). take n s ++ x) (sym q) ∙ take-append-drop n s
@@ -405,9 +405,9 @@ amount_form s e = go (drop n s) refl p.1
       where
         more : (t : Bool) → eqb b (code ".") ≡ t → cond t (is_digits d) (eqb (suc (length d)) 0) ≡ true → MoneyForm (bytes "$" ++ s)
         more true f h =
-            subst (λ x. MoneyForm (code "$" ∷ x)) (whole (code "." ∷ d) (q ∙ ap (λ (c : ℕ). c ∷ d) (eqb_true b (code ".") f)))
+            subst (λ x. MoneyForm (code "$" ∷ x)) (whole (code "." ∷ d) (q ∙ ap (λ (c : ℕ). c ∷ d) (eqb-true b (code ".") f)))
             (cents (take n s) d some (span_all digit_or_comma s) h)
-        more false f h = absurd (omega (arith, eqb_true (suc (length d)) 0 h))
+        more false f h = absurd (omega (arith, eqb-true (suc (length d)) 0 h))
 
 -- is_us_money takes a text exactly when it has this form
 pub money_form_lem : (s : List ℕ) → (is_us_money s ≡ true) ↔ MoneyForm s
@@ -415,7 +415,7 @@ money_form_lem [] = (λ e. absurd (false≢true e), money_taken [])
 money_form_lem (b ∷ s) = (
   λ e.
       let p = (and-eq-true_iff (starts_with (code "$") (b ∷ s)) (is_amount s)).0 e in
-      let z : b ≡ code "$" = eqb_true b (code "$") (sym (starts_with_first (code "$") b s) ∙ p.0) in
+      let z : b ≡ code "$" = eqb-true b (code "$") (sym (starts_with_first (code "$") b s) ∙ p.0) in
       subst (λ c. MoneyForm (c ∷ s)) (sym z) (amount_form s p.1),
   money_taken (b ∷ s),
 )
@@ -431,7 +431,7 @@ listed_passes p u (s ∷ ss) a h =
 -- no unit has a digit
 unit_digitless : (u : List ℕ) → is_unit u ≡ true → after_last digit u ≡ 0
 unfolding abbreviations unit_abbreviations all after_last
-unit_digitless u h = eqb_true _ 0 (listed_passes (λ t. eqb (after_last digit t) 0) u abbreviations refl h)
+unit_digitless u h = eqb-true _ 0 (listed_passes (λ t. eqb (after_last digit t) 0) u abbreviations refl h)
 
 -- a name of this form has a unit
 unit_taken : (s : List ℕ) → UnitForm s → has_unit s ≡ true
@@ -462,7 +462,7 @@ unit_form_lem s = (
       let n = unit_at s in
       let a = (and-eq-true_iff (not (eqb n 0) && all digit_or_comma (take n s)) (is_unit (drop n s))).0 e in
       let b = (and-eq-true_iff (not (eqb n 0)) (all digit_or_comma (take n s))).0 a.0 in
-      let z = eqb-false n 0 (not_true (eqb n 0) b.0) in
+      let z = eqb-false n 0 (not-true (eqb n 0) b.0) in
       let k = n - 1 in
       let m : suc k ≡ n = omega arith in
       let w : take n s ≡ take k s ++ (get_or s k 0 ∷ []) = rw m at (take-suc s k 0 (omega (arith, last_le digit s))) in

@@ -6,7 +6,7 @@ use Prim.Native.Nat.{ℕ, suc, ◌+◌, ◌≤◌, ◌<◌}
 use native.Mathlib.Omega.{arith}
 use lib.Dec.{leb, ltb, eqb}
 use lib.ListN.{length, take, drop, get_or, length-take, length-drop}
-use borrow.Author.Tests.{ne_eqb, ltb-true, leb-true, eqb_true, eqb-false, not_true}
+use borrow.Author.Tests.{ne_eqb, ltb-true, leb-true, eqb-true, eqb-false, not-true}
 use Rattle.lists.specs.Bytes.{all, span, split, onto, non_empty}
 use Rattle.lists.specs.Classes.{digit, digit_or_comma, digit_or_dash, except}
 use Rattle.lists.proofs.Parts.{split_some, split_more, split_last}
@@ -22,7 +22,7 @@ digits_all s h = ((and-eq-true_iff (not (eqb (length s) 0)) (all digit s)).0 h).
 -- a text of digits is not empty
 pub digits_nonempty : (s : List ℕ) → is_digits s ≡ true → eqb (length s) 0 ≡ false
 unfolding is_digits
-digits_nonempty s h = not_true (eqb (length s) 0) ((and-eq-true_iff (not (eqb (length s) 0)) (all digit s)).0 h).0
+digits_nonempty s h = not-true (eqb (length s) 0) ((and-eq-true_iff (not (eqb (length s) 0)) (all digit s)).0 h).0
 
 -- so it has a length above 0
 pub digits_some : (s : List ℕ) → is_digits s ≡ true → 0 < length s
@@ -98,7 +98,7 @@ split_length c both s h = go (ltb (span (except c) s) (length s)) (both a b) ref
 
 -- n digits are n bytes
 n_digits_length : (n : ℕ) (s : List ℕ) → is_n_digits n s ≡ true → length s ≡ n
-n_digits_length n s h = eqb_true (length s) n ((and-eq-true_iff (eqb (length s) n) (is_digits s)).0 h).0
+n_digits_length n s h = eqb-true (length s) n ((and-eq-true_iff (eqb (length s) n) (is_digits s)).0 h).0
 
 -- seven digits and a hyphen are eight bytes
 pub phone_length : (s : List ℕ) → (length s ≡ 8 → ⊥) → is_seven_digit_phone s ≡ false

@@ -6,7 +6,7 @@ use Prim.Native.Nat.{ℕ, zero, suc, ◌+◌, ◌-◌}
 use native.Mathlib.Omega.{arith}
 use lib.Dec.{ltb}
 use lib.ListN.{length, take, drop}
-use lib.Seq.{take-take, length_take_le, take-nil}
+use lib.Seq.{take-take, length-take-le, take-nil}
 use borrow.Author.Tests.{ltb-true}
 use Rattle.shapes.specs.Shapes.{is_hour_minute}
 use Rattle.shapes.specs.Times.{ends_in_meridiem, separator_at, time_of, parts_of_time, no_parts_of_time, time_parts, time_split, time_parts_at, SplitsTime}
@@ -33,7 +33,7 @@ time_split_parts s = go (ends_in_meridiem s) (ltb sep (length (time_of s))) refl
         ≡ cond (a && (b && t)) (parts_of_time (take sep (time_of s)) (drop (sep + 1) (time_of s)) (drop (length s - 2) s)) no_parts_of_time
     go true true e true =
         let l = ltb-true sep (length (time_of s)) e in
-        let k : length (time_of s) ≡ length s - 2 = length_take_le (length s - 2) s (omega arith) in
+        let k : length (time_of s) ≡ length s - 2 = length-take-le (length s - 2) s (omega arith) in
         rw (take-take sep (length s - 2) s (omega arith), drop_take (sep + 1) (length s - 2) s)
     go true true e false = refl
     go true false e t = refl

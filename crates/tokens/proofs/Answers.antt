@@ -8,7 +8,7 @@ use native.Mathlib.Omega.{arith}
 use lib.Dec.{ltb}
 use lib.ListN.{length}
 use lib.Seq.{sets}
-use borrow.Author.Tests.{lt_ltb, le-ltb, ltb-false}
+use borrow.Author.Tests.{lt-ltb, le-ltb, ltb-false}
 use Rattle.lists.proofs.Sets.{sets_front, le_or_lt}
 use Rattle.lists.specs.Bytes.{overwrite}
 use Rattle.admit.specs.Refusals.{Test, ◌when◌, text_limit, text_tests, text_refusal, in_order, first_refusal, call}
@@ -22,7 +22,7 @@ use Rattle.tokens.proofs.Records.{records_length}
 records_fit : (len n : ℕ) → ltb len (record_size * n) ≡ ltb (len / record_size) n
 records_fit len n =
     ⊎_elim (λ (h : record_size * n ≤ len). le-ltb _ _ h ∙ sym (le-ltb (len / record_size) n (omega arith)))
-    (λ (h : len < record_size * n). lt_ltb _ _ h ∙ sym (lt_ltb (len / record_size) n (omega arith))) (le_or_lt (record_size * n) len)
+    (λ (h : len < record_size * n). lt-ltb _ _ h ∙ sym (lt-ltb (len / record_size) n (omega arith))) (le_or_lt (record_size * n) len)
 
 -- a table is too short for the records exactly if it has room for fewer records than there are tokens
 pub records_short : (s old : List ℕ) → ltb (length old) (length (records 0 (tokens s))) ≡ ltb (length old / record_size) (length (tokens s))

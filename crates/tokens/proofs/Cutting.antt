@@ -7,7 +7,7 @@ use Prim.Native.Nat.{ℕ, suc, ◌+◌, ◌-◌, ◌≤◌, ◌<◌}
 use native.Mathlib.Omega.{arith}
 use lib.Dec.{eqb, leb}
 use lib.ListN.{length, take, drop, length-append, length-take, length-drop, drop_of_length-le}
-use lib.Seq.{drop-drop, length_take_le}
+use lib.Seq.{drop-drop, length-take-le}
 use borrow.Author.Tests.{le-leb, lt-leb, eq-eqb, ne_eqb}
 use Rattle.lists.specs.Bytes.{all, span, take_while, drop_while, after_last, any}
 use Rattle.lists.specs.Classes.{prepunctuation_marks, whitespace, non_whitespace, prepunctuation_mark, non_postpunctuation}
@@ -23,7 +23,7 @@ unfolding cut
 cut_marks run m e h =
     let a : all prepunctuation_mark run ≡ true = span_full prepunctuation_mark run (omega arith) in
     let k : span prepunctuation_mark run ≡ length run = omega arith in
-    let l : length (take_while prepunctuation_mark run) ≡ length run = length_take_le (span prepunctuation_mark run) run (omega arith) ∙ k in
+    let l : length (take_while prepunctuation_mark run) ≡ length run = length-take-le (span prepunctuation_mark run) run (omega arith) ∙ k in
     let r : drop_while prepunctuation_mark run ≡ [] = drop_of_length-le run {i = span prepunctuation_mark run} (omega arith) in (
       record { name = rw a; punctuation = rw a (omega arith); within = omega arith },
       record { name = omega arith; punctuation = rw r (omega arith); within = omega arith },
@@ -46,8 +46,8 @@ cut_named run ends m k e h q =
     let d : drop 1 rest ≡ drop (m + 1) run = drop-drop 1 (span prepunctuation_mark run) run ∙ ap (λ (i : ℕ). drop (i + 1) run) (sym e) in
     let f : name_size rest ≡ suc k = name_size_lem rest (omega arith) ∙ ap (λ (r : List ℕ). suc (after_last non_postpunctuation r)) d ∙ ap suc (sym q) in
     let b : k ≤ length run - (m + 1) = rw (length-drop, ← q) at (last_le non_postpunctuation (drop (m + 1) run)) in
-    let l : length (take_while prepunctuation_mark run) ≡ span prepunctuation_mark run = length_take_le (span prepunctuation_mark run) run s in
-    let t : length (take (suc k) rest) ≡ suc k = length_take_le (suc k) rest (omega arith) in
+    let l : length (take_while prepunctuation_mark run) ≡ span prepunctuation_mark run = length-take-le (span prepunctuation_mark run) run s in
+    let t : length (take (suc k) rest) ≡ suc k = length-take-le (suc k) rest (omega arith) in
     record { name = rw (a, and-false) (omega arith); punctuation = rw (a, and-false, f) (omega arith); within = omega arith }
   where
     go : (t : Bool) → all prepunctuation_mark run ≡ t → all prepunctuation_mark run ≡ false
@@ -144,9 +144,9 @@ module _ (s : List ℕ) (at q m r : ℕ) (eq : q ≡ span whitespace (drop at s)
   first_places n p c =
       let d : List ℕ = drop at s in
       let c' : CutAt (take_while non_whitespace (after_whitespace d)) (eqb (length (after_run d)) 0) n p = rw (run_take_while, run_ends) at c in
-      let lw : length (take_while whitespace d) ≡ q = length_take_le (span whitespace d) d (span_le whitespace d) ∙ sym eq in
+      let lw : length (take_while whitespace d) ≡ q = length-take-le (span whitespace d) d (span_le whitespace d) ∙ sym eq in
       let lr : length (take_while non_whitespace (after_whitespace d)) ≡ m + r =
-      length_take_le (span non_whitespace (after_whitespace d)) (after_whitespace d) (span_le non_whitespace (after_whitespace d))
+      length-take-le (span non_whitespace (after_whitespace d)) (after_whitespace d) (span_le non_whitespace (after_whitespace d))
       ∙ ap (span non_whitespace) (sym run_white) ∙ sym run_size in
       let e : end ≡ at + q + (m + r) = omega arith in
       rw e (rw (lw, lr) at (cut_places at (take_while whitespace d) (take_while non_whitespace (after_whitespace d)) (eqb (length (after_run d)) 0) n p c'))

@@ -7,7 +7,7 @@ use native.Mathlib.Nat.{add-zero}
 use native.Mathlib.Omega.{arith}
 use lib.Dec.{eqb}
 use lib.ListN.{length, take, drop, get_or, length-append, length-drop, take-append-drop}
-use lib.Seq.{get_or-drop, drop-drop, take-add, length_take_le}
+use lib.Seq.{get_or-drop, drop-drop, take-add, length-take-le}
 use borrow.Author.Tests.{not-false}
 use Rattle.lists.specs.Bytes.{all, span, take_while, drop_while}
 use Rattle.lists.specs.Classes.{whitespace, non_whitespace, prepunctuation_mark}
@@ -101,7 +101,7 @@ pub first_size_lem : (s : List ℕ) → token_size (first_token s) ≡ first_siz
 first_size_lem s =
     let a = span_le whitespace s in
     let b : span non_whitespace (after_whitespace s) ≤ length s - span whitespace s = rw length-drop at (span_le non_whitespace (after_whitespace s)) in
-    ap length (first_take s) ∙ length_take_le (first_size s) s (omega arith)
+    ap length (first_take s) ∙ length-take-le (first_size s) s (omega arith)
 
 -- the text is its first token's parts and what follows them
 pub first_joined : (s : List ℕ) → flatten (token_parts (first_token s)) ++ after_run s ≡ s

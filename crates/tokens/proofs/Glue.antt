@@ -7,8 +7,8 @@ use native.Mathlib.Nat.{add-zero}
 use native.Mathlib.Omega.{arith}
 use lib.Dec.{eqb}
 use lib.ListN.{length, drop, length-append, length-drop, drop_of_length-le}
-use lib.Seq.{length_take_le, take_all, take-append-le, drop-append-le, take-append-add, drop-append-add, drop-drop}
-use borrow.Author.Tests.{eqb_true, eqb-false, ne_eqb, not_true}
+use lib.Seq.{length-take-le, take_all, take-append-le, drop-append-le, take-append-add, drop-append-add, drop-drop}
+use borrow.Author.Tests.{eqb-true, eqb-false, ne_eqb, not-true}
 use Rattle.lists.specs.Bytes.{all, span, take_while, drop_while, after_last}
 use Rattle.lists.specs.Classes.{whitespace, non_whitespace, prepunctuation_mark}
 use Rattle.lists.proofs.Scan.{all_append, span_le, span_all, span_append, span_before, last_none, last_span, last_drop}
@@ -116,7 +116,7 @@ last_run_lem : (s : List ℕ) → length (after_run s) ≡ 0 → last_run s ≡ 
 last_run_lem s h =
     let x : List ℕ = after_whitespace s in
     let t : take_while non_whitespace x ≡ x = take_all (span non_whitespace x) x (omega (arith, length-drop (span non_whitespace x) x)) in
-    let z : after_last whitespace x ≡ 0 = last_none whitespace non_whitespace (λ b. not_true (whitespace b)) x (rw t at (span_all non_whitespace x)) in
+    let z : after_last whitespace x ≡ 0 = last_none whitespace non_whitespace (λ b. not-true (whitespace b)) x (rw t at (span_all non_whitespace x)) in
     ap (λ (k : ℕ). drop k s) (last_span whitespace s ∙ ap (λ (k : ℕ). span whitespace s + k) z ∙ add-zero (span whitespace s)) ∙ sym t
 
 -- if something follows the first run, the last run is in it
@@ -143,9 +143,9 @@ tokens_closed a c w =
     go a h i o true e =
         let x : List ℕ = after_whitespace a in
         let k : ℕ = span non_whitespace x in
-        let z : length (after_run a) ≡ 0 = eqb_true (length (after_run a)) 0 e in
+        let z : length (after_run a) ≡ 0 = eqb-true (length (after_run a)) 0 e in
         let d : after_run a ≡ [] = drop_of_length-le x {i = k} (omega (arith, length-drop k x)) in
-        let n : eqb (length (take_while non_whitespace x)) 0 ≡ false = rw (length_take_le k x (span_le non_whitespace x)) (ne_eqb k 0 (omega (arith, run_some a h))) in
+        let n : eqb (length (take_while non_whitespace x)) 0 ≡ false = rw (length-take-le k x (span_le non_whitespace x)) (ne_eqb k 0 (omega (arith, run_some a h))) in
         let q : all prepunctuation_mark (take_while non_whitespace x) ≡ false = rw (last_run_lem a z, n) at o in
         rw (e, d, none_behind [] c w refl, tokens_none [] refl, cut_alike (take_while whitespace a) (take_while non_whitespace x) q)
     go a h i o false e =

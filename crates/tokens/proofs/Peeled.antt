@@ -6,8 +6,8 @@ use Prim.Native.Nat.{ℕ, zero, suc, ◌+◌, ◌-◌, ◌<◌}
 use native.Mathlib.Omega.{arith}
 use lib.Dec.{eqb}
 use lib.ListN.{length, take, drop, get_or, length-append, take-append-drop}
-use lib.Seq.{drop-cons, get_or-take, length_take_le, take-length, drop-length}
-use borrow.Author.Tests.{eqb_true, eqb-false, eq-eqb, ne_eqb, not_true, not-false}
+use lib.Seq.{drop-cons, get_or-take, length-take-le, take-length, drop-length}
+use borrow.Author.Tests.{eqb-true, eqb-false, eq-eqb, ne_eqb, not-true, not-false}
 use Rattle.lists.specs.Bytes.{all, span, take_while, after_last}
 use Rattle.lists.specs.Classes.{whitespace, non_whitespace, prepunctuation_mark, postpunctuation_mark, non_postpunctuation}
 use Rattle.lists.proofs.Scan.{all_append, span_le, span_all, span_short, span_fails, all_span, last_le, last_rest, last_passes}
@@ -25,7 +25,7 @@ module _ (white : List ℕ) (w : all whitespace white ≡ true) where
   unfolding all
   named_peeled ends pre b r m f n =
       let k : ℕ = after_last non_postpunctuation r in
-      let l : length (take k r) ≡ k = length_take_le k r (last_le non_postpunctuation r) in
+      let l : length (take k r) ≡ k = length-take-le k r (last_le non_postpunctuation r) in
       let e : pre ++ (b ∷ take k r ++ drop k r) ≡ pre ++ b ∷ r = ap (λ (x : List ℕ). pre ++ b ∷ x) (take-append-drop k r) in
       let q : all prepunctuation_mark (pre ++ b ∷ r) ≡ false = all_append prepunctuation_mark pre (b ∷ r) ∙ rw (m, f) in
       record {
@@ -41,8 +41,8 @@ module _ (white : List ℕ) (w : all whitespace white ≡ true) where
       last_byte : (k : ℕ) → k ≡ after_last non_postpunctuation r → 0 < k → postpunctuation_mark (get_or (b ∷ take k r) (suc (length (take k r)) - 1) 0) ≡ false
       last_byte zero e h = absurd (omega arith)
       last_byte (suc j) e h =
-          let l : suc (length (take (suc j) r)) - 1 ≡ suc j = omega (arith, length_take_le (suc j) r (omega (arith, last_le non_postpunctuation r))) in
-          rw (l, get_or-take (suc j) r j 0 (omega arith)) (not_true _ (last_passes non_postpunctuation r j (sym e)))
+          let l : suc (length (take (suc j) r)) - 1 ≡ suc j = omega (arith, length-take-le (suc j) r (omega (arith, last_le non_postpunctuation r))) in
+          rw (l, get_or-take (suc j) r j 0 (omega arith)) (not-true _ (last_passes non_postpunctuation r j (sym e)))
 
   -- a run that is wholly of leading marks
   whole_peeled : (ends : Bool) (run : List ℕ) → all prepunctuation_mark run ≡ true → 0 < length run → all non_whitespace run ≡ true
@@ -88,7 +88,7 @@ module _ (white : List ℕ) (w : all whitespace white ≡ true) where
 first_peeled : (s : List ℕ) → all whitespace s ≡ false → Peeled (eqb (length (after_run s)) 0) (first_token s)
 first_peeled s h =
     let x : List ℕ = after_whitespace s in
-    let l : length (take_while non_whitespace x) ≡ span non_whitespace x = length_take_le (span non_whitespace x) x (span_le non_whitespace x) in
+    let l : length (take_while non_whitespace x) ≡ span non_whitespace x = length-take-le (span non_whitespace x) x (span_le non_whitespace x) in
     cut_peeled (take_while whitespace s) (span_all whitespace s) (take_while non_whitespace x) (eqb (length (after_run s)) 0)
     (omega (arith, run_some s h)) (span_all non_whitespace x)
 
@@ -116,7 +116,7 @@ ends_alike s h = go (ends_in_run (after_run s)) refl
     n = ap (λ (k : ℕ). k + length r) (sym (first_size_lem s)) ∙ sym (length-append (flatten (token_parts (first_token s))) r) ∙ ap length (first_joined s)
 
     go : (t : Bool) → ends_in_run r ≡ t → ends_in_run s ≡ t
-    go true e = eq-eqb (length s) (after_last non_whitespace s) (omega (arith, last_first s h, n, eqb_true (length r) (after_last non_whitespace r) e))
+    go true e = eq-eqb (length s) (after_last non_whitespace s) (omega (arith, last_first s h, n, eqb-true (length r) (after_last non_whitespace r) e))
     go false e = ne_eqb (length s) (after_last non_whitespace s) (λ q. eqb-false (length r) (after_last non_whitespace r) e (omega (arith, last_first s h, n)))
 
 -- "Each maximal run of other bytes is one token": the tokens of a text

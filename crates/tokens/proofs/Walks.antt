@@ -7,7 +7,7 @@ use native.Mathlib.Nat.{zero-add}
 use native.Mathlib.Omega.{arith}
 use lib.Dec.{eqb}
 use lib.ListN.{length, take, drop, length-drop, length-append, drop_of_length-le}
-use lib.Seq.{drop-drop, take-append_seam, drop-append_seam, length_take_le}
+use lib.Seq.{drop-drop, take-append_seam, drop-append_seam, length-take-le}
 use borrow.Author.Tests.{eq-eqb, ne_eqb}
 use Rattle.lists.specs.Bytes.{all, span, take_while}
 use Rattle.lists.specs.Classes.{whitespace, non_whitespace}
@@ -25,7 +25,7 @@ first_after s = ap (λ (k : ℕ). drop k s) (first_size_lem s) ∙ sym (after_ru
 pub first_white : (s : List ℕ) → length (first_token s).whitespace ≡ span whitespace s
 first_white s =
     ap (λ (t : Token). length t.whitespace) (cut_white (take_while whitespace s) (take_while non_whitespace (after_whitespace s)) (eqb (length (after_run s)) 0))
-    ∙ length_take_le (span whitespace s) s (span_le whitespace s)
+    ∙ length-take-le (span whitespace s) s (span_le whitespace s)
 
 -- a text is its first token's parts and what follows them
 first_split : (s : List ℕ) → (first_token s).whitespace ++ ((first_token s).prepunctuation ++ ((first_token s).name ++ ((first_token s).punctuation ++ after_run s))) ≡ s

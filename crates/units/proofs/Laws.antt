@@ -9,7 +9,7 @@ use native.Mathlib.Omega.{arith}
 use lib.Dec.{leb, ltb, eqb, leb-suc-suc}
 use lib.ListN.{length, drop, get_or, drop_of_length-le, get_or-eq_default, get_or-map}
 use lib.Seq.{drop-cons}
-use borrow.Author.Tests.{lt_ltb, le-ltb, le-leb, lt-leb, leb-true, leb-false, eq-eqb, ne_eqb, eqb_true, eqb-false, ltb-true}
+use borrow.Author.Tests.{lt-ltb, le-ltb, le-leb, lt-leb, leb-true, leb-false, eq-eqb, ne_eqb, eqb-true, eqb-false, ltb-true}
 use Rattle.lists.specs.Bytes.{all, any, same, same_by, listed}
 use Rattle.lists.specs.LittleEndian.{le_value}
 use Rattle.lists.proofs.Scan.{same_long}
@@ -26,7 +26,7 @@ digit_same n b c v w h g = go (eqb b c) (eqb v w) refl refl
     low e = rw (add-mul-mod_self_left b n v, add-mul-mod_self_left c n w, mod-eq_of_lt h, mod-eq_of_lt g) at (ap (λ (x : ℕ). x % n) e)
 
     go : (s t : Bool) → eqb b c ≡ s → eqb v w ≡ t → eqb (b + n * v) (c + n * w) ≡ s && t
-    go true true p q = rw (eqb_true b c p, eqb_true v w q) (eq-eqb (c + n * w) (c + n * w) refl)
+    go true true p q = rw (eqb-true b c p, eqb-true v w q) (eq-eqb (c + n * w) (c + n * w) refl)
     go true false p q = ne_eqb (b + n * v) (c + n * w) (λ e. eqb-false v w q (eq_of_mul-eq-mul_left n (omega arith) v w (omega (arith, low e))))
     go false t p q = ne_eqb (b + n * v) (c + n * w) (λ e. eqb-false b c p (low e))
 
@@ -53,7 +53,7 @@ text_same : (a u : List ℕ) → bytesb a ≡ true → Bytes u → (eqb (length 
 text_same a u p q = go (eqb (length a) (length u)) refl
   where
     go : (t : Bool) → eqb (length a) (length u) ≡ t → (t && eqb (le_value a) (le_value u)) ≡ same a u
-    go true e = value_same a u p q (eqb_true (length a) (length u) e)
+    go true e = value_same a u p q (eqb-true (length a) (length u) e)
     go false e = sym (same_long _ a u (eqb-false (length a) (length u) e))
 
 -- a text u has the key of a text a of 1 to 3 bytes exactly if u is a
@@ -123,7 +123,7 @@ listed_index_of t [] = refl
 listed_index_of t (s ∷ ss) = go (same s t) (listed_index_of t ss)
   where
     go : (b : Bool) → listed t ss ≡ ltb (index_of t ss) (length ss) → (b || listed t ss) ≡ ltb (cond b 0 (suc (index_of t ss))) (suc (length ss))
-    go true h = sym (lt_ltb 0 (suc (length ss)) (omega arith))
+    go true h = sym (lt-ltb 0 (suc (length ss)) (omega arith))
     go false h = h ∙ sym (leb-suc-suc (suc (index_of t ss)) (length ss))
 
 -- a text is a unit exactly if its row number is below 22
@@ -146,4 +146,4 @@ miss_word u h = get_or-eq_default unit_words [] h
 
 -- a text whose row number is in the table is a unit
 pub hit_some : (u : List ℕ) → unit_index u < 22 → is_unit u ≡ true
-hit_some u h = unit_in_table u ∙ lt_ltb (unit_index u) 22 h
+hit_some u h = unit_in_table u ∙ lt-ltb (unit_index u) 22 h

@@ -7,7 +7,7 @@ use Prim.Native.Nat.{ℕ, ◌<◌, ◌≤◌, ◌/◌}
 use native.Mathlib.Omega.{arith}
 use lib.Dec.{eqb, leb}
 use lib.ListN.{length, get_or-eq_default}
-use borrow.Author.Tests.{eqb_true, leb-true}
+use borrow.Author.Tests.{eqb-true, leb-true}
 use Rattle.lists.specs.Bytes.{same, same_by}
 use Rattle.lists.specs.LittleEndian.{le_value, le_bytes}
 use Rattle.lists.specs.Packed.{pack, unpack}
@@ -47,7 +47,7 @@ has_length k = eqb (packed_last_byte k) (length (word_of k))
 pub high_size : (k : ℕ) → packed_last_byte k ≡ length (word_of k)
 unfolding has_length unfold_vocabulary
 high_size k = ⊎_elim (λ (h : 91 ≤ k). rw (no_word k h))
-    (λ (h : k < 91). eqb_true (packed_last_byte k) (length (word_of k)) (below has_length 91 refl k h)) (le_or_lt 91 k)
+    (λ (h : k < 91). eqb-true (packed_last_byte k) (length (word_of k)) (below has_length 91 refl k h)) (le_or_lt 91 k)
 
 is_short_word : ℕ → Bool
 is_short_word k = leb (length (word_of k)) 11

@@ -9,7 +9,7 @@ use native.Mathlib.Omega.{arith}
 use lib.Dec.{ltb}
 use lib.ListN.{length, length-append}
 use lib.Seq.{sets}
-use borrow.Author.Tests.{ltb-false, le-ltb, lt_ltb}
+use borrow.Author.Tests.{ltb-false, le-ltb, lt-ltb}
 use Rattle.lists.specs.Bytes.{overwrite}
 use Rattle.lists.specs.LittleEndian.{le_bytes}
 use Rattle.lists.proofs.Sets.{sets_append, sets_front, le_or_lt}
@@ -114,7 +114,7 @@ table_of_length at (w ∷ ws) = omega (arith, table_of_length (at + length w) ws
 ltb_same : (a b l : ℕ) → (l < a → l < b) → (l < b → l < a) → ltb l a ≡ ltb l b
 ltb_same a b l f g =
     ⊎_elim (λ (h : a ≤ l). le-ltb l a h ∙ sym (le-ltb l b (⊎_elim (λ (k : b ≤ l). k) (λ (k : l < b). let q : l < a = g k in omega arith) (le_or_lt b l))))
-    (λ (h : l < a). lt_ltb l a h ∙ sym (lt_ltb l b (f h)))
+    (λ (h : l < a). lt-ltb l a h ∙ sym (lt-ltb l b (f h)))
     (le_or_lt a l)
 
 -- the cursor after the words ws, with any buffers, shows whether buffers of a and b bytes are too short for them

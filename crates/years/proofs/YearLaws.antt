@@ -8,7 +8,7 @@ use native.Mathlib.Omega.{arith}
 use lib.Dec.{leb, eqb}
 use lib.ListN.{length, take, drop, get_or, length-drop, drop_of_length-le, get_or-eq_default}
 use lib.Seq.{get_or-drop, drop-drop}
-use borrow.Author.Tests.{ne_eqb, lt-leb, leb-false, eqb_true, eqb-false}
+use borrow.Author.Tests.{ne_eqb, lt-leb, leb-false, eqb-true, eqb-false}
 use Rattle.lists.specs.Bytes.{bytes, span, count_if, filter_if}
 use Rattle.lists.specs.Classes.{digit, non_digit}
 use Rattle.lists.proofs.Recursion.{Local, recur_eq}
@@ -160,7 +160,7 @@ lead_count_lem : (n : ℕ) → lead_count (eqb (n % 2) 1) ≡ 2 - n % 2
 lead_count_lem n = go (eqb (n % 2) 1) refl
   where
     go : (t : Bool) → eqb (n % 2) 1 ≡ t → lead_count t ≡ 2 - n % 2
-    go true e = omega (arith, eqb_true (n % 2) 1 e)
+    go true e = omega (arith, eqb-true (n % 2) 1 e)
     go false e = let k = eqb-false (n % 2) 1 e in omega arith
 
 -- "oh" in the vocabulary

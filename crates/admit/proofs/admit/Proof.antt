@@ -1,4 +1,4 @@
-use borrow.Author.Tests.{lt_ltb, le-ltb}
+use borrow.Author.Tests.{lt-ltb, le-ltb}
 use borrow.Author.Rules.{rules}
 use Rattle.lists.specs.Bytes.{any}
 use Rattle.admit.specs.Refusals.{text_tests}
@@ -9,6 +9,6 @@ pub admit_spec : {M : Type 1} → statement M
 unfolding text_tests any
 admit_spec =
     tie.close
-    (tie.spec (λ c. rw (lt_ltb _ _ c.if1.true)) (λ c κs. search rules)
+    (tie.spec (λ c. rw (lt-ltb _ _ c.if1.true)) (λ c κs. search rules)
     (λ c. rw (le-ltb _ _ c.before.before.if1.false, ← c.before.is-utf8.ensures, c.if2.true))
     (λ c. rw (le-ltb _ _ c.before.before.if1.false, ← c.before.is-utf8.ensures, c.if2.false)))

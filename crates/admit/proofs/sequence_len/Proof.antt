@@ -1,6 +1,6 @@
 use native.Mathlib.Omega.{arith}
 use mathlib.Core.Path.{refl}
-use borrow.Author.Tests.{lt_ltb, le-ltb}
+use borrow.Author.Tests.{lt-ltb, le-ltb}
 use Rattle.admit.specs.Utf8.{sequence_len}
 use borrow.Author.Rules.{rules}
 use Rattle.admit.proofs.sequence_len.Statement.{statement}
@@ -8,7 +8,7 @@ use Rattle.admit.proofs.sequence_len.Tie as tie
 
 returns : tie.Need-returns
 unfolding sequence_len
-returns c = rw (lt_ltb _ _ c.if1.true) (refl, omega arith)
+returns c = rw (lt-ltb _ _ c.if1.true) (refl, omega arith)
 
 returns-2 : tie.Need-returns-2
 unfolding sequence_len

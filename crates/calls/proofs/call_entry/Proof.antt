@@ -1,4 +1,4 @@
-use borrow.Author.Tests.{not_true, not-false}
+use borrow.Author.Tests.{not-true, not-false}
 use mathlib.Core.Path.{ap, ◌∙◌}
 use Rattle.calls.specs.Walk.{refused_entry}
 use Rattle.calls.proofs.Answers.{entry_refused, entry_none, entry_there}
@@ -25,7 +25,7 @@ call_entry_spec =
     let at-if1 = at-if2.before.before.before in
     let start = at-if1.before.before.before.before in
     entry_none start.args.s.now start.args.out.now at-if1.before.refusal-of.ensures start.args.k at-if1.if1.false
-    at-if2.before.before.find-entry.result at-if2.before.before.find-entry.ensures (not_true _ at-if2.if2.true)
+    at-if2.before.before.find-entry.result at-if2.before.before.find-entry.ensures (not-true _ at-if2.if2.true)
     (c.entry-refused2.ensures ∙ ap refused_entry c.before.number.ensures))
     (λ c κs. search rules)
     (λ c κs. search rules)

@@ -2,7 +2,7 @@ use Prim.Native.Nat.{◌-◌, ◌≤◌}
 use native.Mathlib.Omega.{arith}
 use lib.ListN.{length, drop}
 use borrow.Author.Rules.{rules}
-use borrow.Author.Tests.{not_true}
+use borrow.Author.Tests.{not-true}
 use mathlib.Core.Path.{◌≡◌, sym}
 use Rattle.tokens.specs.Tokens.{tokens}
 use Rattle.tokens.proofs.Walks.{no_more, one_left, tokens_past}
@@ -25,7 +25,7 @@ has_long_name_spec =
     invariant-loop
     decreases-loop
     (λ c κs. search rules)
-    (λ c. sym (c.before.has-long-run.ensures (not_true _ c.if1.true)))
+    (λ c. sym (c.before.has-long-run.ensures (not-true _ c.if1.true)))
     (λ c. (omega arith, long_names_lem c.before.before.before.args.s.now))
     (λ c κs. search rules)
     (λ c κs. search rules)

@@ -1,7 +1,7 @@
 -- The loop invariant: every byte before i is of the class. Assumes nothing.
 use borrow.Author.Rules.{rules}
 use mathlib.Core.Path.{refl, sym, ◌∙◌}
-use borrow.Author.Tests.{not_true, not-false}
+use borrow.Author.Tests.{not-true, not-false}
 use Prim.Native.Nat.{◌-◌}
 use lib.ListN.{length}
 use Rattle.lists.specs.Classes.{in_class}
@@ -26,7 +26,7 @@ all_of_spec =
     (λ c κs. search rules)
     (λ c.
     all_fails _ _ _ c.before.before.before.before.loop.invariant (search rules)
-    (sym c.before.in-class.ensures ∙ not_true _ c.if1.true))
+    (sym c.before.in-class.ensures ∙ not-true _ c.if1.true))
     (λ c. search rules)
     (λ c. search rules)
     (λ c.

@@ -2,7 +2,7 @@ use mathlib.Core.Path.{◌≡◌, refl}
 use Prim.Native.Nat.{◌-◌, ◌≤◌, ◌<◌, zero-le}
 use native.Mathlib.Omega.{arith}
 use lib.ListN.{length, take, length-set}
-use lib.Seq.{sets, length_take_le}
+use lib.Seq.{sets, length-take-le}
 use Rattle.lists.proofs.Sets.{sets_take_suc}
 use borrow.Author.Rules.{rules}
 use Rattle.lists.proofs.copy.Statement.{statement}
@@ -31,7 +31,7 @@ copy_spec =
     let a = c.before.before.before.args in
     let h : l.i < length a.src.now = omega arith in (
       omega arith,
-      rw l.invariant.1 (sets_take_suc a.out.now a.at a.src.now l.i h (length_take_le l.i a.src.now (omega arith))),
+      rw l.invariant.1 (sets_take_suc a.out.now a.at a.src.now l.i h (length-take-le l.i a.src.now (omega arith))),
       simp length-set l.invariant.2,
     ))
     (λ c. c.before.loop.invariant.2)

@@ -5,7 +5,7 @@ use mathlib.Core.List.{map}
 use Prim.Native.Nat.{◌-◌, ◌≤◌, ◌<◌, min}
 use native.Mathlib.Omega.{arith}
 use lib.ListN.{length, take, length-set}
-use lib.Seq.{sets, length_take_le}
+use lib.Seq.{sets, length-take-le}
 use borrow.Author.Rules.{rules}
 use Rattle.lists.specs.Bytes.{to_lower}
 use Rattle.lists.proofs.Sets.{sets_take_suc, sets_min, map_at, map_length}
@@ -40,7 +40,7 @@ put_lowered_spec =
       omega arith,
       rw (l.invariant.1, c.to-lower.ensures, ← e)
           (sets_take_suc a.out.now a.at (map to_lower a.src.now) l.i (omega arith)
-          (length_take_le l.i (map to_lower a.src.now) (omega arith))),
+          (length-take-le l.i (map to_lower a.src.now) (omega arith))),
       simp length-set l.invariant.2,
     ))
     (λ c. search rules)

@@ -1,7 +1,7 @@
 -- The loop invariant: the scan of the whole text is i plus the scan of what is left. Assumes nothing.
 use borrow.Author.Rules.{rules}
 use mathlib.Core.Path.{◌≡◌, sym, ◌∙◌}
-use borrow.Author.Tests.{not_true, not-false}
+use borrow.Author.Tests.{not-true, not-false}
 use Prim.Native.Nat.{◌-◌, ◌+◌}
 use native.Mathlib.Nat.{zero-add}
 use lib.ListN.{length, drop}
@@ -28,7 +28,7 @@ span_of_spec =
     (λ c κs. search rules)
     (λ c.
     sym (c.before.before.before.before.loop.invariant
-    ∙ span_stop _ _ _ (search rules) (sym c.before.in-class.ensures ∙ not_true _ c.if1.true)))
+    ∙ span_stop _ _ _ (search rules) (sym c.before.in-class.ensures ∙ not-true _ c.if1.true)))
     (λ c. search rules)
     (λ c. search rules)
     (λ c.

@@ -1,4 +1,4 @@
-use borrow.Author.Tests.{lt_ltb, le-ltb}
+use borrow.Author.Tests.{lt-ltb, le-ltb}
 use Rattle.lists.proofs.Sets.{sets_front}
 use borrow.Author.Rules.{rules}
 use Rattle.patterns.proofs.store_word.Statement.{statement}
@@ -7,7 +7,7 @@ use Rattle.patterns.proofs.store_word.Tie as tie
 pub store_word_spec : {M : Type 1} → statement M
 store_word_spec = tie.close (tie.spec
     (λ c κs. search rules)
-    (λ c. rw (lt_ltb _ _ c.before.if1.true, c.number.ensures))
+    (λ c. rw (lt-ltb _ _ c.before.if1.true, c.number.ensures))
     (λ c κs. search rules)
     (λ c. search rules)
     (λ c.

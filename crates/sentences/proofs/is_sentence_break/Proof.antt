@@ -1,6 +1,6 @@
 use lib.ListN.{length}
 use borrow.Author.Rules.{rules}
-use borrow.Author.Tests.{lt_ltb, le-ltb}
+use borrow.Author.Tests.{lt-ltb, le-ltb}
 use Prim.Native.Char.{code}
 use Rattle.lists.specs.Bytes.{count_if}
 use Rattle.lists.specs.Classes.{only}
@@ -10,7 +10,7 @@ use Rattle.sentences.proofs.is_sentence_break.Tie as tie
 
 returns : tie.Need-returns
 unfolding break_after
-returns c = rw (lt_ltb 1 (count_if (only (code "\n")) c.before.before.before.before.args.whitespace.now)
+returns c = rw (lt-ltb 1 (count_if (only (code "\n")) c.before.before.before.before.args.whitespace.now)
     (rw c.before.count_of.ensures at c.if1.true))
 
 returns-2 : tie.Need-returns-2
@@ -115,7 +115,7 @@ returns-6 c =
       rw (at-is-set3.before.is-set2.ensures, at-is-set3.is-set3.ensures, at-if3.before.is-set4.ensures) at at-if3.if3.false,
       rw at-if4.before.is-set5.ensures at at-if4.if4.false,
       rw (c.before.before.is-uppercase.ensures, at-byte-at.byte_at.ensures) at c.before.if5.false,
-      lt_ltb 1 (length start.args.whitespace.now) c.if6.true,
+      lt-ltb 1 (length start.args.whitespace.now) c.if6.true,
     )
 
 returns-7 : tie.Need-returns-7

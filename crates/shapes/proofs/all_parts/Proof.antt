@@ -4,7 +4,7 @@ use mathlib.Core.Path.{◌≡◌, refl, sym, ◌∙◌}
 use Prim.Native.Nat.{◌-◌}
 use lib.ListN.{length, drop, length-drop}
 use lib.Seq.{drop-drop}
-use borrow.Author.Tests.{not_true, not-false}
+use borrow.Author.Tests.{not-true, not-false}
 use Rattle.shapes.specs.Tests.{part_passes}
 use Rattle.lists.specs.Bytes.{split, all}
 use Rattle.lists.proofs.Parts.{parts_fail, parts_end, parts_more}
@@ -31,7 +31,7 @@ all_parts_spec =
     (λ c.
     let at_front = c.before.before in
     let e = rw (at_front.front.ensures, at_front.before.Span-of.ensures, at_front.before.before.tail.ensures) at c.before.part-passes.ensures in
-    sym (at_front.before.before.before.loop.invariant ∙ parts_fail _ _ _ (sym e ∙ not_true _ c.if1.true)))
+    sym (at_front.before.before.before.loop.invariant ∙ parts_fail _ _ _ (sym e ∙ not-true _ c.if1.true)))
     (λ c.
     let at-part-passes = c.before.before in
     let at-span-of = at-part-passes.before.before in

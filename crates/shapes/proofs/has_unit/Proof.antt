@@ -1,4 +1,4 @@
-use borrow.Author.Tests.{eq-eqb, ne_eqb, not_true, not-false}
+use borrow.Author.Tests.{eq-eqb, ne_eqb, not-true, not-false}
 use lib.ListN.{drop}
 use Rattle.shapes.specs.Shapes.{unit_at, has_unit}
 use Rattle.units.proofs.Laws.{unit_in_table}
@@ -19,7 +19,7 @@ returns-2 c =
       ne_eqb _ _ at-all-of.before.before.if1.false,
       ← at-all-of.before.front.ensures,
       ← at-all-of.all_of.ensures,
-      not_true at-all-of.all_of.result c.if2.true,
+      not-true at-all-of.all_of.result c.if2.true,
     )
 
 returns-3 : tie.Need-returns-3

@@ -1,4 +1,4 @@
-use borrow.Author.Tests.{lt_ltb, le-ltb}
+use borrow.Author.Tests.{lt-ltb, le-ltb}
 use Rattle.shapes.specs.Shapes.{split_once}
 use borrow.Author.Rules.{rules}
 use Rattle.shapes.proofs.split_once.Statement.{statement}
@@ -14,7 +14,7 @@ returns-2 c =
     let at_front = c.before.before in
     rw (
       ← at_front.before.before.Span-of.ensures,
-      lt_ltb _ _ at_front.before.if1.false,
+      lt-ltb _ _ at_front.before.if1.false,
       c.pair-passes.ensures,
       at_front.front.ensures,
       c.before.tail.ensures,

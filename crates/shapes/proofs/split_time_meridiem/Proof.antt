@@ -2,7 +2,7 @@ use native.Mathlib.Omega.{arith}
 use mathlib.Core.Path.{◌≡◌}
 use Prim.Native.Nat.{◌-◌, min}
 use lib.ListN.{length, length-take}
-use borrow.Author.Tests.{lt_ltb, le-ltb, not_true, not-false}
+use borrow.Author.Tests.{lt-ltb, le-ltb, not-true, not-false}
 use Rattle.shapes.specs.Times.{time_split}
 use Rattle.shapes.proofs.Times.{splits_time}
 use borrow.Author.Rules.{rules}
@@ -11,7 +11,7 @@ use Rattle.shapes.proofs.split_time_meridiem.Tie as tie
 
 returns : tie.Need-returns
 unfolding time_split
-returns c = splits_time _ _ (rw (← c.before.ends-in-meridiem.ensures, not_true c.before.ends-in-meridiem.result c.if1.true))
+returns c = splits_time _ _ (rw (← c.before.ends-in-meridiem.ensures, not-true c.before.ends-in-meridiem.result c.if1.true))
 
 returns-2 : tie.Need-returns-2
 unfolding time_split
@@ -41,7 +41,7 @@ returns-3 c =
       not-false at-ends-in-meridiem.ends-in-meridiem.result at-without-back.before.if1.false,
       ← at-without-back.without_back.ensures,
       ← at-if2.before.Span-of.ensures,
-      lt_ltb _ _ at-if2.if2.false,
+      lt-ltb _ _ at-if2.if2.false,
       ← at_tail.before.front.ensures,
       ← at_tail.tail.ensures,
       ← c.before.is-hour-minute.ensures,
@@ -63,7 +63,7 @@ returns-4 c =
       not-false at-if1.before.ends-in-meridiem.result at-if1.if1.false,
       ← at-if2.before.before.without_back.ensures,
       ← at-if2.before.Span-of.ensures,
-      lt_ltb _ _ at-if2.if2.false,
+      lt-ltb _ _ at-if2.if2.false,
       ← at_tail.before.front.ensures,
       ← at_tail.tail.ensures,
       ← c.before.is-hour-minute.ensures,

@@ -10,7 +10,7 @@ use Rattle.years.specs.Year.{year_of}
 use Rattle.numerals.proofs.NumberWords.{digit_at}
 use Rattle.numerals.proofs.Said.{said_hundred, says_more}
 use Rattle.years.proofs.YearLaws.{year_four}
-use lib.Seq.{length_take_le}
+use lib.Seq.{length-take-le}
 use borrow.Author.Rules.{rules}
 use Rattle.years.proofs.say_four.Statement.{statement}
 use Rattle.years.proofs.say_four.Tie as tie
@@ -56,7 +56,7 @@ say_four_spec =
     let before-front = at_front.before.before.before.before in
     let start = before-front.before.before.before.before in
     let s = start.args.ds.now in
-    rw at_front.front.ensures (omega (arith, length_take_le 2 s (omega (arith, start.requires.0))), every_take (λ d. d < 10) 2 s start.requires.1))
+    rw at_front.front.ensures (omega (arith, length-take-le 2 s (omega (arith, start.requires.0))), every_take (λ d. d < 10) 2 s start.requires.1))
     (λ c κs. search rules)
     (λ c. search rules)
     (λ c. search rules)

@@ -1,6 +1,6 @@
 -- In the loop every byte before i is of the class. Assumes nothing.
 use mathlib.Core.Path.{refl, sym, ◌∙◌}
-use borrow.Author.Tests.{not_true, not-false}
+use borrow.Author.Tests.{not-true, not-false}
 use Prim.Native.Nat.{◌-◌}
 use lib.ListN.{length}
 use Rattle.clear.specs.Classes.{of_class}
@@ -24,7 +24,7 @@ all_letters_spec =
     (λ c. (search rules, refl))
     (λ c. search rules)
     (λ c κs. search rules)
-    (λ c. all_fails _ _ _ c.before.before.before.before.loop.invariant (search rules) (sym c.before.of-class.ensures ∙ not_true _ c.if1.true))
+    (λ c. all_fails _ _ _ c.before.before.before.before.loop.invariant (search rules) (sym c.before.of-class.ensures ∙ not-true _ c.if1.true))
     (λ c. search rules)
     (λ c. search rules)
     (λ c. all_next _ _ _ c.before.before.before.before.loop.invariant (search rules) (sym c.before.of-class.ensures ∙ not-false _ c.if1.false))

@@ -1,5 +1,5 @@
 use native.Mathlib.Omega.{arith}
-use borrow.Author.Tests.{lt_ltb, le-ltb}
+use borrow.Author.Tests.{lt-ltb, le-ltb}
 use Rattle.clear.proofs.Lookups.{table_word}
 use borrow.Author.Rules.{rules}
 use Rattle.clear.proofs.tests.table_word.Statement.{statement}
@@ -10,10 +10,10 @@ table_word_spec =
     tie.close
     (tie.spec
     (λ c. search rules)
-    (λ c. let i = c.before.args.i in rw (lt_ltb i 30 (omega arith)) at (table_word i (omega arith)))
+    (λ c. let i = c.before.args.i in rw (lt-ltb i 30 (omega arith)) at (table_word i (omega arith)))
     (λ c. search rules)
     (λ c. search rules)
-    (λ c. let i = c.before.before.args.i in rw (le-ltb i 30 (omega arith), lt_ltb i 60 (omega arith)) at (table_word i (omega arith)))
+    (λ c. let i = c.before.before.args.i in rw (le-ltb i 30 (omega arith), lt-ltb i 60 (omega arith)) at (table_word i (omega arith)))
     (λ c. search rules)
     (λ c. search rules)
     (λ c. let i = c.before.before.args.i in rw (le-ltb i 30 (omega arith), le-ltb i 60 (omega arith)) at (table_word i (omega arith))))

@@ -1,4 +1,4 @@
-use borrow.Author.Tests.{lt_ltb, le-ltb, le-leb, lt-leb}
+use borrow.Author.Tests.{lt-ltb, le-ltb, le-leb, lt-leb}
 use Rattle.numerals.specs.Walk.{ordinal_number}
 use borrow.Author.Rules.{rules}
 use Rattle.numerals.proofs.held.ordinal_number.Statement.{statement}
@@ -14,7 +14,7 @@ returns-2 c = rw (le-leb _ _ c.before.if1.false, le-ltb _ _ c.if2.true)
 
 returns-3 : tie.Need-returns-3
 unfolding ordinal_number
-returns-3 c = rw (le-leb _ _ c.before.if1.false, lt_ltb _ _ c.if2.false)
+returns-3 c = rw (le-leb _ _ c.before.if1.false, lt-ltb _ _ c.if2.false)
 
 pub ordinal_number_spec : {M : Type 1} → statement M
 ordinal_number_spec =

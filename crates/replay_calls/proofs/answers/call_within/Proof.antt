@@ -1,6 +1,6 @@
 -- The part of the buffer that is lent has the length that was asked for. Assumes nothing.
 use mathlib.Core.Path.{sym}
-use lib.Seq.{length_take_le}
+use lib.Seq.{length-take-le}
 use borrow.Author.Rules.{rules}
 use Rattle.replay_calls.proofs.answers.call_within.Statement.{statement}
 use Rattle.replay_calls.proofs.answers.call_within.Tie as tie
@@ -11,12 +11,12 @@ call_within_spec =
     (tie.spec
     (λ c κs. search rules)
     (λ c. search rules)
-    (λ c. sym (length_take_le _ _ (search rules)))
+    (λ c. sym (length-take-le _ _ (search rules)))
     (λ c κs. search rules)
     (λ c. search rules)
     (λ c. search rules)
     (λ c. search rules)
-    (λ c. sym (length_take_le _ _ (search rules)))
+    (λ c. sym (length-take-le _ _ (search rules)))
     (λ c κs. search rules)
     (λ c. search rules)
     (λ c. search rules))
