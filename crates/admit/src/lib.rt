@@ -1,4 +1,6 @@
 // The refusals of document 01, and the tests of a text for the first two of them.
+#![tactic(auto)]
+
 ghost use Rattle.std.specs.Prelude.{◌≡◌, true, ◌≤◌, length, take};
 ghost use Rattle.lists.specs.Bytes.{all};
 ghost use Rattle.lists.specs.Classes.{ascii};
@@ -17,7 +19,7 @@ const BLOCK: usize = 32;
 const SHORT_TEXT: usize = 12;
 
 // Why a call is held back (document 01, "Calls held back").
-#[derive(Drop)]
+#[derive(Clone, Copy)]
 pub enum Refusal {
     // over-long sheet
     TextTooLong,
@@ -47,7 +49,7 @@ impl Refusal {
 }
 
 // How a call ends.
-#[derive(Drop)]
+#[derive(Clone, Copy)]
 pub enum Answer {
     Accepted,
     Refused(Refusal),

@@ -1,4 +1,6 @@
 // The call sheet: one entry's line, and the lines of a whole sheet.
+#![tactic(auto)]
+
 ghost use Rattle.std.specs.Prelude.{◌≡◌, ◌<◌, ltb, length};
 ghost use Rattle.word_writer.specs.Writer.{usize_max, writer};
 ghost use Rattle.word_writer.specs.Words.{spaced_cursor};
@@ -24,7 +26,7 @@ const GROWTH: usize = 11;
 
 // A whole sheet's answer: the refusal's number or 0, the count of tokens, the count of words, and the call sheet's length.
 #[repr(C)]
-#[derive(Drop)]
+#[derive(Clone, Copy)]
 pub struct CalledSheet {
     pub refusal: u8,
     pub tokens: usize,
@@ -33,7 +35,7 @@ pub struct CalledSheet {
 }
 
 // One entry's answer: the refusal's number or 0, its record, the count of its words, and its line's length.
-#[derive(Drop)]
+#[derive(Clone, Copy)]
 pub struct CalledEntry {
     pub refusal: u8,
     pub entry: Entry,
@@ -42,7 +44,7 @@ pub struct CalledEntry {
 }
 
 // A walk over all entries: how many there are, and the cursor after their lines.
-#[derive(Drop)]
+#[derive(Clone, Copy)]
 struct SheetWalk {
     tokens: usize,
     cursor: Cursor,

@@ -1,4 +1,6 @@
 // Reads a sheet from standard input, up to 4,096 bytes of it, and writes its call sheet, or one line with the refusal's number.
+#![tactic(auto)]
+
 ghost use Rattle.std.specs.Prelude.{◌≡◌, ◌+◌, ◌*◌, ◌≤◌, length};
 
 use calls::call_sheet;

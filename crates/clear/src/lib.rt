@@ -1,4 +1,6 @@
 // Clear names: sheets that have such names alone are told apart by their call sheets.
+#![tactic(auto)]
+
 pub mod tests;
 
 ghost use Rattle.std.specs.Prelude.{◌≡◌};

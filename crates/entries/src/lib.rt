@@ -1,4 +1,6 @@
 // The entries of a sheet: whether a name is too long, and where an entry is. No words are said here.
+#![tactic(auto)]
+
 ghost use Rattle.std.specs.Prelude.{◌≡◌, false};
 ghost use Rattle.call_spec.specs.Sheet.{entries};
 ghost use Rattle.call_spec.specs.Calls.{any_long};
@@ -15,7 +17,7 @@ pub const NAME_LIMIT: usize = 4096;
 const LONG_RUN_SIZE: usize = NAME_LIMIT + 1;
 
 // Where an entry was found, if it was: whether it starts a sentence, and its name's place in the sheet.
-#[derive(Drop)]
+#[derive(Clone, Copy)]
 pub struct Found {
     pub found: bool,
     pub starts: bool,

@@ -5,6 +5,8 @@
 // A name may be only percent signs, so each of these calls must take little of the stack. The signs taken off are counted, and are said
 // after what stands before them: nothing has to be kept for the time after the inner call. The cursor is three numbers at one place of
 // memory, and a call hands on only their address.
+#![tactic(auto)]
+
 ghost use Rattle.std.specs.Prelude.{◌≡◌, false, ◌++◌, ◌+◌, ◌-◌, ◌≤◌, length, take};
 ghost use Rattle.word_writer.specs.Writer.{usize_max, writer, put_words};
 ghost use Rattle.numerals.specs.Words.{spelled};

@@ -1,5 +1,7 @@
 // Every function that C calls. Each calls one function of the library, and may put its answer into a form for C.
 // include/howhakiru.h is the same list for C.
+#![tactic(auto)]
+
 ghost use Rattle.std.specs.Prelude.{◌≡◌, List, ℕ, ◌-◌, length};
 ghost use Rattle.shapes.specs.Shapes.{is_digits, is_alpha, is_double, is_comma_int, is_ordinal, is_us_money, is_illion, is_roman, is_dr_or_st, is_number_s, is_leading_zero_digits, is_seven_digit_phone, is_n_digits, is_time, is_dotted_abbrev, is_digits_slash_digits, is_digits_dash_digits};
 ghost use Rattle.patterns.specs.Calls.{as_verdict, verdict_call, time_call, as_offsets, offsets_call, as_unit, unit_call, as_unit_word, unit_word_call};
@@ -31,7 +33,7 @@ use word_writer::WordCounts;
 
 // The answer of split_time_meridiem for C, which takes no enum: each part by its offset and its length.
 #[repr(C)]
-#[derive(Drop)]
+#[derive(Clone, Copy)]
 pub struct HwkTime {
     pub refusal: u8,
     pub yes: bool,
@@ -45,7 +47,7 @@ pub struct HwkTime {
 
 // One entry's answer for C, which takes no enum: its row's number and its sign's value.
 #[repr(C)]
-#[derive(Drop)]
+#[derive(Clone, Copy)]
 pub struct HwkEntry {
     pub refusal: u8,
     pub row: u8,

@@ -1,4 +1,6 @@
 // Letters: one word per character.
+#![tactic(auto)]
+
 ghost use Rattle.std.specs.Prelude.{◌≡◌, take};
 ghost use Rattle.word_writer.specs.Writer.{writer, put_word, put_words};
 ghost use Rattle.numerals.specs.Words.{spelled};

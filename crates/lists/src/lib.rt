@@ -1,5 +1,7 @@
 // Bytes of a text: reads, parts, scans, comparisons, and stores that stop at the end of the buffer. Only `copy` demands anything
 // of its caller. Each contract gives what the result is equal to.
+#![tactic(auto)]
+
 ghost use Rattle.std.specs.Prelude.{◌≡◌, cond, map, ◌-◌, ◌≤◌, min, length, take, drop, get_or};
 ghost use Rattle.std.proofs.lemmas.List.Edits.{sets};
 ghost use Rattle.lists.specs.Bytes.{all, span, count_if, after_last, same_by, to_lower, starts_with, ends_with, strip_prefix, strip_suffix, ends_with_by};

@@ -1,5 +1,7 @@
 // The public functions of numbers.rs, in its order and under its names. Each takes any bytes and buffers of any length. It answers
 // its result, or the first refusal whose condition holds.
+#![tactic(auto)]
+
 ghost use Rattle.std.specs.Prelude.{◌≡◌, ◌&&◌, ◌/◌, ◌<◌, ltb, length};
 ghost use Rattle.word_writer.specs.Writer.{usize_max, writer, put_words};
 ghost use mathlib.Core.List.{flatten};
@@ -21,7 +23,7 @@ use word_writer::{Cursor, WordCounts};
 use years::say_year;
 
 // How a text is read as words.
-#[derive(Drop)]
+#[derive(Clone, Copy)]
 pub enum SayAs {
     Cardinal,
     Ordinal,
@@ -33,7 +35,7 @@ pub enum SayAs {
 
 // The answer for a roman numeral: the refusal's number or 0, and the value, which is 0 if the call is refused.
 #[repr(C)]
-#[derive(Drop)]
+#[derive(Clone, Copy)]
 pub struct RomanValue {
     pub refusal: u8,
     pub value: u32,

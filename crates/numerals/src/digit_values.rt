@@ -6,7 +6,7 @@ ghost use Rattle.numerals.specs.Walk.{first_digits};
 pub const MAX_CARDINAL_DIGITS: usize = 12;
 
 // The values of the first twelve digits, and how many digits there are. The count is 13 if there are more than twelve.
-#[derive(Drop)]
+#[derive(Clone, Copy)]
 pub struct FirstDigits {
     pub values: [u8; 12],
     pub count: usize,

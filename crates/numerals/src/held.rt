@@ -12,7 +12,7 @@ use word_writer::Cursor;
 // No word is held. Word 0 of the vocabulary is a unit's word, which is never held.
 pub const NONE: usize = 0;
 
-#[derive(Drop)]
+#[derive(Clone, Copy)]
 pub struct Held {
     pub cursor: Cursor,
     pub last: usize,

@@ -2,7 +2,7 @@
 use word_writer::Cursor;
 
 // Where the cursor stands, and how many bytes were read.
-#[derive(Drop)]
+#[derive(Clone, Copy)]
 pub struct Progress {
     pub cursor: Cursor,
     pub next: usize,

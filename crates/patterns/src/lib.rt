@@ -1,5 +1,7 @@
 // The public functions of patterns.rs, in its order and under its names. Each takes all bytes, and answers its verdict or a refusal.
 // The structs hold numbers and flags, as C takes them; only SplitTime does not.
+#![tactic(auto)]
+
 ghost use Rattle.std.specs.Prelude.{◌≡◌};
 ghost use Rattle.shapes.specs.Shapes.{is_digits, is_alpha, is_double, is_comma_int, is_ordinal, is_us_money, is_illion, is_roman, is_dr_or_st, is_number_s, is_leading_zero_digits, is_seven_digit_phone, is_n_digits, is_time, is_dotted_abbrev, is_digits_slash_digits, is_digits_dash_digits};
 ghost use Rattle.patterns.specs.Calls.{as_verdict, verdict_call, as_time, time_call, as_offsets, offsets_call, as_unit, unit_call, as_unit_word, unit_word_call, refused_verdict, accepted_verdict, store_call};
@@ -10,14 +12,14 @@ use shapes::TimeSplit;
 
 // A shape's verdict: the refusal's number or 0, and the verdict, which is no if the call is refused.
 #[repr(C)]
-#[derive(Drop)]
+#[derive(Clone, Copy)]
 pub struct Verdict {
     pub refusal: u8,
     pub yes: bool,
 }
 
 // Hour, minute and meridiem by their offsets in the name, or none.
-#[derive(Drop)]
+#[derive(Clone, Copy)]
 pub struct SplitTime {
     pub refusal: u8,
     pub split: TimeSplit,
@@ -25,7 +27,7 @@ pub struct SplitTime {
 
 // The unit's place in the name; no, 0 and 0 if there is none.
 #[repr(C)]
-#[derive(Drop)]
+#[derive(Clone, Copy)]
 pub struct SplitUnit {
     pub refusal: u8,
     pub yes: bool,
@@ -35,7 +37,7 @@ pub struct SplitUnit {
 
 // Whether there is a word, and its length in the store.
 #[repr(C)]
-#[derive(Drop)]
+#[derive(Clone, Copy)]
 pub struct UnitWord {
     pub refusal: u8,
     pub yes: bool,

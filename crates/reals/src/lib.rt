@@ -1,4 +1,6 @@
 // Real numbers: signs, and parts with "e" between them. A part may have a point.
+#![tactic(auto)]
+
 ghost use Rattle.std.specs.Prelude.{◌≡◌};
 ghost use Rattle.word_writer.specs.Writer.{writer, put_words};
 ghost use Rattle.numerals.specs.Words.{spelled};

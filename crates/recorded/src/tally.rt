@@ -6,7 +6,7 @@ use libc::STDOUT_FILENO;
 const NAMED: usize = 10;
 
 // For one text: how many answers were compared, how many of them differ, and the number of the first that differs.
-#[derive(Drop)]
+#[derive(Clone, Copy)]
 pub struct Report {
     pub answers: usize,
     pub differ: usize,
@@ -14,7 +14,7 @@ pub struct Report {
 }
 
 // The same for all texts so far.
-#[derive(Drop)]
+#[derive(Clone, Copy)]
 pub struct Tally {
     pub texts: usize,
     pub answers: usize,

@@ -15,7 +15,7 @@ const ENTRIES: usize = 3;
 const LONG_NAME: usize = 4;
 
 // What a call answers. `tokens` is 0 in an entry's answer, `row` and `sign` are 0 in a sheet's.
-#[derive(Drop)]
+#[derive(Clone, Copy)]
 pub struct CallAnswer {
     pub refusal: usize,
     pub tokens: usize,

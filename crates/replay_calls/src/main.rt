@@ -1,5 +1,7 @@
 // Replays calls.txt, the recorded call sheets and verdicts of the Rust, and says how many answers of the crates calls and clear
 // differ.
+#![tactic(auto)]
+
 mod answers;
 mod expected;
 mod limit;

@@ -1,4 +1,6 @@
 // Replays numbers.txt, the recorded readings of the Rust, and says how many answers of the crate numbers differ.
+#![tactic(auto)]
+
 mod answers;
 mod limit;
 mod words;

@@ -24,7 +24,7 @@ pub const MALFORMED: usize = 30;
 const ROOM: usize = 16;
 
 // The recorded numbers of a line.
-#[derive(Drop)]
+#[derive(Clone, Copy)]
 pub struct Recorded {
     pub refusal: usize,
     pub time: usize,
@@ -39,7 +39,7 @@ pub struct Recorded {
 }
 
 // What a call of unit_word is to answer.
-#[derive(Drop)]
+#[derive(Clone, Copy)]
 pub struct ExpectedWord {
     pub refusal: usize,
     pub yes: usize,

@@ -1,4 +1,6 @@
 // Replays patterns.txt, the recorded answers of the Rust, and says how many answers of the crate patterns differ.
+#![tactic(auto)]
+
 mod answers;
 
 use answers::{MALFORMED, N_DIGITS, TIME, compare_text};

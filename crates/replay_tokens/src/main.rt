@@ -1,5 +1,7 @@
 // Replays tokens.txt, the recorded tokens and sentence starts of the Rust, and says how many answers of the crates tokens and
 // sentences differ.
+#![tactic(auto)]
+
 mod answers;
 mod expected;
 mod steps;

@@ -1,4 +1,6 @@
 // Roman numerals: one pass from the right, with the largest value so far.
+#![tactic(auto)]
+
 ghost use Rattle.std.specs.Prelude.{◌≡◌, cond, ◌≤◌, max, ltb, length};
 ghost use Rattle.roman.specs.Roman.{roman_letter_value, roman_value};
 

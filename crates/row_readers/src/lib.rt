@@ -1,4 +1,6 @@
 // The rows that read a name once: all but row 10.
+#![tactic(auto)]
+
 ghost use Rattle.std.specs.Prelude.{◌≡◌, false, ◌∷◌, []};
 ghost use Rattle.word_writer.specs.Writer.{writer, put_words};
 ghost use Rattle.numerals.specs.Words.{spelled};
@@ -22,7 +24,7 @@ use word_writer::{Cursor, put_word_lowered};
 use years::say_year;
 
 // An entry's record, and where the cursor stands after its words.
-#[derive(Drop)]
+#[derive(Clone, Copy)]
 pub struct ReadOutcome {
     pub entry: Entry,
     pub cursor: Cursor,

@@ -1,16 +1,18 @@
 // An entry's record: its row and, for row 8, its sign, with their numbers. Which row takes a name is a definition, in specs/Rows.antt.
+#![tactic(auto)]
+
 ghost use Rattle.std.specs.Prelude.{◌≡◌};
 ghost use Rattle.rows.specs.Rows.{sign_number, row_number, row_sign};
 
 // The sign of a number.
-#[derive(Drop)]
+#[derive(Clone, Copy)]
 pub enum Sign {
     Plus,
     Minus,
 }
 
 // The rows, in their order. NoRow stands in the record of a refused call.
-#[derive(Drop)]
+#[derive(Clone, Copy)]
 pub enum Row {
     NoRow,
     Empty,
@@ -28,7 +30,7 @@ pub enum Row {
 }
 
 // An entry's record.
-#[derive(Drop)]
+#[derive(Clone, Copy)]
 pub struct Entry {
     pub row: Row,
 }

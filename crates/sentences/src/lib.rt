@@ -1,4 +1,6 @@
 // Where sentences start: `sentences` of text.rs for a whole text, and `SentenceBuilder::push` token by token.
+#![tactic(auto)]
+
 ghost use Rattle.std.specs.Prelude.{◌≡◌, ◌||◌, ◌≤◌, length};
 ghost use Rattle.std.proofs.lemmas.List.Edits.{sets};
 ghost use Rattle.lists.specs.Bytes.{elem, uppercase, lowercase};
@@ -15,7 +17,7 @@ use tokens::{Tokens, has_more_tokens, token_at};
 // What is kept of the last token: its name's length, first five bytes (0 past its end) and last byte (0 if it is empty), and
 // whether its punctuation has each of . : ? and !. A flag is 0 for no and any other byte for yes.
 #[repr(C)]
-#[derive(Drop)]
+#[derive(Clone, Copy)]
 pub struct State {
     pub len: usize,
     pub head: [u8; 5],
@@ -30,7 +32,7 @@ pub struct State {
 
 // A step's answer: the refusal's number or 0, whether a sentence ends before the token, and the state after it.
 #[repr(C)]
-#[derive(Drop)]
+#[derive(Clone, Copy)]
 pub struct Step {
     pub refusal: u8,
     pub breaks: bool,

@@ -1,5 +1,7 @@
 // The shapes of patterns.rs under its names, and in its order but for is_n_digits. Each takes all bytes, and demands nothing.
 // None tests for a refusal: the public calls of the crate patterns do that before they ask a shape.
+#![tactic(auto)]
+
 ghost use Rattle.std.specs.Prelude.{◌≡◌, min, length};
 ghost use Rattle.lists.specs.Bytes.{split, all, non_empty};
 ghost use Rattle.shapes.specs.Shapes.{is_digits, is_alpha, strip_sign, is_exponent, is_unsigned, is_double, is_comma_int, is_ordinal_suffix, is_ordinal, is_amount, is_us_money, is_illion, is_small_roman, is_roman, is_dr_or_st, is_number_s, is_leading_zero_digits, is_seven_digit_phone, is_n_digits, split_once, is_hour_minute, is_time, is_dotted_abbrev, is_digits_slash_digits, is_digits_dash_digits, has_unit, unit_part};
@@ -25,7 +27,7 @@ const HOUR_MINUTE: u8 = 1;
 const TWO_NUMBERS: u8 = 2;
 
 // What split_time_meridiem finds: where the hour ends, where the minute starts, and where the minute ends and the meridiem starts.
-#[derive(Drop)]
+#[derive(Clone, Copy)]
 pub enum TimeSplit {
     At {
         hour: usize,

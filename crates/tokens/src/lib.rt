@@ -1,4 +1,6 @@
 // Tokens of a text, as `tokenize` of text.rs gives them: where each one's parts are, how many there are, and their table.
+#![tactic(auto)]
+
 ghost use Rattle.std.specs.Prelude.{◌≡◌, ◌+◌, ◌*◌, ◌≤◌, ltb, length, drop};
 ghost use Rattle.std.proofs.lemmas.List.Edits.{sets};
 ghost use Rattle.lists.specs.Bytes.{span};
@@ -17,7 +19,7 @@ use word_writer::{PAIR_SIZE, put_pair_at};
 const RECORD_SIZE: usize = 32;
 
 // Where each part of a token starts, and where the last one ends.
-#[derive(Drop)]
+#[derive(Clone, Copy)]
 pub struct Places {
     pub whitespace: usize,
     pub prepunctuation: usize,
@@ -36,7 +38,7 @@ impl Places {
 }
 
 // Where the name and the punctuation of a run start in it.
-#[derive(Drop)]
+#[derive(Clone, Copy)]
 struct Cut {
     name: usize,
     punctuation: usize,
@@ -44,7 +46,7 @@ struct Cut {
 
 // A call's answer: the refusal's number or 0, and the count of tokens.
 #[repr(C)]
-#[derive(Drop)]
+#[derive(Clone, Copy)]
 pub struct Tokens {
     pub refusal: u8,
     pub tokens: usize,

@@ -1,4 +1,6 @@
 // The table UNIT_ABBREVIATIONS of patterns.rs and its look-up. An abbreviation is compared as one number, its key.
+#![tactic(auto)]
+
 ghost use Rattle.std.specs.Prelude.{◌≡◌, get_or};
 ghost use Rattle.units.specs.Units.{unit_index, unit_key, unit_keys, word_numbers};
 

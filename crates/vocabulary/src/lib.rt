@@ -1,5 +1,7 @@
 // The words of units, of number readings and of row 10, by number. A word is held as two numbers, which are its 16 packed bytes: a
 // `match` from numbers to numbers becomes a table in the program, but a table of bytes would be built on the stack at each call.
+#![tactic(auto)]
+
 ghost use Rattle.std.specs.Prelude.{◌≡◌, length};
 ghost use Rattle.lists.specs.Packed.{pack};
 ghost use Rattle.vocabulary.specs.Vocabulary.{word_of, low_of, high_of};

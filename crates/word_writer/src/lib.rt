@@ -1,6 +1,8 @@
 // The writing layer. A word goes to the store, and its pair of offset and length to the table, each as far as it falls within its
 // buffer. The cursor moves on in any case, so that with empty buffers the same code only measures. A spaced cursor writes a line of
 // the call sheet: a space goes before each word.
+#![tactic(auto)]
+
 ghost use Rattle.std.specs.Prelude.{◌≡◌, List, map, ℕ, ◌+◌, ◌*◌, min};
 ghost use Rattle.std.proofs.lemmas.List.Edits.{sets};
 ghost use Rattle.lists.specs.Bytes.{to_lower};
@@ -15,7 +17,7 @@ const USIZE_MAX: usize = 0xffff_ffff_ffff_ffff;
 pub const PAIR_SIZE: usize = 8;
 
 // The place of the next byte in the store, that of the next pair in the table, and whether a space goes before each word.
-#[derive(Drop)]
+#[derive(Clone, Copy)]
 pub struct Cursor {
     pub at: usize,
     pub words: usize,
@@ -24,7 +26,7 @@ pub struct Cursor {
 
 // A call's answer: the refusal's number or 0, the count of words and the count of their bytes.
 #[repr(C)]
-#[derive(Drop)]
+#[derive(Clone, Copy)]
 pub struct WordCounts {
     pub refusal: u8,
     pub words: usize,

@@ -1,4 +1,6 @@
 // Years: pairs of digits, mostly.
+#![tactic(auto)]
+
 ghost use Rattle.std.specs.Prelude.{◌≡◌, ◌∷◌, [], ◌≤◌, length, drop};
 ghost use Rattle.word_writer.specs.Writer.{writer, put_words};
 ghost use Rattle.numerals.specs.Words.{spelled};
@@ -16,7 +18,7 @@ use vocabulary::{HUNDRED, OH, ONES};
 use word_writer::Cursor;
 
 // The value of a text's first digit, and the place after it.
-#[derive(Drop)]
+#[derive(Clone, Copy)]
 struct Picked {
     pub value: u8,
     pub next: usize,

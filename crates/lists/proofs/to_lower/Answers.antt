@@ -1,0 +1,11 @@
+use borrow.Author.Tests.{le-leb, lt-leb}
+use Rattle.lists.proofs.to_lower.Goals as goal
+
+pub returns-then-b-lt65 : goal.returns-then-b-lt65
+returns-then-b-lt65 c = rw (lt-leb _ _ c.if-b-lt65.true)
+
+pub returns-then-b-gt90 : goal.returns-then-b-gt90
+returns-then-b-gt90 c = rw (le-leb _ _ c.if-b-lt65.false, lt-leb _ _ c.if-b-gt90.true)
+
+pub returns : goal.returns
+returns c = rw (le-leb _ _ c.if-b-lt65.false, le-leb _ _ c.if-b-gt90.false)
