@@ -1,0 +1,12 @@
+use native.Mathlib.Omega.{arith}
+use mathlib.Core.Path.{sym, ◌∙◌}
+use Rattle.admit.proofs.Utf8.{utf8_all}
+use Rattle.admit.proofs.Calls.{text_accepted}
+use borrow.Author.Rules.{rules}
+use Rattle.admit.proofs.refusal_of.Goals as goal
+
+pub returns-then-all_of : goal.returns-then-all_of
+returns-then-all_of c =
+    sym
+    (text_accepted _ c.args.s.now
+    (record { within_limit = omega arith; valid_utf8 = utf8_all _ (sym c.all_of.ensures ∙ c.if-all_of.true) }))

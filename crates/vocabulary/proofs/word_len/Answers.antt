@@ -1,0 +1,6 @@
+use Rattle.vocabulary.proofs.Laws.{high_size}
+use borrow.Author.Rules.{rules}
+use Rattle.vocabulary.proofs.word_len.Goals as goal
+
+pub returns : goal.returns
+returns c = rw c.high.ensures (high_size c.args.k)
