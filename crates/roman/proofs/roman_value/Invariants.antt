@@ -1,0 +1,11 @@
+use mathlib.Core.Path.{◌≡◌, ◌∙◌}
+use Prim.Native.Nat.{◌-◌}
+use native.Mathlib.Omega.{arith}
+use Rattle.roman.proofs.RomanLaws.{Summed, summed_none, summed_more, summed_all, foreign}
+use Rattle.roman.proofs.roman_value.Given as goal
+
+abbrev pub invariant-loop-i : goal.invariant-loop-i
+invariant-loop-i l = Summed l.s l.i l.add l.sub l.most
+
+abbrev pub decreases-loop-i : goal.decreases-loop-i
+decreases-loop-i l = l.i

@@ -1,0 +1,44 @@
+use native.Mathlib.Omega.{arith}
+use mathlib.Core.Path.{◌≡◌, refl, sym, ◌∙◌}
+use Prim.Native.Nat.{◌-◌}
+use lib.ListN.{length, drop, length-drop}
+use lib.Seq.{drop-drop}
+use borrow.Author.Tests.{not-true, not-false}
+use Rattle.shapes.specs.Tests.{part_passes}
+use Rattle.lists.specs.Bytes.{split, all}
+use Rattle.lists.proofs.Parts.{parts_fail, parts_end, parts_more}
+use borrow.Author.Rules.{rules}
+use Rattle.shapes.proofs.all_parts.Goals as goal
+
+pub returns-then-not-part_passes : goal.returns-then-not-part_passes
+returns-then-not-part_passes c =
+    let e = rw (c.front.ensures, c.span_of-n.ensures, c.tail-rest.ensures) at c.part_passes.ensures in
+    sym (c.loop-rest.invariant ∙ parts_fail _ _ _ (sym e ∙ not-true _ c.if-not-part_passes.true-raw))
+
+pub returns-then-rest-n : goal.returns-then-rest-n
+returns-then-rest-n c =
+    let e =
+    rw (
+      c.front.ensures,
+      c.span_of-n.ensures,
+      c.tail-rest.ensures,
+    ) at c.part_passes.ensures in
+    let h = rw (c.span_of-n.ensures, c.tail-rest.ensures) at c.if-rest-n.true in
+    sym (c.loop-rest.invariant ∙ parts_end _ _ _ (sym e ∙ not-false _ c.if-not-part_passes.false-raw) h)
+
+pub overflow_add-i : goal.overflow_add-i
+overflow_add-i c = omega (arith, simp length-drop at (rw c.tail-rest.ensures at c.if-rest-n.false))
+
+pub overflow_add-i-in-loop-rest : goal.overflow_add-i-in-loop-rest
+overflow_add-i-in-loop-rest c = omega (arith, simp length-drop at (rw c.tail-rest.ensures at c.if-rest-n.false))
+
+pub loop-rest-smaller : goal.loop-rest-smaller
+loop-rest-smaller c = omega (arith, simp length-drop at (rw c.tail-rest.ensures at c.if-rest-n.false))
+
+pub loop-rest-preserved : goal.loop-rest-preserved
+loop-rest-preserved c =
+    let e = rw (c.front.ensures, c.span_of-n.ensures, c.tail-rest.ensures) at c.part_passes.ensures in
+    let h = rw (c.span_of-n.ensures, c.tail-rest.ensures) at c.if-rest-n.false in
+    c.loop-rest.invariant
+    ∙ (parts_more _ _ _ (sym e ∙ not-false _ c.if-not-part_passes.false-raw) h
+    ∙ rw (drop-drop, c.span_of-n.ensures, c.tail-rest.ensures))

@@ -1,0 +1,7 @@
+use Rattle.shapes.specs.Shapes.{is_digits}
+use borrow.Author.Rules.{rules}
+use Rattle.shapes.proofs.is_digits.Goals as goal
+
+pub returns : goal.returns
+unfolding is_digits
+returns c = rw c.all_of.ensures

@@ -1,0 +1,5 @@
+use borrow.Author.Rules.{rules}
+use Rattle.shapes.proofs.is_leading_zero_digits.Goals as goal
+
+pub returns : goal.returns
+returns c = rw (c.starts_with.ensures, c.is_digits.ensures)

@@ -1,0 +1,5 @@
+use borrow.Author.Rules.{rules}
+use Rattle.shapes.proofs.is_n_digits.Goals as goal
+
+pub returns : goal.returns
+returns c = rw c.is_digits.ensures

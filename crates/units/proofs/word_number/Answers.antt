@@ -1,0 +1,8 @@
+use Rattle.units.specs.Units.{unit_abbreviations, unit_words, index_of, word_numbers}
+use Rattle.vocabulary.proofs.Laws.{unfold_vocabulary}
+use borrow.Author.Rules.{rules}
+use Rattle.units.proofs.word_number.Goals as goal
+
+pub returns : goal.returns
+unfolding word_numbers index_of unfold_vocabulary unit_words unit_abbreviations
+returns c = c.byte_at.ensures
