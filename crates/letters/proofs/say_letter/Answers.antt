@@ -7,7 +7,10 @@ pub returns-then-c-ne1 : goal.returns-then-c-ne1
 returns-then-c-ne1 c =
     rw (letter_whole c.args.c.now c.if-c-ne1.true) c.put_word.ensures
 
-pub slice_bounds-put_word-end-2 : goal.slice_bounds-put_word-end-2
-slice_bounds-put_word-end-2 c =
-    let s = c.args.c.now in
-    rw (letter_a s (omega arith) (cc) c.if-lower-eq97.true) c.put_word-then-lower-eq97.ensures
+pub returns-then-lower-eq97 : goal.returns-then-lower-eq97
+returns-then-lower-eq97 c =
+    rw (letter_a c.args.c.now (omega arith) (cc) c.if-lower-eq97.true) c.put_word-then-lower-eq97.ensures
+
+pub returns : goal.returns
+returns c =
+    rw (letter_other c.args.c.now (omega arith) (cc) c.if-lower-eq97.false) c.put_word-2.ensures

@@ -39,7 +39,7 @@ loop-i-preserved c =
     let g = c.tail.ensures in
     let e = c.first_char-c.ensures in
     walk_on l.invariant _ (letter_word c.first_char-c.result.now ∷ []) (omega (arith, char_more s l.i h g e)) (letters_at s l.i h g e)
-    d.ensures d.auto.1.0 d.auto.1.1.0
+    d.ensures (omega arith) (omega arith)
 
 pub shape_of-store : goal.shape_of-store
 shape_of-store c = c.loop-i.invariant.store

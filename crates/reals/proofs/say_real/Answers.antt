@@ -35,7 +35,7 @@ loop-i-preserved c =
     let s = c.args.s.now in
     let g = c.tail.ensures in
     walk_on l.invariant _ _ (omega (arith, part_more s l.i g d.ensures.1 (omega arith))) (real_at s l.i g d.ensures.1)
-    d.ensures.0 d.auto.1.0 d.auto.1.1.0
+    d.ensures.0 (omega arith) (omega arith)
 
 pub shape_of-store : goal.shape_of-store
 shape_of-store c = c.loop-i.invariant.store

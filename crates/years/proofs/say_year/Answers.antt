@@ -29,7 +29,7 @@ loop-left-preserved c =
     let e = rw c.tail.ensures at c.say_lead-progress.ensures in (
       left_after s l.i _ _ l.invariant.0 e.1,
       walk_on l.invariant.1 _ _ (omega (arith, e.2, length-drop l.i s)) (year_at s l.i _ _ l.invariant.0 e.1 (omega arith)) e.0
-          c.say_lead-progress.auto.1.1.0 c.say_lead-progress.auto.1.1.1.0,
+          (omega arith) (omega arith),
     )
 
 pub say_last-requires : goal.say_last-requires
