@@ -28,12 +28,6 @@ bounds-starts-n c =
     let l = c.loop-at.invariant.1 in
     omega arith
 
--- look: well-formed
-pub overflow_add-n : goal.overflow_add-n
-overflow_add-n c =
-    let g = c.well-formed.0.1 in
-    omega arith
-
 pub loop-at-smaller : goal.loop-at-smaller
 loop-at-smaller c =
     let next =
