@@ -13,6 +13,13 @@ loop-at-init c = (omega arith, λ i r. omega arith)
 pub returns-then-ahead-eq0 : goal.returns-then-ahead-eq0
 returns-then-ahead-eq0 c = λ e. absurd (false≢true (sym e))
 
+pub overflow_add-at-in-loop-at : goal.overflow_add-at-in-loop-at
+overflow_add-at-in-loop-at c =
+    let w =
+    ahead_within c.args.s.now c.loop-at.at c.part.ensures
+    c.after_last-ahead.ensures c.loop-at.invariant.0 in
+    omega arith
+
 pub loop-at-smaller : goal.loop-at-smaller
 loop-at-smaller c =
     let w =

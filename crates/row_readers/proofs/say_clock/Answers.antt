@@ -9,8 +9,15 @@ use Rattle.rows.specs.Rows.{clock}
 use borrow.Author.Rules.{rules}
 use Rattle.row_readers.proofs.say_clock.Goals as goal
 
-pub say_year-requires : goal.say_year-requires
+pub returns-then-same : goal.returns-then-same
 unfolding clock
-say_year-requires c =
+returns-then-same c =
     says_more (cardinal c.args.hour.now) []
     (rw (sym c.same.ensures ∙ c.if-same.true)) _ c.say_cardinal-p.ensures (unfold spelled put_words in refl)
+
+pub returns : goal.returns
+unfolding clock
+returns c =
+    says_more (cardinal c.args.hour.now) (year c.args.minute.now)
+    (rw (sym c.same.ensures ∙ c.if-same.false)) _ c.say_cardinal-p.ensures
+    c.say_year.ensures
