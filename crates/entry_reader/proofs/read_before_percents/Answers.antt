@@ -12,7 +12,7 @@ returns c =
     record {
       row = c.read_by_row-read.ensures.row;
       said =
-          ap (λ (p : Cursor). writer c.say_per_cents-p.new.1.0 c.say_per_cents-p.new.1.1.0 p)
+          ap (λ (p : Cursor). writer c.say_per_cents-p.new.store c.say_per_cents-p.new.table p)
           c.place_of.ensures
           ∙ says_more (read c.args.name.now).words (per_cents c.args.percents) refl _
           (rw c.cursor_of.ensures at c.read_by_row-read.ensures.said) c.say_per_cents-p.ensures;

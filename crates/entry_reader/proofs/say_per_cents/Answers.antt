@@ -20,8 +20,8 @@ loop-left-preserved c =
       says_more per_cent (per_cents (c.loop-left.left - 1)) (one_less c.loop-left.left (omega arith)) _
           c.say_per_cent-p.ensures refl
           ∙ c.loop-left.invariant.0,
-      c.say_per_cent-p.auto.0 ∙ c.loop-left.invariant.1,
-      c.say_per_cent-p.auto.1.0 ∙ c.loop-left.invariant.2,
+      omega arith,
+      omega arith,
     )
 
 pub returns : goal.returns
