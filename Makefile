@@ -3,7 +3,7 @@
 # make bench        times the library beside the Rust
 # make install      puts header, library and howhakiru.pc below PREFIX (/usr/local), staged below DESTDIR if that is set
 # make uninstall    removes these three files
-# make clean        removes target/
+# make clean        removes target/ and what rt keeps in crates/*/out/
 # make help         writes these lines
 
 PREFIX ?= /usr/local
@@ -42,7 +42,7 @@ uninstall:
 	rm -f '$(header)' '$(library)' '$(package)'
 
 clean:
-	rm -rf target
+	rm -rf target crates/*/out
 
 help:
 	@sed -n 's/^# make/make/p' Makefile

@@ -11,5 +11,5 @@ if [ -f "$sheet" ] && [ "$(wc -c <"$sheet")" -gt 4096 ]; then
     echo "callsheet: $sheet is longer than 4,096 bytes; only these are called" >&2
 fi
 top=$(cd "$(dirname "$0")/.." && pwd)
-"$top/tests/rt_progress.sh" check callsheet
-"$top/target/bin/callsheet" <"$sheet"
+"$top/tests/rt_progress.sh" run callsheet
+"$top/crates/callsheet/out/callsheet" <"$sheet"

@@ -3,9 +3,9 @@
 set -euo pipefail
 cd "$(dirname "$0")/.."
 
-tests/rt_progress.sh check callsheet
+tests/rt_progress.sh run callsheet
 mkdir -p target/callsheet
-program=target/bin/callsheet
+program=crates/callsheet/out/callsheet
 
 # check WHAT WANTED: standard input is the sheet, printf's format WANTED what is written, to the byte.
 check() {

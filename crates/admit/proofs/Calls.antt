@@ -51,10 +51,10 @@ first_refusal_append (r when true ∷ a) b = numbered r (first_refusal b)
 first_refusal_append (r when false ∷ a) b = first_refusal_append a b
 
 -- n is the number that the code has for the tests a; the tests b follow
-module _ (a b : List Test) {n : ℕ} (refusal-eq : n ≡ first_refusal a) where
+module _ (a b : List Test) {n : ℕ} (refusal_eq : n ≡ first_refusal a) where
   -- if a test of a holds, the call answers n
   pub refused_first : {A : Type 0} (nothing given : A) → (n ≡ 0 → ⊥) → record { refusal = n; value = nothing } ≡ call nothing (first_refusal (a ++ b)) given
-  refused_first nothing given z = rw (first_refusal_append a b, ← refusal-eq) (go n z)
+  refused_first nothing given z = rw (first_refusal_append a b, ← refusal_eq) (go n z)
     where
       go : (n : ℕ) → (n ≡ 0 → ⊥) → record { refusal = n; value = nothing } ≡ call nothing (or_else n (first_refusal b)) given
       go zero z = absurd (z refl)
@@ -62,7 +62,7 @@ module _ (a b : List Test) {n : ℕ} (refusal-eq : n ≡ first_refusal a) where
 
   -- if no test of a holds, the tests b decide
   pub passed_first : n ≡ 0 → first_refusal (a ++ b) ≡ first_refusal b
-  passed_first z = first_refusal_append a b ∙ ap (λ (k : ℕ). or_else k (first_refusal b)) (sym refusal-eq ∙ z)
+  passed_first z = first_refusal_append a b ∙ ap (λ (k : ℕ). or_else k (first_refusal b)) (sym refusal_eq ∙ z)
 
 -- if no test of both lists joined holds, none of a holds and none of b
 pub both_passed : (a b : List Test) → first_refusal (a ++ b) ≡ 0 → (first_refusal a ≡ 0) × (first_refusal b ≡ 0)

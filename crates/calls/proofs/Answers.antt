@@ -57,7 +57,7 @@ module _ (e : SheetEntry) (old : List ℕ) where
 
 -- ---- the sheet s: the refusal n of its text is tested first
 
-module _ (s old : List ℕ) {n : ℕ} (refusal-eq : n ≡ text_refusal text_limit s) where
+module _ (s old : List ℕ) {n : ℕ} (refusal_eq : n ≡ text_refusal text_limit s) where
   abbrev text : List Test
   text = text_tests text_limit (s ∷ [])
 
@@ -70,17 +70,17 @@ module _ (s old : List ℕ) {n : ℕ} (refusal-eq : n ≡ text_refusal text_limi
   -- if the text is refused, the call is refused with the same number
   pub sheet_refused : (n ≡ 0 → ⊥) → {r : CalledSheet} → r ≡ refused_sheet n → as_sheet r old ≡ sheet_call s old
   unfolding sheet_call
-  sheet_refused z q = rw q (refused_first text later refusal-eq _ _ z)
+  sheet_refused z q = rw q (refused_first text later refusal_eq _ _ z)
 
   -- if a name is too long, the call is refused with 4
   pub sheet_long : n ≡ 0 → any_long (entries s) ≡ true → {r : CalledSheet} → r ≡ refused_sheet 4 → as_sheet r old ≡ sheet_call s old
   unfolding sheet_call
-  sheet_long z l q = rw (q, passed_first text later refusal-eq z, l)
+  sheet_long z l q = rw (q, passed_first text later refusal_eq z, l)
 
   -- if the buffer is too short for the call sheet, the call is refused with 5
   pub sheet_short : n ≡ 0 → any_long (entries s) ≡ false → is_short ≡ true → {r : CalledSheet} → r ≡ refused_sheet 5 → as_sheet r old ≡ sheet_call s old
   unfolding sheet_call
-  sheet_short z l t q = rw (q, passed_first text later refusal-eq z, l, t)
+  sheet_short z l t q = rw (q, passed_first text later refusal_eq z, l, t)
 
   -- else the call answers the counts, and writes the call sheet
   pub sheet_result_lem : n ≡ 0 → any_long (entries s) ≡ false → is_short ≡ false → length old < usize_max → (t t₀ : List ℕ) {new : List ℕ} {p : Cursor} {k : ℕ}
@@ -89,7 +89,7 @@ module _ (s old : List ℕ) {n : ℕ} (refusal-eq : n ≡ text_refusal text_limi
   unfolding sheet_call
   sheet_result_lem z l f small t t₀ {new} {p} c q =
       let g = written_lines (wrote_lines (entries s)) (lines_words (entries s)) new t old t₀ refl q f small in
-      rw (passed_first text later refusal-eq z, l, f) (λ j. record { refusal = 0; value = record { tokens = c j; words = g.1 j; bytes = g.0 j; buffer = g.2 j } })
+      rw (passed_first text later refusal_eq z, l, f) (λ j. record { refusal = 0; value = record { tokens = c j; words = g.1 j; bytes = g.0 j; buffer = g.2 j } })
 
   -- entry k of it
   module _ (k : ℕ) where
@@ -99,7 +99,7 @@ module _ (s old : List ℕ) {n : ℕ} (refusal-eq : n ≡ text_refusal text_limi
     -- if the text is refused, the call is refused with the same number
     pub entry_refused : (n ≡ 0 → ⊥) → {r : CalledEntry} → r ≡ refused_entry n → as_entry r old ≡ entry_call s k old
     unfolding entry_call
-    entry_refused z q = rw q (refused_first text here refusal-eq _ _ z)
+    entry_refused z q = rw q (refused_first text here refusal_eq _ _ z)
 
     -- r says where the code has found it, if it has
     module _ (z : n ≡ 0) (r : Found) (f : as_found_entry s r ≡ found_entry s k) where
@@ -109,7 +109,7 @@ module _ (s old : List ℕ) {n : ℕ} (refusal-eq : n ≡ text_refusal text_limi
       -- if there is no such entry, the call is refused with 3
       pub entry_none : r.found ≡ false → {a : CalledEntry} → a ≡ refused_entry 3 → as_entry a old ≡ entry_call s k old
       unfolding entry_call
-      entry_none t q = rw (q, passed_first text here refusal-eq z, le-leb (length (tokens s)) k (ltb-false _ _ (sym there ∙ t)))
+      entry_none t q = rw (q, passed_first text here refusal_eq z, le-leb (length (tokens s)) k (ltb-false _ _ (sym there ∙ t)))
 
       -- else its call is the call of the name that was found
       pub entry_there : r.found ≡ true → {m : List ℕ} → m ≡ take (r.end - r.name) (drop r.name s) → name_call (entry_named r.starts m) old ≡ entry_call s k old
@@ -117,4 +117,4 @@ module _ (s old : List ℕ) {n : ℕ} (refusal-eq : n ≡ text_refusal text_limi
       entry_there t q =
           let h : k < length (tokens s) = ltb-true _ _ (sym there ∙ t) in
           ap (λ (e : SheetEntry). name_call e old) (ap (entry_named r.starts) q ∙ ap (λ (x : FoundEntry). x.entry) f)
-          ∙ rw (passed_first text here refusal-eq z, lt-leb (length (tokens s)) k h, line_at_lem s k h)
+          ∙ rw (passed_first text here refusal_eq z, lt-leb (length (tokens s)) k h, line_at_lem s k h)

@@ -131,7 +131,7 @@ lines_words [] = omega arith
 lines_words (e ∷ es) = omega (arith, line_words e, lines_words es, length-append (line_of e) (flatten (map line_of es)))
 
 -- f writes from the start of a buffer on, and every word takes at least one byte
-module _ {b : List ℕ} {n : ℕ} {f : Writer → Writer} (w : Writes b n f) (words-fit : n ≤ length b) (x y x₀ y₀ : List ℕ) {p p₀ : Cursor}
+module _ {b : List ℕ} {n : ℕ} {f : Writer → Writer} (w : Writes b n f) (words_fit : n ≤ length b) (x y x₀ y₀ : List ℕ) {p p₀ : Cursor}
     (start : p₀ ≡ spaced_cursor) (q : writer x y p ≡ f (writer x₀ y₀ p₀)) where
   all_wrote : Wrote b n (writer x₀ y₀ spaced_cursor) (writer x y p)
   all_wrote =

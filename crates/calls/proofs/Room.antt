@@ -3,7 +3,7 @@ use mathlib.Core.Path.{◌≡◌, refl, sym, ap, ◌∙◌}
 use mathlib.Core.Bool.{Bool, true, false, cond, not, ◌||◌, and-eq-true_iff}
 use mathlib.Core.Logic.{⊎_elim}
 use mathlib.Core.List.{List, [], ◌∷◌, ◌++◌, map, flatten}
-use Prim.Native.Nat.{ℕ, zero, suc, ◌+◌, ◌-◌, ◌*◌, ◌/◌, ◌≤◌, ◌<◌}
+use Prim.Native.Nat.{ℕ, ◌+◌, ◌-◌, ◌*◌, ◌/◌, ◌≤◌, ◌<◌}
 use Prim.Native.Char.{code}
 use native.Mathlib.Nat.{add-zero}
 use native.Mathlib.Omega.{arith}
@@ -17,7 +17,7 @@ use Rattle.lists.proofs.Recursion.{recur_induct, cond_elim}
 use Rattle.lists.proofs.Scan.{filter_if_le, span_some, span_fails}
 use Rattle.lists.proofs.Sets.{le_or_lt}
 use Rattle.admit.specs.Utf8.{utf8}
-use Rattle.admit.specs.Refusals.{refusal_number, first_refusal, text_limit, text_tests, Call, call}
+use Rattle.admit.specs.Refusals.{refusal_number, first_refusal, text_limit, text_tests, Call}
 use Rattle.admit.specs.declared.Refusal.TheVariants.{NotUtf8}
 use Rattle.admit.proofs.Calls.{call_number}
 use Rattle.vocabulary.proofs.Laws.{word_short}
@@ -25,7 +25,7 @@ use Rattle.units.specs.Units.{unit_abbreviations, abbreviations, unit_words, ind
 use Rattle.units.proofs.Laws.{unit_word_number, miss_word}
 use Rattle.shapes.specs.Shapes.{is_dotted_abbrev, is_comma_int, is_time, is_leading_zero_digits, is_digits, is_double, is_ordinal, split_once, unit_at, has_unit, unit_part}
 use Rattle.shapes.specs.Times.{ends_in_meridiem, is_meridiem_time, time_parts, time_of, separator_at}
-use Rattle.tokens.specs.Tokens.{Token, after_whitespace, after_run, first_token, tokens, token_parts as fourParts}
+use Rattle.tokens.specs.Tokens.{Token, after_whitespace, after_run, first_token, tokens, token_parts as four_parts}
 use Rattle.tokens.proofs.Forward.{tokens_none, tokens_more, tokens_induct, first_joined, size_parts}
 use Rattle.tokens.proofs.Walks.{first_white, tokens_past}
 use Rattle.sentences.specs.Sentences.{sentence_starts}
@@ -162,7 +162,7 @@ names_room =
     ⊎_elim (λ (h : length r ≤ 0). omega (arith, ap name_room (tokens_past r 0 h))) (λ (h : 0 < length r). i.1 (white_after s h))
     (le_or_lt (length r) 0) in
     let m = size_parts t in
-    let j = length-append (flatten (fourParts t)) r in
+    let j = length-append (flatten (four_parts t)) r in
     let l = ap length (first_joined s) in
     let w = first_white s in
     rw (tokens_more s e) (omega arith, λ h. omega arith))
@@ -192,14 +192,14 @@ pub only_not_utf8 : (s old new : List ℕ) {r : CalledSheet} → as_sheet r new 
     → (r.refusal ≡ 0 → ⊥) → r.refusal ≡ refusal_number NotUtf8
 unfolding sheet_call text_tests any
 only_not_utf8 s old new {r} e h k z =
-    let refusal-eq : r.refusal ≡ first_refusal (sheet_tests s (ltb (length old) (length (call_sheet s)))) =
+    let refusal_eq : r.refusal ≡ first_refusal (sheet_tests s (ltb (length old) (length (call_sheet s)))) =
     ap (λ (c : Call SheetResult). c.refusal) e ∙ call_number _ _ _ in
     go (utf8 s)
     (rw (
       le-ltb text_limit (length s) (omega arith),
       names_not_long (sentence_starts (tokens s)) (tokens s) (omega (arith, (names_room s).0)),
       le-ltb (length old) (length (call_sheet s)) (omega (arith, sheet_room s)),
-    ) at refusal-eq)
+    ) at refusal_eq)
   where
     go : (u : Bool) → r.refusal ≡ cond (not u || false) 2 0 → r.refusal ≡ 2
     go true q = absurd (z q)

@@ -1,7 +1,7 @@
 // The tests of a clear name, for names that are already admitted, kind by kind in document 01's order. Each test works on any bytes,
 // so nothing is demanded of the caller.
 ghost use Rattle.std.specs.Prelude.{◌≡◌, ◌&&◌, [], ◌<◌, ltb, eqb, length, get_or};
-ghost use Rattle.lists.specs.Bytes.{all, same as sameText, listed};
+ghost use Rattle.lists.specs.Bytes.{all, same as same_text, listed};
 ghost use Rattle.vocabulary.specs.Vocabulary.{word_of};
 ghost use Rattle.units.specs.Units.{abbreviations, unit_words, index_of};
 ghost use Rattle.clear.specs.Clear.{plain, suffix, suffix_for, table_words};
@@ -97,7 +97,7 @@ pub fn is_meridiem_clear(s: &[u8]) -> bool
 
 // Whether t is the suffix for a last digit b, if the digit before it is not 1.
 fn is_suffix_for(b: u8, t: &[u8]) -> bool
-    ensures { result ≡ sameText t.now (suffix_for b) }
+    ensures { result ≡ same_text t.now (suffix_for b) }
 {
     if b == b'1' {
         return same(EXACT, t, b"st");
@@ -113,7 +113,7 @@ fn is_suffix_for(b: u8, t: &[u8]) -> bool
 
 // Whether t is the right suffix of the number s.
 fn is_suffix(s: &[u8], t: &[u8]) -> bool
-    ensures { result ≡ sameText t.now (suffix s.now) }
+    ensures { result ≡ same_text t.now (suffix s.now) }
 {
     let n = s.len();
     if (1 < n) & (byte_at(s, saturating_sub(n, 2)) == b'1') {
@@ -194,7 +194,7 @@ fn table_word(i: usize) -> usize
 
 // Whether s is word number k of the vocabulary.
 fn is_word_number(k: usize, s: &[u8]) -> bool
-    ensures { result ≡ sameText (word_of k) s.now }
+    ensures { result ≡ same_text (word_of k) s.now }
 {
     if vocabulary::word_len(k) != s.len() {
         return false;

@@ -95,9 +95,9 @@ module _ (c d : ℕ) (cs : List ℕ) (h : all uppercase (c ∷ d ∷ cs) ≡ tru
 
   is_dotted : is_dotted_abbrev name ≡ true
   is_dotted =
-      let name-dotted = is_dotted_abbrev name && not (ends_with (code ".") name) in
+      let name_dotted = is_dotted_abbrev name && not (ends_with (code ".") name) in
       ((and-eq-true_iff (is_dotted_abbrev name) (not (ends_with (code ".") name))).0
-      ((and-eq-true_iff name-dotted (all uppercase_or_point name)).0 (initials_test c d cs h)).0).0
+      ((and-eq-true_iff name_dotted (all uppercase_or_point name)).0 (initials_test c d cs h)).0).0
 
   initials_row : (word : List ℕ → List ℕ) → read_with word name ≡ by Dotted (map (λ b. other (initial b)) (c ∷ d ∷ cs))
   unfolding read_step

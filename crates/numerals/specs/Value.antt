@@ -8,7 +8,7 @@ use Rattle.numerals.specs.Words.{Word, one, teen, ten, hundred, scale, other}
 
 -- "units, teens and tens add, hundred multiplies by 100, scale words by their power of ten"
 pub data Meaning : Type 0 where
-  adds multiplies scalesBy : ℕ → Meaning
+  adds multiplies scales_by : ℕ → Meaning
 
 -- a word and what it means
 infix 70 ◌means◌
@@ -25,7 +25,7 @@ cardinal_meanings =
     ∷ "twenty" means adds 20 ∷ "thirty" means adds 30 ∷ "forty" means adds 40 ∷ "fifty" means adds 50
     ∷ "sixty" means adds 60 ∷ "seventy" means adds 70 ∷ "eighty" means adds 80 ∷ "ninety" means adds 90
     ∷ "hundred" means multiplies 100
-    ∷ "thousand" means scalesBy (10 ^ 3) ∷ "million" means scalesBy (10 ^ 6) ∷ "billion" means scalesBy (10 ^ 9) ∷ []
+    ∷ "thousand" means scales_by (10 ^ 3) ∷ "million" means scales_by (10 ^ 6) ∷ "billion" means scales_by (10 ^ 9) ∷ []
 
 -- the ordinal forms; only the last word of an ordinal number is one
 unfoldable pub ordinal_meanings : List WordMeaning
@@ -37,7 +37,7 @@ ordinal_meanings =
     ∷ "twentieth" means adds 20 ∷ "thirtieth" means adds 30 ∷ "fortieth" means adds 40 ∷ "fiftieth" means adds 50
     ∷ "sixtieth" means adds 60 ∷ "seventieth" means adds 70 ∷ "eightieth" means adds 80 ∷ "ninetieth" means adds 90
     ∷ "hundredth" means multiplies 100
-    ∷ "thousandth" means scalesBy (10 ^ 3) ∷ "millionth" means scalesBy (10 ^ 6) ∷ "billionth" means scalesBy (10 ^ 9) ∷ []
+    ∷ "thousandth" means scales_by (10 ^ 3) ∷ "millionth" means scales_by (10 ^ 6) ∷ "billionth" means scales_by (10 ^ 9) ∷ []
 
 -- the meaning of a word; none if it is not in the table
 unfoldable pub meaning_in : List WordMeaning → List ℕ → Option Meaning
@@ -65,7 +65,7 @@ unfoldable pub value_from : ℕ → ℕ → List Meaning → ℕ
 value_from t c [] = t + c
 value_from t c (adds n ∷ ms) = value_from t (c + n) ms
 value_from t c (multiplies n ∷ ms) = value_from t (c * n) ms
-value_from t c (scalesBy n ∷ ms) = value_from (t + c * n) 0 ms
+value_from t c (scales_by n ∷ ms) = value_from (t + c * n) 0 ms
 
 -- the value that words name; none if one of them has no meaning
 unfoldable pub value_of : List (List ℕ) → Option ℕ
@@ -90,7 +90,7 @@ meaning_of (one d) = adds d
 meaning_of (teen d) = adds (10 + d)
 meaning_of (ten d) = adds (10 * d)
 meaning_of hundred = multiplies 100
-meaning_of (scale k) = scalesBy (1000 ^ k)
+meaning_of (scale k) = scales_by (1000 ^ k)
 meaning_of (other w) = adds 0
 
 unfoldable pub words_value : List Word → ℕ

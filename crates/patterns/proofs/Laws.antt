@@ -66,17 +66,17 @@ pub unit_word_in_order : (s store : List ℕ) → in_order (text_tests text_limi
 unfolding text_tests
 unit_word_in_order s store = refl
 
-module _ (s store : List ℕ) (n : ℕ) (refusal-eq : n ≡ text_refusal text_limit s) where
+module _ (s store : List ℕ) (n : ℕ) (refusal_eq : n ≡ text_refusal text_limit s) where
   -- if the text is refused, the call answers its number
   pub word_refused : (n ≡ 0 → ⊥) → record { refusal = n; value = record { found = false; size = 0; store = store } } ≡ unit_word_call s store
-  word_refused z = refused_first (text_tests text_limit (s ∷ [])) (store_tests (unit_word s) store) refusal-eq _ _ z
+  word_refused z = refused_first (text_tests text_limit (s ∷ [])) (store_tests (unit_word s) store) refusal_eq _ _ z
 
   -- if the text is accepted and is a unit, the call answers what storing its word answers
   pub word_found : n ≡ 0 → unit_index s < 22 → store_call (unit_word s) store ≡ unit_word_call s store
-  word_found z h = rw (hit_some s h, passed_first (text_tests text_limit (s ∷ [])) (store_tests (unit_word s) store) refusal-eq z)
+  word_found z h = rw (hit_some s h, passed_first (text_tests text_limit (s ∷ [])) (store_tests (unit_word s) store) refusal_eq z)
 
   -- if the text is accepted and is no unit, the call answers no word
   pub word_none : n ≡ 0 → 22 ≤ unit_index s → record { refusal = 0; value = record { found = false; size = 0; store = store } } ≡ unit_word_call s store
   word_none z h =
       let l : ltb (length store) 0 ≡ false = le-ltb (length store) 0 (omega arith) in
-      rw (miss_none s h, miss_word s h, passed_first (text_tests text_limit (s ∷ [])) (store_tests [] store) refusal-eq z, l)
+      rw (miss_none s h, miss_word s h, passed_first (text_tests text_limit (s ∷ [])) (store_tests [] store) refusal_eq z, l)

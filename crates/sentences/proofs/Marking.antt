@@ -56,14 +56,14 @@ starts_length s = flags_length (sentence_starts (tokens s)) ∙ starts_each (tok
 -- ---- a step
 
 -- k is the refusal number that the code finds for the three texts
-module _ (st : State) (w n p : List ℕ) (k : ℕ) (refusal-eq : k ≡ first_refusal (step_tests w n p)) where
+module _ (st : State) (w n p : List ℕ) (k : ℕ) (refusal_eq : k ≡ first_refusal (step_tests w n p)) where
   -- the step is refused
   pub step_refused : (k ≡ 0 → ⊥) → as_step (record { refusal = k; breaks = false; state = st }) ≡ step_call st w n p
   unfolding step_call
-  step_refused z = call_refused _ _ k (first_refusal (step_tests w n p)) z refusal-eq
+  step_refused z = call_refused _ _ k (first_refusal (step_tests w n p)) z refusal_eq
 
   -- the step is accepted
   pub step_done : k ≡ 0 → {b : Bool} {st' : State} → b ≡ breaks st w n → st' ≡ kept n p
       → as_step (record { refusal = 0; breaks = b; state = st' }) ≡ step_call st w n p
   unfolding step_call
-  step_done z {b} {st'} e f = call_accepted _ _ _ (first_refusal (step_tests w n p)) (sym z ∙ refusal-eq) (λ j. record { breaks = e j; state = f j })
+  step_done z {b} {st'} e f = call_accepted _ _ _ (first_refusal (step_tests w n p)) (sym z ∙ refusal_eq) (λ j. record { breaks = e j; state = f j })

@@ -47,7 +47,7 @@ tokens_call_accepted s result old h =
     ((both_passed (text_tests text_limit (s ∷ [])) _ k.0).0, k.1)
 
 -- `result` is what is written for the text s, whose refusal n is tested first; `old` is the lent buffer
-module _ (s result old : List ℕ) (n : ℕ) (refusal-eq : n ≡ text_refusal text_limit s) where
+module _ (s result old : List ℕ) (n : ℕ) (refusal_eq : n ≡ text_refusal text_limit s) where
   abbrev is_short : Bool
   is_short = ltb (length old) (length result)
 
@@ -60,12 +60,12 @@ module _ (s result old : List ℕ) (n : ℕ) (refusal-eq : n ≡ text_refusal te
   -- the text is refused
   pub fill_refused : (n ≡ 0 → ⊥) → as_tokens (record { refusal = n; tokens = 0 }) old ≡ tokens_call s result old
   unfolding tokens_call
-  fill_refused z = refused_first text room refusal-eq _ _ z
+  fill_refused z = refused_first text room refusal_eq _ _ z
 
   -- the buffer is too short
   pub fill_short : n ≡ 0 → is_short ≡ true → as_tokens (record { refusal = 5; tokens = 0 }) old ≡ tokens_call s result old
   unfolding tokens_call
-  fill_short z t = rw (passed_first text room refusal-eq z, t)
+  fill_short z t = rw (passed_first text room refusal_eq z, t)
 
   -- the result is written
   pub fill_done : n ≡ 0 → is_short ≡ false → {k : ℕ} {new : List ℕ} → k ≡ length (tokens s) → new ≡ sets old 0 result
@@ -73,4 +73,4 @@ module _ (s result old : List ℕ) (n : ℕ) (refusal-eq : n ≡ text_refusal te
   unfolding tokens_call
   fill_done z f {k} {new} e d =
       let w : new ≡ overwrite result old = d ∙ sets_front old result (ltb-false _ _ f) in
-      rw (passed_first text room refusal-eq z, f) (λ j. record { refusal = 0; value = record { tokens = e j; buffer = w j } })
+      rw (passed_first text room refusal_eq z, f) (λ j. record { refusal = 0; value = record { tokens = e j; buffer = w j } })

@@ -143,7 +143,7 @@ unfolding text_tests
 words_in_order s ws st tb = refl
 
 -- ws are the words of the text s, whose refusal n is tested first; st and tb are the lent buffers
-module _ (s : List ℕ) (ws : List (List ℕ)) (st tb : List ℕ) (n : ℕ) (refusal-eq : n ≡ text_refusal text_limit s) where
+module _ (s : List ℕ) (ws : List (List ℕ)) (st tb : List ℕ) (n : ℕ) (refusal_eq : n ≡ text_refusal text_limit s) where
   abbrev is_short : Bool
   is_short = too_short ws st tb
 
@@ -156,12 +156,12 @@ module _ (s : List ℕ) (ws : List (List ℕ)) (st tb : List ℕ) (n : ℕ) (ref
   -- if the text is refused, the call answers its number
   pub text_refused : {r : WordCounts} → (n ≡ 0 → ⊥) → r ≡ refused_counts n → as_words r st tb ≡ words_call s ws st tb
   unfolding words_call
-  text_refused z e = rw e (refused_first text room refusal-eq _ _ z)
+  text_refused z e = rw e (refused_first text room refusal_eq _ _ z)
 
   -- if a buffer is too short, the call answers 5
   pub short_refused : n ≡ 0 → is_short ≡ true → {r : WordCounts} → r ≡ refused_counts 5 → as_words r st tb ≡ words_call s ws st tb
   unfolding words_call
-  short_refused z t q = rw (q, passed_first text room refusal-eq z, t)
+  short_refused z t q = rw (q, passed_first text room refusal_eq z, t)
 
   -- if both are long enough, the words are written to them and the call answers their counts
   pub all_written : n ≡ 0 → is_short ≡ false → length st < usize_max → length tb < usize_max
@@ -182,4 +182,4 @@ module _ (s : List ℕ) (ws : List (List ℕ)) (st tb : List ℕ) (n : ℕ) (ref
       ∙ sets_front tb (table_of 0 ws) (omega (arith, table_of_length 0 ws)) in
       let ea : p.at ≡ length (flatten ws) = ap (λ (k : Writer). k.at) all ∙ zero-add (length (store_by false ws)) ∙ eg in
       let ew : p.words ≡ length ws = ap (λ (k : Writer). k.words) all ∙ zero-add (length ws) in
-      rw (q, passed_first text room refusal-eq z, f) (λ j. record { refusal = 0; value = record { words = ew j; bytes = ea j; store = es j; table = et j } })
+      rw (q, passed_first text room refusal_eq z, f) (λ j. record { refusal = 0; value = record { words = ew j; bytes = ea j; store = es j; table = et j } })

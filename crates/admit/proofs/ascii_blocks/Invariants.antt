@@ -1,12 +1,9 @@
-use native.Mathlib.Omega.{arith}
-use mathlib.Core.Path.{◌≡◌, refl}
+use mathlib.Core.Path.{◌≡◌}
 use mathlib.Core.Bool.{true}
 use Prim.Native.Nat.{◌-◌, ◌≤◌}
 use lib.ListN.{length, take}
-use borrow.Author.Tests.{not-false}
 use Rattle.lists.specs.Bytes.{all}
 use Rattle.lists.specs.Classes.{ascii}
-use Rattle.admit.proofs.Utf8.{ascii_runs}
 use Rattle.admit.proofs.ascii_blocks.Given as goal
 
 abbrev pub invariant-loop-i : goal.invariant-loop-i

@@ -1,6 +1,5 @@
 use mathlib.Core.Path.{sym, ◌∙◌}
 use Rattle.admit.proofs.Utf8.{utf8_all}
-use borrow.Author.Rules.{rules}
 use Rattle.admit.proofs.is_utf8.Goals as goal
 
 pub returns-then-is_ascii : goal.returns-then-is_ascii

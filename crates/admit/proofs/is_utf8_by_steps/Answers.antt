@@ -1,11 +1,8 @@
 use native.Mathlib.Omega.{arith}
-use mathlib.Core.Path.{◌≡◌, refl, sym, ◌∙◌}
-use Prim.Native.Nat.{◌-◌}
-use lib.ListN.{length, drop, length-drop}
+use mathlib.Core.Path.{sym, ◌∙◌}
+use lib.ListN.{length-drop}
 use borrow.Author.Tests.{eq-eqb, ne_eqb}
-use Rattle.admit.specs.Utf8.{utf8}
 use Rattle.admit.proofs.Utf8.{utf8_end, utf8_on}
-use borrow.Author.Rules.{rules}
 use Rattle.admit.proofs.is_utf8_by_steps.Goals as goal
 
 pub returns-then-n-eq0 : goal.returns-then-n-eq0
@@ -18,10 +15,10 @@ returns-then-n-eq0 c =
 
 pub overflow_add-i : goal.overflow_add-i
 overflow_add-i c = omega (
-      arith,
-      c.step_len-n.ensures.bounded,
-      simp length-drop at (rw c.tail.ensures at c.step_len-n.ensures.bounded),
-    )
+  arith,
+  c.step_len-n.ensures.bounded,
+  simp length-drop at (rw c.tail.ensures at c.step_len-n.ensures.bounded),
+)
 
 pub loop-i-preserved : goal.loop-i-preserved
 loop-i-preserved c =

@@ -1,10 +1,7 @@
-use native.Mathlib.Omega.{arith}
-use mathlib.Core.Path.{◌≡◌, refl, sym, ◌∙◌}
+use mathlib.Core.Path.{◌≡◌}
 use Prim.Native.Nat.{◌-◌}
-use lib.ListN.{length, drop, length-drop}
-use borrow.Author.Tests.{eq-eqb, ne_eqb}
+use lib.ListN.{length, drop}
 use Rattle.admit.specs.Utf8.{utf8}
-use Rattle.admit.proofs.Utf8.{utf8_end, utf8_on}
 use Rattle.admit.proofs.is_utf8_by_steps.Given as goal
 
 abbrev pub invariant-loop-i : goal.invariant-loop-i

@@ -2,7 +2,6 @@ use native.Mathlib.Omega.{arith}
 use mathlib.Core.Path.{sym, ◌∙◌}
 use Rattle.admit.proofs.Utf8.{utf8_all}
 use Rattle.admit.proofs.Calls.{text_accepted}
-use borrow.Author.Rules.{rules}
 use Rattle.admit.proofs.refusal_of.Goals as goal
 
 pub returns-then-all_of : goal.returns-then-all_of

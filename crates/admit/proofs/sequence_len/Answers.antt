@@ -2,7 +2,6 @@ use native.Mathlib.Omega.{arith}
 use mathlib.Core.Path.{refl}
 use borrow.Author.Tests.{lt-ltb, le-ltb}
 use Rattle.admit.specs.Utf8.{sequence_len}
-use borrow.Author.Rules.{rules}
 use Rattle.admit.proofs.sequence_len.Goals as goal
 
 pub returns-then-a-lt128 : goal.returns-then-a-lt128

@@ -3,7 +3,6 @@ use borrow.Author.Tests.{ne_eqb}
 use Rattle.lists.specs.Classes.{ascii}
 use Rattle.lists.proofs.Scan.{span_all, span_le}
 use Rattle.admit.proofs.Utf8.{utf8_run, utf8_char}
-use borrow.Author.Rules.{rules}
 use Rattle.admit.proofs.step_len.Goals as goal
 
 pub returns-then-n-ne0 : goal.returns-then-n-ne0

@@ -2,7 +2,6 @@ use borrow.Author.Tests.{not-true, not-false}
 use mathlib.Core.Path.{ap, ◌∙◌}
 use Rattle.calls.specs.Walk.{refused_entry}
 use Rattle.calls.proofs.Answers.{entry_refused, entry_none, entry_there}
-use borrow.Author.Rules.{rules}
 use Rattle.calls.proofs.call_entry.Goals as goal
 
 pub returns-then-refusal-ne0 : goal.returns-then-refusal-ne0

@@ -3,7 +3,6 @@ use native.Mathlib.Omega.{arith}
 use Rattle.entries.specs.Find.{entry_named}
 use Rattle.calls.specs.Walk.{refused_entry}
 use Rattle.calls.proofs.Answers.{name_long, line_short, line_result}
-use borrow.Author.Rules.{rules}
 use Rattle.calls.proofs.call_name.Goals as goal
 
 pub returns-then-name-gt-NAME_LIMIT : goal.returns-then-name-gt-NAME_LIMIT

@@ -2,7 +2,6 @@ use mathlib.Core.Path.{sym, ap, ◌∙◌}
 use native.Mathlib.Omega.{arith}
 use Rattle.calls.specs.Walk.{refused_sheet}
 use Rattle.calls.proofs.Answers.{sheet_refused, sheet_long, sheet_short, sheet_result_lem}
-use borrow.Author.Rules.{rules}
 use Rattle.calls.proofs.call_sheet.Goals as goal
 
 pub returns-then-number-ne0 : goal.returns-then-number-ne0

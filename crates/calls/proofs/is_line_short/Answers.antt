@@ -2,7 +2,6 @@ use lib.ListN.{length}
 use Rattle.entries.specs.Find.{entry_named}
 use Rattle.calls.proofs.Lines.{wrote_line, line_words, measured_lines}
 use Rattle.calls.proofs.Room.{line_fits, room_suffices}
-use borrow.Author.Rules.{rules}
 use Rattle.calls.proofs.is_line_short.Goals as goal
 
 pub returns-then-name-room : goal.returns-then-name-room

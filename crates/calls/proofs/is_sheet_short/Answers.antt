@@ -3,7 +3,6 @@ use lib.ListN.{length}
 use Rattle.call_spec.specs.Sheet.{entries}
 use Rattle.calls.proofs.Lines.{wrote_lines, lines_words, measured_lines}
 use Rattle.calls.proofs.Room.{sheet_room, room_suffices}
-use borrow.Author.Rules.{rules}
 use Rattle.calls.proofs.is_sheet_short.Goals as goal
 
 pub returns-then-s-room : goal.returns-then-s-room

@@ -1,6 +1,5 @@
 use Rattle.entries.specs.Find.{entry_named}
 use Rattle.calls.proofs.Lines.{line_said}
-use borrow.Author.Rules.{rules}
 use Rattle.calls.proofs.say_line.Goals as goal
 
 pub returns : goal.returns

@@ -1,29 +1,23 @@
-use mathlib.Core.Path.{◌≡◌, refl, ap₂, ◌∙◌}
+use mathlib.Core.Path.{refl, ap₂}
 use mathlib.Core.List.{List}
-use Prim.Native.Nat.{◌-◌}
 use native.Mathlib.Omega.{arith}
-use lib.ListN.{length, drop}
 use Rattle.word_writer.specs.Writer.{writer}
-use Rattle.word_writer.specs.Words.{spaced_cursor}
 use Rattle.word_writer.specs.declared.Cursor.{Cursor}
-use Rattle.tokens.specs.Tokens.{tokens}
-use Rattle.tokens.proofs.Walks.{Left, left_all, left_none, left_next, left_on, left_past}
-use Rattle.call_spec.specs.Sheet.{SheetEntry, entries}
-use Rattle.entries.proofs.Loops.{entries_from, from_fresh, from_none, entry_next}
+use Rattle.tokens.proofs.Walks.{left_all, left_none, left_next, left_on, left_past}
+use Rattle.call_spec.specs.Sheet.{SheetEntry}
+use Rattle.entries.proofs.Loops.{from_fresh, from_none, entry_next}
 use Rattle.calls.specs.Walk.{lines_to}
 use Rattle.calls.proofs.Lines.{lines_on, lines_done}
-use borrow.Author.Rules.{rules}
 use Rattle.calls.proofs.say_sheet.Goals as goal
 
 pub loop-at-init : goal.loop-at-init
-loop-at-init c =
-    (
-      left_all,
-      refl,
-      refl,
-      ap₂ (λ (es : List SheetEntry) (p : Cursor). lines_to es (writer c.args.out.now c.args.table.now p))
-          (from_fresh c.args.s.now c.fresh-state.ensures) c.spaced-cursor.ensures,
-    )
+loop-at-init c = (
+  left_all,
+  refl,
+  refl,
+  ap₂ (λ (es : List SheetEntry) (p : Cursor). lines_to es (writer c.args.out.now c.args.table.now p))
+      (from_fresh c.args.s.now c.fresh-state.ensures) c.spaced-cursor.ensures,
+)
 
 pub returns-then-none_left : goal.returns-then-none_left
 returns-then-none_left c =

@@ -1,17 +1,13 @@
-use mathlib.Core.Path.{◌≡◌, refl, ap₂, ◌∙◌}
-use mathlib.Core.List.{List}
+use mathlib.Core.Path.{◌≡◌}
 use Prim.Native.Nat.{◌-◌}
-use native.Mathlib.Omega.{arith}
 use lib.ListN.{length, drop}
 use Rattle.word_writer.specs.Writer.{writer}
 use Rattle.word_writer.specs.Words.{spaced_cursor}
-use Rattle.word_writer.specs.declared.Cursor.{Cursor}
 use Rattle.tokens.specs.Tokens.{tokens}
-use Rattle.tokens.proofs.Walks.{Left, left_all, left_none, left_next, left_on, left_past}
-use Rattle.call_spec.specs.Sheet.{SheetEntry, entries}
-use Rattle.entries.proofs.Loops.{entries_from, from_fresh, from_none, entry_next}
+use Rattle.tokens.proofs.Walks.{Left}
+use Rattle.call_spec.specs.Sheet.{entries}
+use Rattle.entries.proofs.Loops.{entries_from}
 use Rattle.calls.specs.Walk.{lines_to}
-use Rattle.calls.proofs.Lines.{lines_on, lines_done}
 use Rattle.calls.proofs.say_sheet.Given as goal
 
 abbrev pub invariant-loop-at : goal.invariant-loop-at

@@ -1,5 +1,4 @@
 use Rattle.admit.proofs.Calls.{call_refused, call_accepted}
-use borrow.Author.Rules.{rules}
 use Rattle.clear.proofs.is_clear.Goals as goal
 
 pub returns-then-refusal-ne0 : goal.returns-then-refusal-ne0

@@ -1,13 +1,7 @@
-use Prim.Native.Nat.{◌-◌, ◌≤◌}
 use native.Mathlib.Omega.{arith}
-use mathlib.Core.Path.{◌≡◌, refl}
-use lib.ListN.{length, drop, get_or}
-use Rattle.tokens.specs.Tokens.{tokens}
-use Rattle.tokens.proofs.Walks.{Left, left_all, left_none, left_next, left_on, left_past}
-use Rattle.call_spec.specs.Sheet.{no_entry}
-use Rattle.call_spec.specs.Calls.{entry_at}
-use Rattle.entries.proofs.Loops.{entries_from, entry_from, entry_next, entry_later, found_here, found_none}
-use borrow.Author.Rules.{rules}
+use mathlib.Core.Path.{refl}
+use Rattle.tokens.proofs.Walks.{left_all, left_none, left_next, left_on, left_past}
+use Rattle.entries.proofs.Loops.{entry_from, entry_next, entry_later, found_here, found_none}
 use Rattle.entries.proofs.find_entry.Goals as goal
 
 pub loop-at-init : goal.loop-at-init

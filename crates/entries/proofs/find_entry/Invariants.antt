@@ -1,12 +1,11 @@
 use Prim.Native.Nat.{◌-◌, ◌≤◌}
-use native.Mathlib.Omega.{arith}
-use mathlib.Core.Path.{◌≡◌, refl}
+use mathlib.Core.Path.{◌≡◌}
 use lib.ListN.{length, drop, get_or}
 use Rattle.tokens.specs.Tokens.{tokens}
-use Rattle.tokens.proofs.Walks.{Left, left_all, left_none, left_next, left_on, left_past}
+use Rattle.tokens.proofs.Walks.{Left}
 use Rattle.call_spec.specs.Sheet.{no_entry}
 use Rattle.call_spec.specs.Calls.{entry_at}
-use Rattle.entries.proofs.Loops.{entries_from, entry_from, entry_next, entry_later, found_here, found_none}
+use Rattle.entries.proofs.Loops.{entries_from}
 use Rattle.entries.proofs.find_entry.Given as goal
 
 abbrev pub invariant-loop-at : goal.invariant-loop-at

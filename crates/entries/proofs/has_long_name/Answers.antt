@@ -1,18 +1,11 @@
-use Prim.Native.Nat.{◌-◌, ◌≤◌}
 use native.Mathlib.Omega.{arith}
-use lib.ListN.{length, drop}
-use borrow.Author.Tests.{not-true}
-use mathlib.Core.Path.{◌≡◌, sym}
-use Rattle.tokens.specs.Tokens.{tokens}
+use mathlib.Core.Path.{sym}
 use Rattle.tokens.proofs.Walks.{no_more, one_left, tokens_past}
-use Rattle.call_spec.specs.Sheet.{entries}
-use Rattle.call_spec.specs.Calls.{any_long}
-use Rattle.entries.proofs.Names.{long_names, long_names_lem, long_none, long_here, long_later}
-use borrow.Author.Rules.{rules}
+use Rattle.entries.proofs.Names.{long_names_lem, long_none, long_here, long_later}
 use Rattle.entries.proofs.has_long_name.Goals as goal
 
 pub returns-then-not-has_long_run : goal.returns-then-not-has_long_run
-returns-then-not-has_long_run c = sym (c.has_long_run.ensures (not-true _ c.if-not-has_long_run.true-raw))
+returns-then-not-has_long_run c = sym (c.has_long_run.ensures c.if-not-has_long_run.true)
 
 pub loop-at-init : goal.loop-at-init
 loop-at-init c = (omega arith, long_names_lem c.args.s.now)

@@ -1,13 +1,10 @@
 use Prim.Native.Nat.{◌-◌, ◌≤◌}
-use native.Mathlib.Omega.{arith}
 use lib.ListN.{length, drop}
-use borrow.Author.Tests.{not-true}
-use mathlib.Core.Path.{◌≡◌, sym}
+use mathlib.Core.Path.{◌≡◌}
 use Rattle.tokens.specs.Tokens.{tokens}
-use Rattle.tokens.proofs.Walks.{no_more, one_left, tokens_past}
 use Rattle.call_spec.specs.Sheet.{entries}
 use Rattle.call_spec.specs.Calls.{any_long}
-use Rattle.entries.proofs.Names.{long_names, long_names_lem, long_none, long_here, long_later}
+use Rattle.entries.proofs.Names.{long_names}
 use Rattle.entries.proofs.has_long_name.Given as goal
 
 abbrev pub invariant-loop-at : goal.invariant-loop-at

@@ -1,8 +1,5 @@
-use mathlib.Core.Bool.{false≢true}
-use Rattle.entries.proofs.Runs.{RunsFrom, ahead_within, long_runs_on, long_runs_end}
-use mathlib.Core.Path.{sym}
+use Rattle.entries.proofs.Runs.{RunsFrom}
 use Prim.Native.Nat.{◌-◌, ◌≤◌}
-use native.Mathlib.Omega.{arith}
 use lib.ListN.{length}
 use Rattle.entries.proofs.has_long_run.Given as goal
 

@@ -1,4 +1,3 @@
-use borrow.Author.Rules.{rules}
 use Rattle.entry_reader.proofs.place_of.Goals as goal
 
 pub returns-then-cursor : goal.returns-then-cursor

@@ -4,7 +4,6 @@ use Rattle.word_writer.specs.declared.Cursor.{Cursor}
 use Rattle.numerals.proofs.Said.{says_more}
 use Rattle.rows.specs.Rows.{read}
 use Rattle.entry_reader.specs.Percents.{per_cents}
-use borrow.Author.Rules.{rules}
 use Rattle.entry_reader.proofs.read_before_percents.Goals as goal
 
 pub returns : goal.returns

@@ -8,12 +8,11 @@ use borrow.Author.Rules.{rules}
 use Rattle.entry_reader.proofs.read_name.Goals as goal
 
 pub read_percent-row-requires : goal.read_percent-row-requires
-read_percent-row-requires c =
-    (
-      search rules,
-      ends_some (code "%") c.args.name.now
-          (sym c.is_percent.ensures ∙ c.if-is_percent.true),
-    )
+read_percent-row-requires c = (
+  search rules,
+  ends_some (code "%") c.args.name.now
+      (sym c.is_percent.ensures ∙ c.if-is_percent.true),
+)
 
 pub returns-then-is_percent : goal.returns-then-is_percent
 returns-then-is_percent c =

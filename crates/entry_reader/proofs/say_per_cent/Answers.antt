@@ -4,7 +4,6 @@ use Rattle.lists.specs.Bytes.{bytes}
 use Rattle.vocabulary.proofs.Laws.{unfold_vocabulary}
 use Rattle.numerals.specs.Words.{other, spell}
 use Rattle.numerals.proofs.Said.{said_word, says_more}
-use borrow.Author.Rules.{rules}
 use Rattle.entry_reader.proofs.say_per_cent.Goals as goal
 
 pub returns : goal.returns

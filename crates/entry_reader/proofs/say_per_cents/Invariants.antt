@@ -1,13 +1,8 @@
-use mathlib.Core.Path.{◌≡◌, refl, ◌∙◌}
-use Prim.Native.Nat.{◌-◌}
-use native.Mathlib.Omega.{arith}
+use mathlib.Core.Path.{◌≡◌}
 use lib.ListN.{length}
 use Rattle.word_writer.specs.Writer.{writer, put_words}
 use Rattle.numerals.specs.Words.{spelled}
-use Rattle.numerals.proofs.Said.{says_more}
-use Rattle.rows.specs.Rows.{per_cent}
 use Rattle.entry_reader.specs.Percents.{per_cents}
-use Rattle.entry_reader.proofs.Laws.{one_less, none_left}
 use Rattle.entry_reader.proofs.say_per_cents.Given as goal
 
 abbrev pub invariant-loop-left : goal.invariant-loop-left

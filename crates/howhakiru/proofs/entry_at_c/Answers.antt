@@ -1,4 +1,3 @@
-use borrow.Author.Rules.{rules}
 use Rattle.howhakiru.proofs.entry_at_c.Goals as goal
 
 pub returns : goal.returns

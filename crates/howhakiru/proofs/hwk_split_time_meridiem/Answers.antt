@@ -1,7 +1,6 @@
 use mathlib.Core.Path.{ap, ◌∙◌}
 use Rattle.howhakiru.specs.AtC.{time_at_c}
 use Rattle.howhakiru.proofs.Laws.{time_at_c_lem}
-use borrow.Author.Rules.{rules}
 use Rattle.howhakiru.proofs.hwk_split_time_meridiem.Goals as goal
 
 pub returns : goal.returns

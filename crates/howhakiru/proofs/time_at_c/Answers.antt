@@ -1,4 +1,3 @@
-use borrow.Author.Rules.{rules}
 use Rattle.howhakiru.proofs.time_at_c.Goals as goal
 
 pub returns-in_default : goal.returns-in_default

@@ -3,7 +3,6 @@ use native.Mathlib.Omega.{arith}
 use Rattle.lists.proofs.Scan.{span_le}
 use Rattle.lists.specs.Classes.{continuation}
 use Rattle.letters.proofs.LetterLaws.{first_char}
-use borrow.Author.Rules.{rules}
 use Rattle.letters.proofs.first_char.Goals as goal
 
 pub overflow_add-span_of : goal.overflow_add-span_of

@@ -1,6 +1,5 @@
 use native.Mathlib.Omega.{arith}
 use Rattle.letters.proofs.LetterLaws.{letter_a, letter_other, letter_whole}
-use borrow.Author.Rules.{rules}
 use Rattle.letters.proofs.say_letter.Goals as goal
 
 pub returns-then-c-ne1 : goal.returns-then-c-ne1

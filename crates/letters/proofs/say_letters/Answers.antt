@@ -1,13 +1,11 @@
 use mathlib.Core.List.{[], ◌∷◌}
-use Prim.Native.Nat.{◌-◌, ◌<◌}
+use Prim.Native.Nat.{◌<◌}
 use native.Mathlib.Omega.{arith}
 use lib.ListN.{length}
-use Rattle.word_writer.specs.Writer.{writer, put_words}
-use Rattle.word_writer.proofs.Walks.{Walk, walk_start, walk_on, walk_end}
-use Rattle.numerals.specs.Words.{spelled}
-use Rattle.letters.specs.Letters.{letters, letter_word}
+use Rattle.word_writer.specs.Writer.{put_words}
+use Rattle.word_writer.proofs.Walks.{walk_start, walk_on, walk_end}
+use Rattle.letters.specs.Letters.{letter_word}
 use Rattle.letters.proofs.LetterLaws.{char_more, letters_at, letters_none}
-use borrow.Author.Rules.{rules}
 use Rattle.letters.proofs.say_letters.Goals as goal
 
 pub loop-i-init : goal.loop-i-init

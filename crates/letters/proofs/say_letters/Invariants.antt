@@ -1,12 +1,9 @@
-use mathlib.Core.List.{[], ◌∷◌}
-use Prim.Native.Nat.{◌-◌, ◌<◌}
-use native.Mathlib.Omega.{arith}
+use Prim.Native.Nat.{◌-◌}
 use lib.ListN.{length}
-use Rattle.word_writer.specs.Writer.{writer, put_words}
-use Rattle.word_writer.proofs.Walks.{Walk, walk_start, walk_on, walk_end}
+use Rattle.word_writer.specs.Writer.{writer}
+use Rattle.word_writer.proofs.Walks.{Walk}
 use Rattle.numerals.specs.Words.{spelled}
-use Rattle.letters.specs.Letters.{letters, letter_word}
-use Rattle.letters.proofs.LetterLaws.{char_more, letters_at, letters_none}
+use Rattle.letters.specs.Letters.{letters}
 use Rattle.letters.proofs.say_letters.Given as goal
 
 abbrev pub invariant-loop-i : goal.invariant-loop-i

@@ -1,7 +1,6 @@
 use mathlib.Core.Path.{sym, ◌∙◌}
 use Rattle.admit.proofs.Calls.{call_refused, call_accepted, text_valid}
 use Rattle.admit.specs.Refusals.{text_limit}
-use borrow.Author.Rules.{rules}
 use Rattle.numbers.proofs.roman_value.Goals as goal
 
 pub returns-then-refusal-ne0 : goal.returns-then-refusal-ne0

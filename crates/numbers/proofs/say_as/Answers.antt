@@ -1,4 +1,3 @@
-use borrow.Author.Rules.{rules}
 use Rattle.numbers.proofs.say_as.Goals as goal
 
 pub returns-in-Cardinal : goal.returns-in-Cardinal

@@ -4,7 +4,6 @@ use Rattle.word_writer.proofs.Finish.{measured}
 use Rattle.numerals.specs.Words.{spelled}
 use Rattle.numbers.specs.Calls.{words_as}
 use Rattle.numbers.proofs.Bounds.{ample_room_fits}
-use borrow.Author.Rules.{rules}
 use Rattle.numbers.proofs.too_short.Goals as goal
 
 pub returns-then-has_ample_room : goal.returns-then-has_ample_room

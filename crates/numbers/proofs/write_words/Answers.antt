@@ -3,7 +3,6 @@ use native.Mathlib.Omega.{arith}
 use Rattle.word_writer.proofs.Finish.{text_refused, short_refused, all_written}
 use Rattle.numerals.specs.Words.{spelled}
 use Rattle.numbers.specs.Calls.{words_as}
-use borrow.Author.Rules.{rules}
 use Rattle.numbers.proofs.write_words.Goals as goal
 
 pub returns-then-refusal-ne0 : goal.returns-then-refusal-ne0

@@ -1,6 +1,5 @@
 use mathlib.Core.Path.{◌∙◌}
 use Rattle.admit.proofs.Calls.{call_refused, call_accepted}
-use borrow.Author.Rules.{rules}
 use Rattle.patterns.proofs.is_digits.Goals as goal
 
 pub returns-then-refusal-ne0 : goal.returns-then-refusal-ne0

@@ -1,7 +1,6 @@
 use mathlib.Core.Path.{sym}
 use Rattle.admit.proofs.Calls.{call_refused, call_accepted}
 use Rattle.patterns.proofs.Laws.{unit_none, unit_found_lem, unit_le}
-use borrow.Author.Rules.{rules}
 use Rattle.patterns.proofs.split_unit.Goals as goal
 
 pub returns-then-refusal-ne0 : goal.returns-then-refusal-ne0

@@ -1,6 +1,5 @@
 use borrow.Author.Tests.{lt-ltb, le-ltb}
 use Rattle.lists.proofs.Sets.{sets_front}
-use borrow.Author.Rules.{rules}
 use Rattle.patterns.proofs.store_word.Goals as goal
 
 pub returns-then-store-word : goal.returns-then-store-word

@@ -4,7 +4,6 @@ use Rattle.vocabulary.proofs.Laws.{word_packed}
 use Rattle.units.specs.Units.{unit_index}
 use Rattle.units.proofs.Laws.{unit_word_number}
 use Rattle.patterns.proofs.Laws.{word_refused, word_found, word_none}
-use borrow.Author.Rules.{rules}
 use Rattle.patterns.proofs.unit_word.Goals as goal
 
 pub returns-then-refusal-ne0 : goal.returns-then-refusal-ne0

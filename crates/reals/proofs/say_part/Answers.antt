@@ -1,6 +1,5 @@
 use native.Mathlib.Omega.{arith}
 use Rattle.reals.proofs.PartLaws.{part_minus, part_plus, part_last, part_e}
-use borrow.Author.Rules.{rules}
 use Rattle.reals.proofs.say_part.Goals as goal
 
 pub returns-then-starts_with : goal.returns-then-starts_with

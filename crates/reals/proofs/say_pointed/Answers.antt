@@ -1,6 +1,5 @@
 use native.Mathlib.Omega.{arith}
 use Rattle.reals.proofs.PartLaws.{pointed_whole, pointed_parts}
-use borrow.Author.Rules.{rules}
 use Rattle.reals.proofs.say_pointed.Goals as goal
 
 pub returns-then-s-at : goal.returns-then-s-at

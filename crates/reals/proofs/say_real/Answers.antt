@@ -1,12 +1,6 @@
-use Prim.Native.Nat.{◌-◌}
 use native.Mathlib.Omega.{arith}
-use lib.ListN.{length}
-use Rattle.word_writer.specs.Writer.{writer}
-use Rattle.word_writer.proofs.Walks.{Walk, walk_start, walk_on, walk_end}
-use Rattle.numerals.specs.Words.{spelled}
-use Rattle.reals.specs.Real.{real}
+use Rattle.word_writer.proofs.Walks.{walk_start, walk_on, walk_end}
 use Rattle.reals.proofs.RealLaws.{part_more, real_at, real_end}
-use borrow.Author.Rules.{rules}
 use Rattle.reals.proofs.say_real.Goals as goal
 
 pub loop-i-init : goal.loop-i-init

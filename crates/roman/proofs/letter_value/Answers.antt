@@ -3,7 +3,6 @@ use mathlib.Core.Logic.{⊎_elim}
 use Rattle.lists.specs.Bytes.{any}
 use Rattle.roman.specs.Roman.{roman_letter_value}
 use Rattle.roman.proofs.RomanLaws.{no_letter}
-use borrow.Author.Rules.{rules}
 use Rattle.roman.proofs.letter_value.Goals as goal
 
 pub returns-in-73 : goal.returns-in-73

@@ -1,8 +1,7 @@
 use mathlib.Core.Path.{◌≡◌, ◌∙◌}
 use Prim.Native.Nat.{◌-◌}
 use native.Mathlib.Omega.{arith}
-use Rattle.roman.proofs.RomanLaws.{Summed, summed_none, summed_more, summed_all, foreign}
-use borrow.Author.Rules.{rules}
+use Rattle.roman.proofs.RomanLaws.{summed_none, summed_more, summed_all, foreign}
 use Rattle.roman.proofs.roman_value.Goals as goal
 
 pub loop-i-init : goal.loop-i-init

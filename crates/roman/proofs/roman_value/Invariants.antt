@@ -1,7 +1,4 @@
-use mathlib.Core.Path.{◌≡◌, ◌∙◌}
-use Prim.Native.Nat.{◌-◌}
-use native.Mathlib.Omega.{arith}
-use Rattle.roman.proofs.RomanLaws.{Summed, summed_none, summed_more, summed_all, foreign}
+use Rattle.roman.proofs.RomanLaws.{Summed}
 use Rattle.roman.proofs.roman_value.Given as goal
 
 abbrev pub invariant-loop-i : goal.invariant-loop-i

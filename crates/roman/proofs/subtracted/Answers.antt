@@ -1,6 +1,5 @@
 use native.Mathlib.Omega.{arith}
 use borrow.Author.Tests.{lt-ltb, le-ltb}
-use borrow.Author.Rules.{rules}
 use Rattle.roman.proofs.subtracted.Goals as goal
 
 pub returns-then-v-most : goal.returns-then-v-most

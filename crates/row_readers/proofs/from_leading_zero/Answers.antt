@@ -8,7 +8,6 @@ use Rattle.rows.specs.Rows.{sign_of}
 use Rattle.rows.specs.declared.Row.TheVariants.{LeadingZero, Digits, Figure, Ordinal}
 use Rattle.row_readers.specs.Walk.{rows_after}
 use Rattle.row_readers.proofs.Laws.{says_row, says_same}
-use borrow.Author.Rules.{rules}
 use Rattle.row_readers.proofs.from_leading_zero.Goals as goal
 
 pub returns-then-is_leading_zero_digits : goal.returns-then-is_leading_zero_digits

@@ -5,7 +5,6 @@ use Rattle.numerals.proofs.Said.{says_more}
 use Rattle.rows.specs.declared.Row.TheVariants.{Meridiem}
 use Rattle.row_readers.specs.Walk.{rows_after}
 use Rattle.row_readers.proofs.Laws.{says_row, says_same, time_split_none, time_split_some, time_parts_at_lem}
-use borrow.Author.Rules.{rules}
 use Rattle.row_readers.proofs.from_meridiem.Goals as goal
 
 pub returns-in_default : goal.returns-in_default

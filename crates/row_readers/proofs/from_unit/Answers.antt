@@ -10,7 +10,6 @@ use Rattle.shapes.specs.Shapes.{unit_at, unit_part}
 use Rattle.row_readers.specs.Walk.{rows_after}
 use Rattle.rows.specs.declared.Row.TheVariants.{Unit, OneWord}
 use Rattle.row_readers.proofs.Laws.{says_row, unit_there, unit_missing, unit_word_lem}
-use borrow.Author.Rules.{rules}
 use Rattle.row_readers.proofs.from_unit.Goals as goal
 
 pub returns-then-unit-eq0 : goal.returns-then-unit-eq0

@@ -16,7 +16,6 @@ use Rattle.rows.proofs.Laws.{read_eq}
 use Rattle.rows.specs.declared.Row.TheVariants.{Empty, Dotted, CommaInt, Time}
 use Rattle.row_readers.specs.Walk.{rows_after}
 use Rattle.row_readers.proofs.Laws.{says_row, says_same, dotted_initials_lem}
-use borrow.Author.Rules.{rules}
 use Rattle.row_readers.proofs.read_by_row.Goals as goal
 
 pub returns-then-name-eq0 : goal.returns-then-name-eq0

@@ -6,7 +6,6 @@ use Rattle.numerals.specs.Cardinal.{cardinal}
 use Rattle.years.specs.Year.{year}
 use Rattle.numerals.proofs.Said.{says_more}
 use Rattle.rows.specs.Rows.{clock}
-use borrow.Author.Rules.{rules}
 use Rattle.row_readers.proofs.say_clock.Goals as goal
 
 pub returns-then-same : goal.returns-then-same

@@ -4,7 +4,6 @@ use Rattle.numerals.specs.Words.{other, spell, spelled}
 use Rattle.letters.specs.Letters.{letter_word}
 use Rattle.numerals.proofs.Said.{said_word}
 use Rattle.row_readers.proofs.Laws.{point_initial, letter_initial}
-use borrow.Author.Rules.{rules}
 use Rattle.row_readers.proofs.say_initial.Goals as goal
 
 pub returns-then-b-eq46 : goal.returns-then-b-eq46

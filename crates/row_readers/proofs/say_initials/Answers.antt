@@ -1,12 +1,6 @@
-use Prim.Native.Nat.{◌-◌}
 use native.Mathlib.Omega.{arith}
-use lib.ListN.{length}
-use Rattle.word_writer.specs.Writer.{writer}
-use Rattle.word_writer.proofs.Walks.{Walk, walk_start, walk_byte, walk_end}
-use Rattle.numerals.specs.Words.{spelled}
-use Rattle.row_readers.specs.Walk.{initials}
+use Rattle.word_writer.proofs.Walks.{walk_start, walk_byte, walk_end}
 use Rattle.row_readers.proofs.Laws.{initials_append, no_initials}
-use borrow.Author.Rules.{rules}
 use Rattle.row_readers.proofs.say_initials.Goals as goal
 
 pub loop-i-init : goal.loop-i-init

@@ -1,5 +1,4 @@
 use mathlib.Core.Path.{sym, ◌∙◌}
-use borrow.Author.Rules.{rules}
 use Rattle.row_readers.proofs.sign_of.Goals as goal
 
 pub returns-then-starts_with : goal.returns-then-starts_with

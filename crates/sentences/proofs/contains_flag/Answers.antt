@@ -1,7 +1,6 @@
 use mathlib.Core.Path.{sym, ap}
 use Rattle.lists.proofs.Parts.{elem_span}
 use Rattle.sentences.specs.Sentences.{flag}
-use borrow.Author.Rules.{rules}
 use Rattle.sentences.proofs.contains_flag.Goals as goal
 
 pub returns : goal.returns

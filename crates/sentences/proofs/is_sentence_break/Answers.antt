@@ -4,7 +4,6 @@ use Prim.Native.Char.{code}
 use Rattle.lists.specs.Bytes.{count_if}
 use Rattle.lists.specs.Classes.{only}
 use Rattle.sentences.specs.Sentences.{break_after}
-use borrow.Author.Rules.{rules}
 use Rattle.sentences.proofs.is_sentence_break.Goals as goal
 
 pub returns-then-count_of-gt1 : goal.returns-then-count_of-gt1

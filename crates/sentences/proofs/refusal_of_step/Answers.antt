@@ -1,6 +1,5 @@
 use mathlib.Core.Path.{◌∙◌}
 use Rattle.sentences.proofs.SmallerRefusal.{three_texts_refusal}
-use borrow.Author.Rules.{rules}
 use Rattle.sentences.proofs.refusal_of_step.Goals as goal
 
 pub returns : goal.returns

@@ -5,7 +5,6 @@ use borrow.Author.Tests.{ltb-false}
 use Rattle.tokens.proofs.Answers.{fill_refused, fill_short, fill_done}
 use Rattle.sentences.specs.Calls.{start_bytes}
 use Rattle.sentences.proofs.Marking.{starts_length}
-use borrow.Author.Rules.{rules}
 use Rattle.sentences.proofs.sentences.Goals as goal
 
 pub returns-then-refusal-ne0 : goal.returns-then-refusal-ne0

@@ -1,5 +1,4 @@
 use borrow.Author.Tests.{le-leb, lt-leb, eq-eqb, ne_eqb}
-use borrow.Author.Rules.{rules}
 use Rattle.sentences.proofs.smaller_refusal.Goals as goal
 
 pub returns-then-a-eq0 : goal.returns-then-a-eq0

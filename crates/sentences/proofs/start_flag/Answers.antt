@@ -1,5 +1,4 @@
 use mathlib.Core.Path.{◌∙◌}
-use borrow.Author.Rules.{rules}
 use Rattle.sentences.proofs.start_flag.Goals as goal
 
 pub returns : goal.returns

@@ -1,4 +1,3 @@
-use borrow.Author.Rules.{rules}
 use Rattle.sentences.proofs.starts_sentence.Goals as goal
 
 pub returns : goal.returns

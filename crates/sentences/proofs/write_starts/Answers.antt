@@ -1,12 +1,6 @@
-use mathlib.Core.Path.{◌≡◌, refl}
-use Prim.Native.Nat.{◌-◌}
+use mathlib.Core.Path.{refl}
 use native.Mathlib.Omega.{arith}
-use lib.ListN.{length, drop}
-use lib.Seq.{sets}
-use Rattle.tokens.specs.Tokens.{tokens}
-use Rattle.tokens.proofs.Walks.{Left, left_all, left_none, left_next, left_on, left_past}
-use Rattle.sentences.specs.Calls.{flags, start_bytes}
-use Rattle.sentences.proofs.Kept.{sentence_starts_from}
+use Rattle.tokens.proofs.Walks.{left_all, left_none, left_next, left_on, left_past}
 use Rattle.sentences.proofs.Marking.{starts_from_next, starts_step, starts_end, starts_whole}
 use borrow.Author.Rules.{rules}
 use Rattle.sentences.proofs.write_starts.Goals as goal

@@ -1,13 +1,11 @@
-use mathlib.Core.Path.{◌≡◌, refl}
+use mathlib.Core.Path.{◌≡◌}
 use Prim.Native.Nat.{◌-◌}
-use native.Mathlib.Omega.{arith}
 use lib.ListN.{length, drop}
 use lib.Seq.{sets}
 use Rattle.tokens.specs.Tokens.{tokens}
-use Rattle.tokens.proofs.Walks.{Left, left_all, left_none, left_next, left_on, left_past}
+use Rattle.tokens.proofs.Walks.{Left}
 use Rattle.sentences.specs.Calls.{flags, start_bytes}
 use Rattle.sentences.proofs.Kept.{sentence_starts_from}
-use Rattle.sentences.proofs.Marking.{starts_from_next, starts_step, starts_end, starts_whole}
 use Rattle.sentences.proofs.write_starts.Given as goal
 
 abbrev pub invariant-loop-at : goal.invariant-loop-at

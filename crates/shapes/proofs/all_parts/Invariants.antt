@@ -1,12 +1,8 @@
-use native.Mathlib.Omega.{arith}
-use mathlib.Core.Path.{◌≡◌, refl, sym, ◌∙◌}
+use mathlib.Core.Path.{◌≡◌}
 use Prim.Native.Nat.{◌-◌}
-use lib.ListN.{length, drop, length-drop}
-use lib.Seq.{drop-drop}
-use borrow.Author.Tests.{not-true, not-false}
+use lib.ListN.{length, drop}
 use Rattle.shapes.specs.Tests.{part_passes}
 use Rattle.lists.specs.Bytes.{split, all}
-use Rattle.lists.proofs.Parts.{parts_fail, parts_end, parts_more}
 use Rattle.shapes.proofs.all_parts.Given as goal
 
 abbrev pub invariant-loop-rest : goal.invariant-loop-rest

@@ -1,8 +1,7 @@
-use borrow.Author.Tests.{eq-eqb, ne_eqb, not-true, not-false}
+use borrow.Author.Tests.{eq-eqb, ne_eqb}
 use lib.ListN.{drop}
 use Rattle.shapes.specs.Shapes.{unit_at, has_unit}
 use Rattle.units.proofs.Laws.{unit_in_table}
-use borrow.Author.Rules.{rules}
 use Rattle.shapes.proofs.has_unit.Goals as goal
 
 pub returns-then-at-eq0 : goal.returns-then-at-eq0
@@ -17,7 +16,7 @@ returns-then-not-all_of c =
       ne_eqb _ _ c.if-at-eq0.false,
       ← c.front.ensures,
       ← c.all_of.ensures,
-      not-true c.all_of.result c.if-not-all_of.true-raw,
+      c.if-not-all_of.true,
     )
 
 pub returns : goal.returns
@@ -30,7 +29,7 @@ returns c =
       ne_eqb _ _ c.if-at-eq0.false,
       ← c.front.ensures,
       ← c.all_of.ensures,
-      not-false c.all_of.result c.if-not-all_of.false-raw,
+      c.if-not-all_of.false,
       ← c.tail.ensures,
       ← c.unit_index.ensures,
     )

@@ -1,6 +1,5 @@
 use mathlib.Core.Path.{sym}
 use Rattle.shapes.proofs.Laws.{comma_more, comma_none}
-use borrow.Author.Rules.{rules}
 use Rattle.shapes.proofs.is_comma_int.Goals as goal
 
 pub returns-then-s-n : goal.returns-then-s-n

@@ -1,5 +1,4 @@
 use Rattle.shapes.specs.Shapes.{is_digits}
-use borrow.Author.Rules.{rules}
 use Rattle.shapes.proofs.is_digits.Goals as goal
 
 pub returns : goal.returns

@@ -1,7 +1,6 @@
 use Rattle.shapes.specs.Shapes.{is_digits_dash_digits}
 use Rattle.lists.proofs.Parts.{elem_span}
 use Rattle.shapes.proofs.Laws.{dash_all}
-use borrow.Author.Rules.{rules}
 use Rattle.shapes.proofs.is_digits_dash_digits.Goals as goal
 
 pub returns : goal.returns

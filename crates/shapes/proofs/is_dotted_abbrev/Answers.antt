@@ -1,6 +1,5 @@
 use Rattle.shapes.specs.Shapes.{is_dotted_abbrev}
 use Rattle.lists.proofs.Parts.{split_two}
-use borrow.Author.Rules.{rules}
 use Rattle.shapes.proofs.is_dotted_abbrev.Goals as goal
 
 pub returns : goal.returns

@@ -1,5 +1,4 @@
 use Rattle.shapes.specs.Shapes.{is_exponent}
-use borrow.Author.Rules.{rules}
 use Rattle.shapes.proofs.is_exponent.Goals as goal
 
 pub returns-then-starts_with : goal.returns-then-starts_with

@@ -1,5 +1,4 @@
 use Rattle.shapes.specs.Shapes.{is_hour_minute}
-use borrow.Author.Rules.{rules}
 use Rattle.shapes.proofs.is_hour_minute.Goals as goal
 
 pub returns : goal.returns

@@ -1,6 +1,5 @@
 use mathlib.Core.Path.{sym}
 use Rattle.shapes.proofs.Laws.{phone_length}
-use borrow.Author.Rules.{rules}
 use Rattle.shapes.proofs.is_seven_digit_phone.Goals as goal
 
 pub returns-then-s-ne8 : goal.returns-then-s-ne8

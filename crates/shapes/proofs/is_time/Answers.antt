@@ -1,6 +1,5 @@
 use mathlib.Core.Path.{sym}
 use Rattle.shapes.proofs.Laws.{time_length}
-use borrow.Author.Rules.{rules}
 use Rattle.shapes.proofs.is_time.Goals as goal
 
 pub returns-then-s-gt5 : goal.returns-then-s-gt5

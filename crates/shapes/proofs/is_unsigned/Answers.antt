@@ -1,5 +1,4 @@
 use Rattle.shapes.specs.Shapes.{is_unsigned}
-use borrow.Author.Rules.{rules}
 use Rattle.shapes.proofs.is_unsigned.Goals as goal
 
 pub returns-then-starts_with : goal.returns-then-starts_with

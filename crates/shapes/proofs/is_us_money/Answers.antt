@@ -1,4 +1,3 @@
-use borrow.Author.Rules.{rules}
 use Rattle.shapes.proofs.is_us_money.Goals as goal
 
 pub returns : goal.returns

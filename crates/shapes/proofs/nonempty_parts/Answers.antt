@@ -1,11 +1,8 @@
 use native.Mathlib.Omega.{arith}
-use mathlib.Core.Path.{◌≡◌, sym, ◌∙◌}
-use Prim.Native.Nat.{◌-◌, ◌+◌, ◌≤◌}
-use lib.ListN.{length, drop, length-drop}
+use mathlib.Core.Path.{sym, ◌∙◌}
+use lib.ListN.{drop, length-drop}
 use lib.Seq.{drop-drop}
-use Rattle.lists.specs.Bytes.{split, non_empty}
 use Rattle.lists.proofs.Parts.{non_empty_more, non_empty_end}
-use borrow.Author.Rules.{rules}
 use Rattle.shapes.proofs.nonempty_parts.Goals as goal
 
 pub loop-c-init : goal.loop-c-init

@@ -1,10 +1,7 @@
-use native.Mathlib.Omega.{arith}
-use mathlib.Core.Path.{◌≡◌, sym, ◌∙◌}
+use mathlib.Core.Path.{◌≡◌}
 use Prim.Native.Nat.{◌-◌, ◌+◌, ◌≤◌}
-use lib.ListN.{length, drop, length-drop}
-use lib.Seq.{drop-drop}
+use lib.ListN.{length, drop}
 use Rattle.lists.specs.Bytes.{split, non_empty}
-use Rattle.lists.proofs.Parts.{non_empty_more, non_empty_end}
 use Rattle.shapes.proofs.nonempty_parts.Given as goal
 
 abbrev pub invariant-loop-c : goal.invariant-loop-c

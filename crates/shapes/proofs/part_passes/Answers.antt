@@ -3,7 +3,6 @@ use mathlib.Core.List.{[], ◌∷◌}
 use Rattle.lists.proofs.Table.{none_of}
 use lib.ListN.{get_or-eq_default}
 use Rattle.shapes.specs.Shapes.{is_n_digits, is_one_letter}
-use borrow.Author.Rules.{rules}
 use Rattle.shapes.proofs.part_passes.Goals as goal
 
 pub returns-in-0 : goal.returns-in-0

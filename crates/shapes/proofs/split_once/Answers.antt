@@ -1,6 +1,5 @@
 use borrow.Author.Tests.{lt-ltb, le-ltb}
 use Rattle.shapes.specs.Shapes.{split_once}
-use borrow.Author.Rules.{rules}
 use Rattle.shapes.proofs.split_once.Goals as goal
 
 pub returns-then-s-at : goal.returns-then-s-at

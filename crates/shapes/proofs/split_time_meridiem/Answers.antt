@@ -2,15 +2,14 @@ use native.Mathlib.Omega.{arith}
 use mathlib.Core.Path.{◌≡◌}
 use Prim.Native.Nat.{◌-◌, min}
 use lib.ListN.{length, length-take}
-use borrow.Author.Tests.{lt-ltb, le-ltb, not-true, not-false}
+use borrow.Author.Tests.{lt-ltb, le-ltb}
 use Rattle.shapes.specs.Times.{time_split}
 use Rattle.shapes.proofs.Times.{splits_time}
-use borrow.Author.Rules.{rules}
 use Rattle.shapes.proofs.split_time_meridiem.Goals as goal
 
 pub returns-then-not-ends_in_meridiem : goal.returns-then-not-ends_in_meridiem
 unfolding time_split
-returns-then-not-ends_in_meridiem c = splits_time _ _ (rw (← c.ends_in_meridiem.ensures, not-true c.ends_in_meridiem.result c.if-not-ends_in_meridiem.true-raw))
+returns-then-not-ends_in_meridiem c = splits_time _ _ (rw (← c.ends_in_meridiem.ensures, c.if-not-ends_in_meridiem.true))
 
 pub returns-then-time-sep : goal.returns-then-time-sep
 unfolding time_split
@@ -18,7 +17,7 @@ returns-then-time-sep c =
     splits_time _ _
     (rw (
       ← c.ends_in_meridiem.ensures,
-      not-false c.ends_in_meridiem.result c.if-not-ends_in_meridiem.false-raw,
+      c.if-not-ends_in_meridiem.false,
       ← c.without_back-time.ensures,
       ← c.span_of-sep.ensures,
       le-ltb _ _ c.if-time-sep.true,
@@ -31,7 +30,7 @@ returns-then-is_hour_minute c =
     splits_time _ _
     (rw (
       ← c.ends_in_meridiem.ensures,
-      not-false c.ends_in_meridiem.result c.if-not-ends_in_meridiem.false-raw,
+      c.if-not-ends_in_meridiem.false,
       ← c.without_back-time.ensures,
       ← c.span_of-sep.ensures,
       lt-ltb _ _ c.if-time-sep.false,
@@ -50,7 +49,7 @@ returns c =
     splits_time _ _
     (rw (
       ← c.ends_in_meridiem.ensures,
-      not-false c.ends_in_meridiem.result c.if-not-ends_in_meridiem.false-raw,
+      c.if-not-ends_in_meridiem.false,
       ← c.without_back-time.ensures,
       ← c.span_of-sep.ensures,
       lt-ltb _ _ c.if-time-sep.false,

@@ -1,4 +1,3 @@
-use borrow.Author.Rules.{rules}
 use Rattle.shapes.proofs.split_unit.Goals as goal
 
 pub returns-then-has_unit : goal.returns-then-has_unit

@@ -1,4 +1,3 @@
-use borrow.Author.Rules.{rules}
 use Rattle.shapes.proofs.strip_sign.Goals as goal
 
 pub returns-then-starts_with : goal.returns-then-starts_with

@@ -1,11 +1,7 @@
-use mathlib.Core.Path.{◌≡◌, sym, ◌∙◌}
-use Prim.Native.Nat.{◌+◌, ◌-◌, ◌≤◌}
+use mathlib.Core.Path.{sym, ◌∙◌}
 use native.Mathlib.Nat.{zero-add}
 use native.Mathlib.Omega.{arith}
-use lib.ListN.{length, drop}
-use Rattle.tokens.specs.Tokens.{tokens}
-use Rattle.tokens.proofs.Count.{run_starts, runs_tokens, runs_on, runs_end}
-use borrow.Author.Rules.{rules}
+use Rattle.tokens.proofs.Count.{runs_tokens, runs_on, runs_end}
 use Rattle.tokens.proofs.count_tokens.Goals as goal
 
 pub loop-i-init : goal.loop-i-init

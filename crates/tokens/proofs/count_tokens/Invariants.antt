@@ -1,10 +1,8 @@
-use mathlib.Core.Path.{◌≡◌, sym, ◌∙◌}
+use mathlib.Core.Path.{◌≡◌}
 use Prim.Native.Nat.{◌+◌, ◌-◌, ◌≤◌}
-use native.Mathlib.Nat.{zero-add}
-use native.Mathlib.Omega.{arith}
 use lib.ListN.{length, drop}
 use Rattle.tokens.specs.Tokens.{tokens}
-use Rattle.tokens.proofs.Count.{run_starts, runs_tokens, runs_on, runs_end}
+use Rattle.tokens.proofs.Count.{run_starts}
 use Rattle.tokens.proofs.count_tokens.Given as goal
 
 abbrev pub invariant-loop-i : goal.invariant-loop-i

@@ -4,7 +4,6 @@ use Rattle.lists.specs.Bytes.{span}
 use Rattle.lists.specs.Classes.{prepunctuation_mark}
 use Rattle.lists.proofs.Scan.{span_le}
 use Rattle.tokens.proofs.Cutting.{cut_marks, cut_named}
-use borrow.Author.Rules.{rules}
 use Rattle.tokens.proofs.cut_run.Goals as goal
 
 pub returns-then-ends : goal.returns-then-ends

@@ -4,7 +4,6 @@ use lib.ListN.{length}
 use borrow.Author.Tests.{le-ltb}
 use Rattle.tokens.specs.Tokens.{tokens}
 use Rattle.tokens.proofs.Count.{tokens_bound}
-use borrow.Author.Rules.{rules}
 use Rattle.tokens.proofs.has_more_tokens.Goals as goal
 
 pub returns-then-s-n : goal.returns-then-s-n

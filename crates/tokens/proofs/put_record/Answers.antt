@@ -1,6 +1,5 @@
 use mathlib.Core.Path.{◌∙◌}
 use Rattle.tokens.proofs.Records.{four_pairs}
-use borrow.Author.Rules.{rules}
 use Rattle.tokens.proofs.put_record.Goals as goal
 
 pub returns : goal.returns

@@ -1,7 +1,6 @@
 use mathlib.Core.Path.{refl}
 use native.Mathlib.Omega.{arith}
 use Rattle.tokens.proofs.Cutting.{run_within, run_marks, run_fits, first_places}
-use borrow.Author.Rules.{rules}
 use Rattle.tokens.proofs.token_at.Goals as goal
 
 pub overflow_add-start : goal.overflow_add-start

@@ -6,7 +6,6 @@ use Rattle.tokens.specs.Tokens.{tokens}
 use Rattle.tokens.specs.Table.{records}
 use Rattle.tokens.proofs.Records.{records_length}
 use Rattle.tokens.proofs.Answers.{records_short, fill_refused, fill_short, fill_done}
-use borrow.Author.Rules.{rules}
 use Rattle.tokens.proofs.tokenize.Goals as goal
 
 pub returns-then-refusal-ne0 : goal.returns-then-refusal-ne0

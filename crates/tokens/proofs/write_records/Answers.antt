@@ -1,12 +1,7 @@
-use mathlib.Core.Path.{◌≡◌, refl}
-use Prim.Native.Nat.{◌-◌, ◌*◌}
+use mathlib.Core.Path.{refl}
 use native.Mathlib.Omega.{arith}
-use lib.ListN.{length, drop}
-use lib.Seq.{sets}
-use Rattle.tokens.specs.Tokens.{tokens}
-use Rattle.tokens.specs.Table.{records, record_size}
 use Rattle.tokens.proofs.Records.{records_step, records_end}
-use Rattle.tokens.proofs.Walks.{Left, left_all, left_none, left_next, left_on, left_past}
+use Rattle.tokens.proofs.Walks.{left_all, left_none, left_next, left_on, left_past}
 use borrow.Author.Rules.{rules}
 use Rattle.tokens.proofs.write_records.Goals as goal
 

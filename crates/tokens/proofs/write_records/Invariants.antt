@@ -1,12 +1,10 @@
-use mathlib.Core.Path.{◌≡◌, refl}
+use mathlib.Core.Path.{◌≡◌}
 use Prim.Native.Nat.{◌-◌, ◌*◌}
-use native.Mathlib.Omega.{arith}
 use lib.ListN.{length, drop}
 use lib.Seq.{sets}
 use Rattle.tokens.specs.Tokens.{tokens}
 use Rattle.tokens.specs.Table.{records, record_size}
-use Rattle.tokens.proofs.Records.{records_step, records_end}
-use Rattle.tokens.proofs.Walks.{Left, left_all, left_none, left_next, left_on, left_past}
+use Rattle.tokens.proofs.Walks.{Left}
 use Rattle.tokens.proofs.write_records.Given as goal
 
 abbrev pub invariant-loop-at : goal.invariant-loop-at

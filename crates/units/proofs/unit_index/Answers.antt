@@ -1,11 +1,7 @@
 use native.Mathlib.Omega.{arith}
 use mathlib.Core.Path.{◌≡◌, sym, ◌∙◌}
-use Prim.Native.Nat.{◌-◌, ◌+◌, ◌≤◌}
-use lib.ListN.{drop}
 use borrow.Author.Tests.{eq-eqb, ne_eqb}
-use Rattle.units.specs.Units.{unit_index, abbreviations, index_of}
 use Rattle.units.proofs.Laws.{index_more, index_end}
-use borrow.Author.Rules.{rules}
 use Rattle.units.proofs.unit_index.Goals as goal
 
 pub loop-k-init : goal.loop-k-init

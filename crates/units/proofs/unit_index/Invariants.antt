@@ -1,10 +1,7 @@
-use native.Mathlib.Omega.{arith}
-use mathlib.Core.Path.{◌≡◌, sym, ◌∙◌}
+use mathlib.Core.Path.{◌≡◌}
 use Prim.Native.Nat.{◌-◌, ◌+◌, ◌≤◌}
 use lib.ListN.{drop}
-use borrow.Author.Tests.{eq-eqb, ne_eqb}
 use Rattle.units.specs.Units.{unit_index, abbreviations, index_of}
-use Rattle.units.proofs.Laws.{index_more, index_end}
 use Rattle.units.proofs.unit_index.Given as goal
 
 abbrev pub invariant-loop-k : goal.invariant-loop-k

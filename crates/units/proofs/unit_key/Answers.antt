@@ -1,6 +1,5 @@
 use native.Mathlib.Omega.{arith}
 use Rattle.units.proofs.Laws.{key_short, key_long}
-use borrow.Author.Rules.{rules}
 use Rattle.units.proofs.unit_key.Goals as goal
 
 pub returns-then-u-gt3 : goal.returns-then-u-gt3

@@ -2,7 +2,6 @@
 use mathlib.Core.Path.{refl}
 use Rattle.lists.specs.LittleEndian.{le_value}
 use Rattle.units.specs.Units.{unit_abbreviations, abbreviations, unit_keys, unit_key}
-use borrow.Author.Rules.{rules}
 use Rattle.units.proofs.unit_keys.Goals as goal
 
 pub returns : goal.returns

@@ -1,6 +1,5 @@
 use Rattle.units.specs.Units.{unit_abbreviations, unit_words, index_of, word_numbers}
 use Rattle.vocabulary.proofs.Laws.{unfold_vocabulary}
-use borrow.Author.Rules.{rules}
 use Rattle.units.proofs.word_number.Goals as goal
 
 pub returns : goal.returns

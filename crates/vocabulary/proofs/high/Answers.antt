@@ -1,6 +1,5 @@
 use Rattle.lists.proofs.Table.{none_of}
 use Rattle.vocabulary.proofs.Laws.{unfold_vocabulary, no_word}
-use borrow.Author.Rules.{rules}
 use Rattle.vocabulary.proofs.high.Goals as goal
 
 pub returns-in-0 : goal.returns-in-0

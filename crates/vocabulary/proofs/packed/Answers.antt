@@ -1,6 +1,5 @@
 use Rattle.lists.specs.LittleEndian.{le_bytes}
 use Rattle.vocabulary.proofs.Laws.{packed_halves}
-use borrow.Author.Rules.{rules}
 use Rattle.vocabulary.proofs.packed.Goals as goal
 
 pub returns : goal.returns

@@ -1,5 +1,4 @@
 use Rattle.vocabulary.proofs.Laws.{high_size}
-use borrow.Author.Rules.{rules}
 use Rattle.vocabulary.proofs.word_len.Goals as goal
 
 pub returns : goal.returns

@@ -1,4 +1,3 @@
-use borrow.Author.Rules.{rules}
 use Rattle.word_writer.proofs.after_gap.Goals as goal
 
 pub returns-then-cursor : goal.returns-then-cursor

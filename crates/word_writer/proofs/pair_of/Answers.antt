@@ -1,7 +1,6 @@
 use mathlib.Core.Path.{refl}
 use Rattle.word_writer.specs.Writer.{pair_of}
 use Rattle.lists.specs.LittleEndian.{le_bytes}
-use borrow.Author.Rules.{rules}
 use Rattle.word_writer.proofs.pair_of.Goals as goal
 
 pub returns : goal.returns

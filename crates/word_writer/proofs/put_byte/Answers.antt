@@ -1,5 +1,4 @@
 use Rattle.word_writer.specs.Writer.{put_byte}
-use borrow.Author.Rules.{rules}
 use Rattle.word_writer.proofs.put_byte.Goals as goal
 
 pub returns : goal.returns

@@ -3,7 +3,6 @@ use Prim.Native.Nat.{◌*◌}
 use native.Mathlib.Omega.{arith}
 use Rattle.word_writer.specs.Writer.{pair_of, pair_size}
 use Rattle.lists.proofs.Sets.{sets_out}
-use borrow.Author.Rules.{rules}
 use Rattle.word_writer.proofs.put_pair.Goals as goal
 
 pub returns-else-words-lt1152921504606846976 : goal.returns-else-words-lt1152921504606846976

@@ -3,7 +3,6 @@ use native.Mathlib.Omega.{arith}
 use Rattle.word_writer.specs.Writer.{pair_of}
 use Rattle.lists.specs.LittleEndian.{le_bytes}
 use Rattle.lists.proofs.Sets.{sets_out}
-use borrow.Author.Rules.{rules}
 use Rattle.word_writer.proofs.put_pair_at.Goals as goal
 
 pub returns-then-table-place : goal.returns-then-table-place

@@ -1,5 +1,4 @@
 use Rattle.word_writer.specs.Writer.{put_word}
-use borrow.Author.Rules.{rules}
 use Rattle.word_writer.proofs.put_word.Goals as goal
 
 pub returns : goal.returns

@@ -1,7 +1,6 @@
 use Rattle.lists.specs.Bytes.{to_lower}
 use Rattle.lists.proofs.Sets.{map_length}
 use Rattle.word_writer.specs.Writer.{put_word}
-use borrow.Author.Rules.{rules}
 use Rattle.word_writer.proofs.put_word_lowered.Goals as goal
 
 pub returns : goal.returns

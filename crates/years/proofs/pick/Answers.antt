@@ -1,7 +1,6 @@
 use mathlib.Core.Path.{ap, ◌∙◌}
 use Rattle.years.proofs.YearLaws.{picked_some, picked_none}
 use Rattle.numerals.specs.Cardinal.{digit_value}
-use borrow.Author.Rules.{rules}
 use Rattle.years.proofs.pick.Goals as goal
 
 pub returns-then-i-s : goal.returns-then-i-s

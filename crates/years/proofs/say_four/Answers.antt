@@ -11,7 +11,6 @@ use Rattle.numerals.proofs.NumberWords.{digit_at}
 use Rattle.numerals.proofs.Said.{said_hundred, says_more}
 use Rattle.years.proofs.YearLaws.{year_four}
 use lib.Seq.{length-take-le}
-use borrow.Author.Rules.{rules}
 use Rattle.years.proofs.say_four.Goals as goal
 
 pub returns-then-b-c : goal.returns-then-b-c

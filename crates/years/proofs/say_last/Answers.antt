@@ -1,6 +1,5 @@
 use Rattle.years.proofs.YearLaws.{year_short, as_two, as_three}
 use Rattle.numerals.proofs.NumberWords.{digit_at}
-use borrow.Author.Rules.{rules}
 use Rattle.years.proofs.say_last.Goals as goal
 
 pub returns-then-n-le1 : goal.returns-then-n-le1

@@ -1,6 +1,5 @@
 use Rattle.numerals.proofs.Said.{said_digit}
 use Rattle.years.proofs.YearLaws.{picked_small, picked_two}
-use borrow.Author.Rules.{rules}
 use Rattle.years.proofs.say_lead.Goals as goal
 
 pub returns-then-lone : goal.returns-then-lone

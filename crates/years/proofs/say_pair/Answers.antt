@@ -1,7 +1,6 @@
 use mathlib.Core.Path.{refl}
 use mathlib.Core.List.{[], ◌∷◌}
 use Rattle.numerals.proofs.Cardinal.{cardinal_2}
-use borrow.Author.Rules.{rules}
 use Rattle.years.proofs.say_pair.Goals as goal
 
 pub returns : goal.returns

@@ -4,7 +4,6 @@ use Rattle.numerals.specs.Words.{one, hundred}
 use Rattle.years.specs.Year.{year_of}
 use Rattle.numerals.proofs.Said.{said_digit, said_hundred, says_more}
 use Rattle.years.proofs.YearLaws.{year_three}
-use borrow.Author.Rules.{rules}
 use Rattle.years.proofs.say_three.Goals as goal
 
 pub returns-then-a-b : goal.returns-then-a-b

@@ -6,7 +6,6 @@ use Rattle.numerals.specs.Words.{one, other, spell}
 use Rattle.lists.specs.Bytes.{bytes}
 use Rattle.numerals.proofs.Said.{said_word, said_digit, says_more}
 use Rattle.years.proofs.YearLaws.{year_two, oh_word_lem}
-use borrow.Author.Rules.{rules}
 use Rattle.years.proofs.say_two.Goals as goal
 
 pub returns-then-a-ne0 : goal.returns-then-a-ne0

@@ -1,13 +1,8 @@
-use mathlib.Core.Path.{◌≡◌, sym, ap, ◌∙◌}
+use mathlib.Core.Path.{sym, ap, ◌∙◌}
 use native.Mathlib.Omega.{arith}
-use lib.ListN.{length, drop, length-drop}
-use Rattle.word_writer.specs.Writer.{writer}
-use Rattle.word_writer.proofs.Walks.{Walk, walk_start, walk_on}
-use Rattle.numerals.specs.Words.{spelled}
-use Rattle.numerals.specs.Cardinal.{digit_values}
-use Rattle.years.specs.Year.{year}
+use lib.ListN.{length, length-drop}
+use Rattle.word_writer.proofs.Walks.{walk_start, walk_on}
 use Rattle.years.proofs.YearLaws.{digit_values_count, left_after, year_at, year_last}
-use borrow.Author.Rules.{rules}
 use Rattle.years.proofs.say_year.Goals as goal
 
 pub loop-left-init : goal.loop-left-init

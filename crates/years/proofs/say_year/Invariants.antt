@@ -1,12 +1,10 @@
-use mathlib.Core.Path.{◌≡◌, sym, ap, ◌∙◌}
-use native.Mathlib.Omega.{arith}
-use lib.ListN.{length, drop, length-drop}
+use mathlib.Core.Path.{◌≡◌}
+use lib.ListN.{length, drop}
 use Rattle.word_writer.specs.Writer.{writer}
-use Rattle.word_writer.proofs.Walks.{Walk, walk_start, walk_on}
+use Rattle.word_writer.proofs.Walks.{Walk}
 use Rattle.numerals.specs.Words.{spelled}
 use Rattle.numerals.specs.Cardinal.{digit_values}
 use Rattle.years.specs.Year.{year}
-use Rattle.years.proofs.YearLaws.{digit_values_count, left_after, year_at, year_last}
 use Rattle.years.proofs.say_year.Given as goal
 
 abbrev pub invariant-loop-left : goal.invariant-loop-left

@@ -1,5 +1,4 @@
 use Rattle.clear.specs.Test.{is_clear}
-use borrow.Author.Rules.{rules}
 use Rattle.clear.proofs.tests.is_clear_name.Goals as goal
 
 pub returns : goal.returns

@@ -1,5 +1,4 @@
 use Rattle.clear.specs.Test.{is_exponent_clear}
-use borrow.Author.Rules.{rules}
 use Rattle.clear.proofs.tests.is_exponent_clear.Goals as goal
 
 pub returns-then-starts_with : goal.returns-then-starts_with

@@ -1,5 +1,4 @@
 use Rattle.clear.specs.Test.{is_figure_clear}
-use borrow.Author.Rules.{rules}
 use Rattle.clear.proofs.tests.is_figure_clear.Goals as goal
 
 pub returns : goal.returns

@@ -1,5 +1,4 @@
 use Rattle.clear.proofs.Lookups.{first_zero, first_at}
-use borrow.Author.Rules.{rules}
 use Rattle.clear.proofs.tests.is_first_at.Goals as goal
 
 pub returns-then-k-eq0 : goal.returns-then-k-eq0

@@ -1,4 +1,3 @@
-use borrow.Author.Rules.{rules}
 use Rattle.clear.proofs.tests.is_plain_time.Goals as goal
 
 pub returns : goal.returns

@@ -1,5 +1,4 @@
 use Rattle.clear.specs.Clear.{suffix}
-use borrow.Author.Rules.{rules}
 use Rattle.clear.proofs.tests.is_suffix.Goals as goal
 
 pub returns-then-n-byte_at : goal.returns-then-n-byte_at

@@ -1,5 +1,4 @@
 use borrow.Author.Tests.{eq-eqb, ne_eqb}
-use borrow.Author.Rules.{rules}
 use Rattle.clear.proofs.tests.is_suffix_for.Goals as goal
 
 pub returns-then-b-eq49 : goal.returns-then-b-eq49

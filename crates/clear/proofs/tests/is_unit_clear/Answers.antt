@@ -2,7 +2,6 @@ use lib.ListN.{drop}
 use Rattle.units.specs.Units.{abbreviations}
 use Rattle.units.proofs.Laws.{listed_index_of}
 use Rattle.shapes.specs.Shapes.{unit_at}
-use borrow.Author.Rules.{rules}
 use Rattle.clear.proofs.tests.is_unit_clear.Goals as goal
 
 pub returns : goal.returns

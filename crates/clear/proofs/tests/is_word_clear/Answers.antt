@@ -1,4 +1,3 @@
-use borrow.Author.Rules.{rules}
 use Rattle.clear.proofs.tests.is_word_clear.Goals as goal
 
 pub returns-then-s-all_letters : goal.returns-then-s-all_letters

@@ -1,7 +1,6 @@
 use mathlib.Core.Path.{sym}
 use Rattle.lists.proofs.Scan.{same_long}
 use Rattle.vocabulary.proofs.Laws.{word_packed}
-use borrow.Author.Rules.{rules}
 use Rattle.clear.proofs.tests.is_word_number.Goals as goal
 
 pub returns-then-word_len-s : goal.returns-then-word_len-s

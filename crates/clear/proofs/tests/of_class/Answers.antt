@@ -1,4 +1,3 @@
-use borrow.Author.Rules.{rules}
 use Rattle.clear.proofs.tests.of_class.Goals as goal
 
 pub returns-in-true : goal.returns-in-true

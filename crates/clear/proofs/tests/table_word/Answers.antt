@@ -1,7 +1,6 @@
 use native.Mathlib.Omega.{arith}
 use borrow.Author.Tests.{lt-ltb, le-ltb}
 use Rattle.clear.proofs.Lookups.{table_word}
-use borrow.Author.Rules.{rules}
 use Rattle.clear.proofs.tests.table_word.Goals as goal
 
 pub returns-then-i-lt30 : goal.returns-then-i-lt30

@@ -1,13 +1,11 @@
 use mathlib.Core.Path.{refl}
-use Prim.Native.Nat.{◌-◌, zero-le}
+use Prim.Native.Nat.{zero-le}
 use native.Mathlib.Omega.{arith}
-use lib.ListN.{length}
-use mathlib.Core.Logic.{⊎_elim}
 use Rattle.lists.specs.Bytes.{filter_if}
 use Rattle.numerals.specs.Cardinal.{digit_values}
 use Rattle.numerals.specs.Walk.{padded}
 use Rattle.numerals.proofs.Digits.{digit_values_low, digit_values_high}
-use Rattle.numerals.proofs.Picking.{PickedDigits, pick_none, pick_digit, pick_beyond, pick_end}
+use Rattle.numerals.proofs.Picking.{pick_none, pick_digit, pick_beyond, pick_end}
 use borrow.Author.Rules.{rules}
 use Rattle.numerals.proofs.digit_values.first_digits.Goals as goal
 use Rattle.numerals.proofs.digit_values.first_digits.Goals.{then-b-ge48+then-b-le57+else-count-eq-MAX_CARDINAL_DIGITS, then-b-ge48+else-b-le57, else-b-ge48}
@@ -55,15 +53,15 @@ loop-i-preserved c =
     let l = c.loop-i in
     let s = c.args.s.now in
     elim c.if-b-ge48.branch [
-      then-b-ge48+then-b-le57+else-count-eq-MAX_CARDINAL_DIGITS w ↦
-        rw (w.values-is, w.count-is)
-        (pick_digit s l.values l.count l.i (omega arith) l.invariant w.if-b-ge48.true w.if-b-le57.true (omega arith))
-    | then-b-ge48+else-b-le57 w ↦
-        rw (w.values-is, w.count-is)
-        (pick_none s l.values l.count l.i (omega arith) l.invariant (digit_values_high _ w.if-b-ge48.true w.if-b-le57.false))
-    | else-b-ge48 w ↦
-        rw (w.values-is, w.count-is)
-        (pick_none s l.values l.count l.i (omega arith) l.invariant (digit_values_low _ w.if-b-ge48.false))
+      | then-b-ge48+then-b-le57+else-count-eq-MAX_CARDINAL_DIGITS w ↦
+          rw (w.values-is, w.count-is)
+          (pick_digit s l.values l.count l.i (omega arith) l.invariant w.if-b-ge48.true w.if-b-le57.true (omega arith))
+      | then-b-ge48+else-b-le57 w ↦
+          rw (w.values-is, w.count-is)
+          (pick_none s l.values l.count l.i (omega arith) l.invariant (digit_values_high _ w.if-b-ge48.true w.if-b-le57.false))
+      | else-b-ge48 w ↦
+          rw (w.values-is, w.count-is)
+          (pick_none s l.values l.count l.i (omega arith) l.invariant (digit_values_low _ w.if-b-ge48.false))
     ]
 
 pub returns : goal.returns

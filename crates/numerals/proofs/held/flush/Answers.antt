@@ -1,6 +1,5 @@
 use borrow.Author.Tests.{eq-eqb, ne_eqb}
 use Rattle.numerals.specs.Walk.{flushed}
-use borrow.Author.Rules.{rules}
 use Rattle.numerals.proofs.held.flush.Goals as goal
 
 pub returns-then-h-eq-NONE : goal.returns-then-h-eq-NONE

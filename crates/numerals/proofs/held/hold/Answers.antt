@@ -1,5 +1,4 @@
 use Rattle.numerals.specs.Walk.{hold_word}
-use borrow.Author.Rules.{rules}
 use Rattle.numerals.proofs.held.hold.Goals as goal
 
 pub returns : goal.returns

@@ -1,6 +1,5 @@
 use borrow.Author.Tests.{eq-eqb, ne_eqb}
 use Rattle.numerals.specs.Walk.{number_of, hold_words}
-use borrow.Author.Rules.{rules}
 use Rattle.numerals.proofs.held.hold_hundreds.Goals as goal
 
 pub returns-then-d-eq0 : goal.returns-then-d-eq0

@@ -1,7 +1,6 @@
 use borrow.Author.Tests.{eq-eqb, ne_eqb}
 use Rattle.numerals.specs.Walk.{number_of, hold_words}
 use Rattle.numerals.proofs.Holding.{pair_tests}
-use borrow.Author.Rules.{rules}
 use Rattle.numerals.proofs.held.hold_pair.Goals as goal
 
 pub returns-then-n-eq0 : goal.returns-then-n-eq0

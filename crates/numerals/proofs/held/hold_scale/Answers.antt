@@ -1,5 +1,4 @@
 use Rattle.numerals.specs.Walk.{number_of, hold_words}
-use borrow.Author.Rules.{rules}
 use Rattle.numerals.proofs.held.hold_scale.Goals as goal
 
 pub returns-then-wordless : goal.returns-then-wordless

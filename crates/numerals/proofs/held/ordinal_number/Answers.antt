@@ -1,6 +1,5 @@
 use borrow.Author.Tests.{lt-ltb, le-ltb, le-leb, lt-leb}
 use Rattle.numerals.specs.Walk.{ordinal_number}
-use borrow.Author.Rules.{rules}
 use Rattle.numerals.proofs.held.ordinal_number.Goals as goal
 
 pub returns-then-k-lt-ONES : goal.returns-then-k-lt-ONES

@@ -1,7 +1,4 @@
-use native.Mathlib.Omega.{arith}
-use lib.ListN.{length, length-drop}
-use Rattle.numerals.proofs.Cardinal.{hold_0, hold_1, hold_2, hold_3, hold_more, parts_shorter, above_3}
-use borrow.Author.Rules.{rules}
+use Rattle.numerals.proofs.Cardinal.{hold_0, hold_1, hold_2, hold_3, hold_more, above_3}
 use Rattle.numerals.proofs.number.+hold_cardinal.Goals as goal
 
 pub returns-then-n-eq0 : goal.returns-then-n-eq0

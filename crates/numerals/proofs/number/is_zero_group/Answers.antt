@@ -1,5 +1,4 @@
 use Rattle.numerals.specs.Walk.{is_zero_group}
-use borrow.Author.Rules.{rules}
 use Rattle.numerals.proofs.number.is_zero_group.Goals as goal
 
 pub returns : goal.returns

@@ -3,7 +3,6 @@ use lib.ListN.{length}
 use Rattle.numerals.specs.Cardinal.{digit_values, cardinal, cardinal_of, digits}
 use Rattle.numerals.proofs.NumberWords.{digit_values_below_ten}
 use Rattle.numerals.proofs.Picking.{first_digits_digits, first_digits_more, first_digits_all}
-use borrow.Author.Rules.{rules}
 use Rattle.numerals.proofs.number.say_cardinal.Goals as goal
 
 pub returns-then-digits-gt-MAX_CARDINAL_DIGITS : goal.returns-then-digits-gt-MAX_CARDINAL_DIGITS

@@ -4,7 +4,6 @@ use native.Mathlib.Omega.{arith}
 use lib.ListN.{take}
 use Rattle.numerals.proofs.Digits.{digit_values_last, last_some}
 use Rattle.numerals.proofs.Flushing.{long_said}
-use borrow.Author.Rules.{rules}
 use Rattle.numerals.proofs.number.say_long_ordinal.Goals as goal
 
 pub overflow_sub-at : goal.overflow_sub-at

@@ -2,7 +2,6 @@ use lib.ListN.{take}
 use Rattle.word_writer.specs.Writer.{writer}
 use Rattle.numerals.proofs.Picking.{first_digits_digits, first_digits_more, first_digits_all}
 use Rattle.numerals.proofs.Flushing.{ordinal_said}
-use borrow.Author.Rules.{rules}
 use Rattle.numerals.proofs.number.say_ordinal.Goals as goal
 
 pub say_long_ordinal-requires : goal.say_long_ordinal-requires

@@ -1,5 +1,4 @@
 use Rattle.numerals.proofs.Flushing.{short_said}
-use borrow.Author.Rules.{rules}
 use Rattle.numerals.proofs.number.say_short_cardinal.Goals as goal
 
 pub returns : goal.returns

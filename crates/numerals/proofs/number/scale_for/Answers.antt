@@ -1,7 +1,6 @@
 use mathlib.Core.Path.{refl}
 use native.Mathlib.Omega.{arith}
 use borrow.Author.Tests.{lt-ltb, le-ltb}
-use borrow.Author.Rules.{rules}
 use Rattle.numerals.proofs.number.scale_for.Goals as goal
 
 pub returns-then-n-gt9 : goal.returns-then-n-gt9

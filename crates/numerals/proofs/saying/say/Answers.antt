@@ -1,5 +1,4 @@
 use Rattle.vocabulary.proofs.Laws.{word_packed}
-use borrow.Author.Rules.{rules}
 use Rattle.numerals.proofs.saying.say.Goals as goal
 
 pub returns : goal.returns

@@ -4,7 +4,6 @@ use Rattle.numerals.specs.Words.{spelled}
 use Rattle.numerals.specs.Cardinal.{digit_value, digits}
 use Rattle.numerals.proofs.Digits.{digit_values_low, digit_values_high, digit_values_digit}
 use Rattle.numerals.proofs.Said.{said_digit}
-use borrow.Author.Rules.{rules}
 use Rattle.numerals.proofs.saying.say_digit.Goals as goal
 
 pub returns-then-b-lt48 : goal.returns-then-b-lt48

@@ -1,12 +1,6 @@
-use Prim.Native.Nat.{◌-◌}
 use native.Mathlib.Omega.{arith}
-use lib.ListN.{length}
-use Rattle.word_writer.specs.Writer.{writer}
-use Rattle.word_writer.proofs.Walks.{Walk, walk_start, walk_byte, walk_end}
-use Rattle.numerals.specs.Words.{spelled}
-use Rattle.numerals.specs.Cardinal.{digits}
+use Rattle.word_writer.proofs.Walks.{walk_start, walk_byte, walk_end}
 use Rattle.numerals.proofs.Digits.{digits_append, no_digits}
-use borrow.Author.Rules.{rules}
 use Rattle.numerals.proofs.saying.say_digits.Goals as goal
 
 pub loop-i-init : goal.loop-i-init

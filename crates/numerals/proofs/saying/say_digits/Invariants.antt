@@ -1,11 +1,9 @@
 use Prim.Native.Nat.{◌-◌}
-use native.Mathlib.Omega.{arith}
 use lib.ListN.{length}
 use Rattle.word_writer.specs.Writer.{writer}
-use Rattle.word_writer.proofs.Walks.{Walk, walk_start, walk_byte, walk_end}
+use Rattle.word_writer.proofs.Walks.{Walk}
 use Rattle.numerals.specs.Words.{spelled}
 use Rattle.numerals.specs.Cardinal.{digits}
-use Rattle.numerals.proofs.Digits.{digits_append, no_digits}
 use Rattle.numerals.proofs.saying.say_digits.Given as goal
 
 abbrev pub invariant-loop-i : goal.invariant-loop-i

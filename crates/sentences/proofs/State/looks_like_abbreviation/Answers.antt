@@ -1,4 +1,3 @@
-use borrow.Author.Rules.{rules}
 use Rattle.sentences.proofs.State.looks_like_abbreviation.Goals as goal
 
 pub returns : goal.returns

@@ -1,5 +1,4 @@
 use Rattle.sentences.proofs.Marking.{step_refused, step_done}
-use borrow.Author.Rules.{rules}
 use Rattle.sentences.proofs.State.push.Goals as goal
 
 pub returns-then-refusal-ne0 : goal.returns-then-refusal-ne0

@@ -2,7 +2,6 @@ use Prim.Native.Nat.{◌*◌}
 use native.Mathlib.Omega.{arith}
 use borrow.Author.Tests.{lt-ltb, le-ltb}
 use Rattle.word_writer.specs.Writer.{pair_size}
-use borrow.Author.Rules.{rules}
 use Rattle.word_writer.proofs.Cursor.exceeds.Goals as goal
 
 pub returns-then-store-self : goal.returns-then-store-self
