@@ -178,6 +178,39 @@ class Function:
         note = f"-- look: {', '.join(look)}\n" if look else ""
         return note, out
 
+    def aligned(self, args, needs, answers):
+        """The answers that stand for today's goals, where fewer are asked: only answers by search are left out."""
+        def trivial(a):
+            return re.fullmatch(r"\(λ [^.]*\. *search rules\)", re.sub(r"\s+", " ", a)) is not None
+
+        def score(a, n):
+            if a in answers:
+                return 10 if norm(a) == norm(n[0]) else (5 if a.startswith("returns") and n[0].startswith("returns") else 0)
+            if trivial(a):
+                return -1 if n[0].startswith("returns") else (1 if "κs" in a and "requires" in n[0] else 0)
+            return 3 if n[0].startswith("returns") else 0
+
+        best = {}
+
+        def go(i, j):
+            if j == len(needs):
+                return (0, []) if all(trivial(a) for a in args[i:]) else None
+            if len(args) - i < len(needs) - j:
+                return None
+            if (i, j) in best:
+                return best[i, j]
+            got = go(i + 1, j + 1)
+            one = (got[0] + score(args[i], needs[j]), [args[i]] + got[1]) if got else None
+            if trivial(args[i]):
+                two = go(i + 1, j)
+                if two and (not one or two[0] > one[0]):
+                    one = two
+            best[i, j] = one
+            return one
+
+        got = go(0, 0)
+        return got[1] if got else args
+
     def run(self):
         decls = declarations(self.text)
         head, inv, helpers, answers, spec = [], [], [], {}, None
@@ -231,12 +264,16 @@ class Function:
             inv_out.append((cm + "\n" if cm else "") + f"abbrev pub {new} : goal.{new}\n" + (unf[0] + "\n" if unf else "") + f"{new} l ={body.rstrip()}")
         needs = self.names["needs"]
         at = self.names["asked_at"]
+        whole = re.search(r"(?m)^unfolding .*$", text)
+        whole = whole[0] + "\n" if whole else ""
         out, problems = [], []
         if len(args) != len(needs):
             problems.append(f"{len(args)} answers for {len(needs)} goals")
+        if len(args) > len(needs):
+            args = self.aligned(args, needs, answers)
         for i, (arg, need) in enumerate(zip(args, needs)):
             place = at[i][0] if i < len(at) and at[i] else None
-            unf, cm = "", ""
+            unf, cm = whole, ""
             if arg in answers:
                 d = answers[arg]
                 code = "\n".join(l for l in d if not l.startswith("--"))
@@ -253,7 +290,7 @@ class Function:
                     continue
                 binders, body = bm[1].split(), bm[2]
             flat = re.sub(r"\s+", " ", body).strip()
-            if re.fullmatch(r"search rules|omega arith|\(search rules, refl\)|\(search rules, search rules\)|refl", flat):
+            if not unf and re.fullmatch(r"search rules|omega arith|\(search rules, refl\)|\(search rules, search rules\)|refl", flat):
                 continue
             if binders[:1] != ["c"]:
                 problems.append(f"argument {i}: binders {binders}")
