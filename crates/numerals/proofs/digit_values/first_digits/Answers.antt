@@ -10,6 +10,7 @@ use Rattle.numerals.proofs.Digits.{digit_values_low, digit_values_high}
 use Rattle.numerals.proofs.Picking.{PickedDigits, pick_none, pick_digit, pick_beyond, pick_end}
 use borrow.Author.Rules.{rules}
 use Rattle.numerals.proofs.digit_values.first_digits.Goals as goal
+use Rattle.numerals.proofs.digit_values.first_digits.Goals.{then-b-ge48+then-b-le57+else-count-eq-MAX_CARDINAL_DIGITS, then-b-ge48+else-b-le57, else-b-ge48}
 
 pub loop-i-init : goal.loop-i-init
 unfolding digit_values filter_if padded
@@ -51,11 +52,19 @@ unfolding digit_values filter_if padded
 loop-i-preserved c =
     let l = c.loop-i in
     let s = c.args.s.now in
-    ⊎_elim
-    (λ w. rw (w.3, w.4) (pick_digit s l.values l.count l.i (omega arith) l.invariant w.0.taken w.1.taken (omega arith)))
-    (⊎_elim (λ w. rw (w.2, w.3) (pick_none s l.values l.count l.i (omega arith) l.invariant (digit_values_high _ w.0.taken w.1.left)))
-    (λ w. rw (w.1, w.2) (pick_none s l.values l.count l.i (omega arith) l.invariant (digit_values_low _ w.0.left))))
-    c.if-b-ge48.branch
+    let l = c.loop-i in
+    let s = c.args.s.now in
+    elim c.if-b-ge48.branch [
+      then-b-ge48+then-b-le57+else-count-eq-MAX_CARDINAL_DIGITS w ↦
+        rw (w.values-is, w.count-is)
+        (pick_digit s l.values l.count l.i (omega arith) l.invariant w.if-b-ge48.true w.if-b-le57.true (omega arith))
+    | then-b-ge48+else-b-le57 w ↦
+        rw (w.values-is, w.count-is)
+        (pick_none s l.values l.count l.i (omega arith) l.invariant (digit_values_high _ w.if-b-ge48.true w.if-b-le57.false))
+    | else-b-ge48 w ↦
+        rw (w.values-is, w.count-is)
+        (pick_none s l.values l.count l.i (omega arith) l.invariant (digit_values_low _ w.if-b-ge48.false))
+    ]
 
 pub returns : goal.returns
 unfolding digit_values filter_if padded

@@ -16,7 +16,7 @@ pub loop-i-preserved : goal.loop-i-preserved
 loop-i-preserved c =
     let said = c.say_digit-p in
     walk_byte c.loop-i.invariant digits_append (omega arith)
-    said.ensures said.auto.1.0 said.auto.1.1.0
+    said.ensures (omega arith) (omega arith)
 
 pub returns : goal.returns
 returns c = walk_end c.loop-i.invariant no_digits (omega arith)
