@@ -4,28 +4,42 @@
 ghost use Rattle.std.specs.Prelude.{◌≡◌, ◌+◌, ◌*◌, ◌≤◌, length};
 
 use calls::call_sheet;
-use libc::{STDIN_FILENO, STDOUT_FILENO};
 use lists::front;
+use std::io;
+use std::io::Read;
 
 // Only a sheet that isn't UTF-8 is refused: the sheets read here are too short for numbers 1 and 4, and the buffer has room.
-fn write_refusal(number: u8)
+fn write_refusal(rt: &impl Print, number: u8) -> io::Result<()>
     requires { number ≡ 2 }
 {
-    io::write_all(STDOUT_FILENO, b"refused ");
-    io::print_decimal(STDOUT_FILENO, number as u64);
-    io::write_all(STDOUT_FILENO, b"\n");
+    println!(rt; "refused {number}")
 }
 
 // The buffer has room for the call sheet, whatever the sheet.
-fn write_call(sheet: &[u8], out: &mut [u8])
+fn write_call(rt: &impl Print, sheet: &[u8], out: &mut [u8]) -> io::Result<()>
     requires { (length sheet.now ≤ 4096) × (11 * (length sheet.now + 1) ≤ length out.old) }
 {
     let called = call_sheet(sheet, out);
     if called.refusal != 0 {
-        write_refusal(called.refusal);
-        return;
+        return write_refusal(rt, called.refusal);
     }
-    io::write_all(STDOUT_FILENO, front(out, called.bytes));
+    rt.write_all(front(out, called.bytes))
+}
+
+// Reads until the sheet is full, the input ends or a read fails, and answers how many bytes it put at the front. What follows them
+// in the input stays unread.
+fn read_full(input: &mut impl Read, sheet: &mut [u8]) -> usize
+    ensures { result ≤ length sheet.new }
+{
+    let mut done = 0;
+    while done < sheet.len() {
+        match input.read(&mut sheet[done..]) {
+            Ok(0) => break,
+            Ok(n) => done += n,
+            Err(_) => break,
+        }
+    }
+    done
 }
 
 // Room for the call of every sheet of 4,096 bytes.
@@ -33,9 +47,9 @@ fn room() -> [u8; 45067] {
     [0; 45067]
 }
 
-fn main() {
-    let mut sheet = io::buffer();
-    let n = io::read_full(STDIN_FILENO, &mut sheet);
+fn main(rt: HostRuntime) -> io::Result<()> {
+    let mut sheet = [0; 4096];
+    let n = read_full(&mut rt.stdin(), &mut sheet);
     let mut out = room();
-    write_call(front(&sheet, n), &mut out);
+    write_call(&rt, front(&sheet, n), &mut out)
 }

@@ -1,6 +1,6 @@
 // What was compared, and how much of it differs.
 use crate::fields::add_or_bad;
-use libc::STDOUT_FILENO;
+use std::io;
 
 // The most texts that are printed because they differ.
 const NAMED: usize = 10;
@@ -22,12 +22,12 @@ pub struct Tally {
     pub differing_texts: usize,
 }
 
-pub fn say(text: &[u8]) {
-    io::write_all(STDOUT_FILENO, text);
+pub fn say(rt: &impl Print, text: &[u8]) -> io::Result<()> {
+    rt.write_all(text)
 }
 
-fn say_number(n: usize) {
-    io::print_decimal(STDOUT_FILENO, n as u64);
+fn say_number(rt: &impl Print, n: usize) -> io::Result<()> {
+    rt.print(n)
 }
 
 impl Report {
@@ -74,12 +74,12 @@ impl Tally {
         }
     }
 
-    fn say_text(self, name: &[u8]) {
-        say(b"line ");
-        say_number(add_or_bad(self.texts, 1));
-        say(b": ");
-        say(name);
-        say(b"\n");
+    fn say_text(self, rt: &impl Print, name: &[u8]) -> io::Result<()> {
+        say(rt, b"line ")?;
+        say_number(rt, add_or_bad(self.texts, 1))?;
+        say(rt, b": ")?;
+        say(rt, name)?;
+        say(rt, b"\n")
     }
 
     fn counted(self, r: Report) -> Tally {
@@ -100,21 +100,21 @@ impl Tally {
     }
 
     // Counts the next text. If it differs, and fewer than NAMED texts did before, its line and the name of what differs first are printed.
-    pub fn add(self, r: Report, name: &[u8]) -> Tally {
+    pub fn add(self, rt: &impl Print, r: Report, name: &[u8]) -> io::Result<Tally> {
         if (r.differ != 0) & (self.differing_texts < NAMED) {
-            self.say_text(name);
+            self.say_text(rt, name)?;
         }
-        self.counted(r)
+        Ok(self.counted(r))
     }
 
-    pub fn say(self, name: &[u8]) {
-        say(name);
-        say(b": ");
-        say_number(self.texts);
-        say(b" texts, ");
-        say_number(self.answers);
-        say(b" answers compared, ");
-        say_number(self.differ);
-        say(b" differ\n");
+    pub fn say(self, rt: &impl Print, name: &[u8]) -> io::Result<()> {
+        say(rt, name)?;
+        say(rt, b": ")?;
+        say_number(rt, self.texts)?;
+        say(rt, b" texts, ")?;
+        say_number(rt, self.answers)?;
+        say(rt, b" answers compared, ")?;
+        say_number(rt, self.differ)?;
+        say(rt, b" differ\n")
     }
 }

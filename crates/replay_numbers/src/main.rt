@@ -13,10 +13,11 @@ use recorded::file::load;
 use recorded::room::room;
 use recorded::tally::{Report, Tally};
 use recorded::text::text_of;
+use std::io;
 
-fn add(t: Tally, r: Report) -> Tally {
+fn add(rt: &impl Print, t: Tally, r: Report) -> io::Result<Tally> {
     let names = b"cardinal ordinal year digits real letters roman_value malformed";
-    t.add(r, field(names, b' ', r.first))
+    t.add(rt, r, field(names, b' ', r.first))
 }
 
 fn compare_line(line: &[u8], text: &mut [u8]) -> Report {
@@ -27,29 +28,30 @@ fn compare_line(line: &[u8], text: &mut [u8]) -> Report {
     compare_text(line, front(text, n))
 }
 
-fn replay(file: &[u8], text: &mut [u8]) -> Tally {
+fn replay(rt: &impl Print, file: &[u8], text: &mut [u8]) -> io::Result<Tally> {
     let mut t = Tally::none();
     let mut at = 0;
     while at < file.len() {
         let rest = tail(file, at);
         let n = span_of(NOT, b'\n', rest);
-        t = add(t, compare_line(front(rest, n), text));
+        t = add(rt, t, compare_line(front(rest, n), text))?;
         at = past(file.len(), at, n);
     }
-    t
+    Ok(t)
 }
 
 // The file, and after its lines the text at the limit.
-fn replay_all(file: &[u8]) {
+fn replay_all(rt: &impl Print, file: &[u8]) -> io::Result<()> {
     let mut text = room();
-    let t = replay(file, &mut text);
-    add(t, compare_limit(&mut text)).say(b"numbers.txt and the limit");
+    let t = replay(rt, file, &mut text)?;
+    add(rt, t, compare_limit(&mut text))?.say(rt, b"numbers.txt and the limit")
 }
 
-fn main() {
+fn main(rt: HostRuntime) -> io::Result<()> {
     let mut file = room();
-    let n = load(b"numbers.txt", &mut file);
+    let n = load(&rt, b"numbers.txt", &mut file)?;
     if n != 0 {
-        replay_all(front(&file, n));
+        replay_all(&rt, front(&file, n))?;
     }
+    Ok(())
 }

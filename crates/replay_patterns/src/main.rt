@@ -10,6 +10,7 @@ use recorded::file::load;
 use recorded::room::room;
 use recorded::tally::{Report, Tally};
 use recorded::text::text_of;
+use std::io;
 
 // All verdicts of is_n_digits have one name.
 fn name_number(what: usize) -> usize {
@@ -22,13 +23,13 @@ fn name_number(what: usize) -> usize {
     what - (TIME - N_DIGITS - 1)
 }
 
-fn add(t: Tally, r: Report) -> Tally {
+fn add(rt: &impl Print, t: Tally, r: Report) -> io::Result<Tally> {
     let names =
         b"is_digits is_alpha is_double is_comma_int is_ordinal is_us_money is_illion is_roman is_dr_or_st \
         is_number_s is_leading_zero_digits is_seven_digit_phone is_time is_dotted_abbrev \
         is_digits_slash_digits is_digits_dash_digits is_n_digits split_time_meridiem split_unit unit_word \
         malformed";
-    t.add(r, field(names, b' ', name_number(r.first)))
+    t.add(rt, r, field(names, b' ', name_number(r.first)))
 }
 
 fn compare_line(line: &[u8], text: &mut [u8]) -> Report {
@@ -39,28 +40,29 @@ fn compare_line(line: &[u8], text: &mut [u8]) -> Report {
     compare_text(tail(line, field_at(line, b' ', 3)), front(text, n))
 }
 
-fn replay(file: &[u8], text: &mut [u8]) -> Tally {
+fn replay(rt: &impl Print, file: &[u8], text: &mut [u8]) -> io::Result<Tally> {
     let mut t = Tally::none();
     let mut at = 0;
     while at < file.len() {
         let rest = tail(file, at);
         let n = span_of(NOT, b'\n', rest);
-        t = add(t, compare_line(front(rest, n), text));
+        t = add(rt, t, compare_line(front(rest, n), text))?;
         at = past(file.len(), at, n);
     }
-    t
+    Ok(t)
 }
 
 // Lends the room for a text.
-fn replay_all(file: &[u8]) {
+fn replay_all(rt: &impl Print, file: &[u8]) -> io::Result<()> {
     let mut text = room();
-    replay(file, &mut text).say(b"patterns.txt");
+    replay(rt, file, &mut text)?.say(rt, b"patterns.txt")
 }
 
-fn main() {
+fn main(rt: HostRuntime) -> io::Result<()> {
     let mut file = room();
-    let n = load(b"patterns.txt", &mut file);
+    let n = load(&rt, b"patterns.txt", &mut file)?;
     if n != 0 {
-        replay_all(front(&file, n));
+        replay_all(&rt, front(&file, n))?;
     }
+    Ok(())
 }

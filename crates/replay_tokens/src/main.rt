@@ -14,11 +14,12 @@ use recorded::file::load;
 use recorded::room::room;
 use recorded::tally::{Report, Tally};
 use recorded::text::text_of;
+use std::io;
 use steps::{compare_parts, compare_steps};
 
-fn add(t: Tally, r: Report) -> Tally {
+fn add(rt: &impl Print, t: Tally, r: Report) -> io::Result<Tally> {
     let names = b"tokenize sentences push push_of_text malformed";
-    t.add(r, field(names, b' ', r.first))
+    t.add(rt, r, field(names, b' ', r.first))
 }
 
 // Every answer about the text s, compared with its line.
@@ -36,28 +37,29 @@ fn compare_line(line: &[u8], text: &mut [u8]) -> Report {
     compare_text(line, front(text, n))
 }
 
-fn replay(file: &[u8], text: &mut [u8]) -> Tally {
+fn replay(rt: &impl Print, file: &[u8], text: &mut [u8]) -> io::Result<Tally> {
     let mut t = Tally::none();
     let mut at = 0;
     while at < file.len() {
         let rest = tail(file, at);
         let n = span_of(NOT, b'\n', rest);
-        t = add(t, compare_line(front(rest, n), text));
+        t = add(rt, t, compare_line(front(rest, n), text))?;
         at = past(file.len(), at, n);
     }
-    t
+    Ok(t)
 }
 
 // Lends the room for a text.
-fn replay_all(file: &[u8]) {
+fn replay_all(rt: &impl Print, file: &[u8]) -> io::Result<()> {
     let mut text = room();
-    replay(file, &mut text).say(b"tokens.txt");
+    replay(rt, file, &mut text)?.say(rt, b"tokens.txt")
 }
 
-fn main() {
+fn main(rt: HostRuntime) -> io::Result<()> {
     let mut file = room();
-    let n = load(b"tokens.txt", &mut file);
+    let n = load(&rt, b"tokens.txt", &mut file)?;
     if n != 0 {
-        replay_all(front(&file, n));
+        replay_all(&rt, front(&file, n))?;
     }
+    Ok(())
 }
