@@ -127,8 +127,8 @@ Encoded l = (c : ℕ) × Scalar c × (encode c ≡ l)
 abbrev TailByte : ℕ → Type 0
 TailByte b = (0x80 ≤ b) × (b ≤ 0xBF)
 
-tail_byte_lem : (b : ℕ) → utf8_tail b ≡ true → TailByte b
-tail_byte_lem = bounds 0x80 0xBF
+tail_byte : (b : ℕ) → utf8_tail b ≡ true → TailByte b
+tail_byte = bounds 0x80 0xBF
 
 -- the bytes of each row of the table are such an encoding
 encoded_1 : (a : ℕ) → ascii a ≡ true → Encoded (a ∷ [])
@@ -225,10 +225,10 @@ unfolding sequence_len
 char_scalar s l z =
     rw (take_bytes_at 0 (char_len s) s (omega arith))
     (cond_elim P (ascii a) (λ h z. encoded_1 a h) (λ g.
-    cond_elim P (lead2 a && utf8_tail b) (and_elim (lead2 a) (utf8_tail b) (λ h k z. encoded_2 a b (bounds 0xC2 0xDF a h) (tail_byte_lem b k))) (λ g.
-    cond_elim P (lead3 a b && utf8_tail c) (and_elim (lead3 a b) (utf8_tail c) (λ h k z. encoded_3 a b c h (tail_byte_lem c k))) (λ g.
+    cond_elim P (lead2 a && utf8_tail b) (and_elim (lead2 a) (utf8_tail b) (λ h k z. encoded_2 a b (bounds 0xC2 0xDF a h) (tail_byte b k))) (λ g.
+    cond_elim P (lead3 a b && utf8_tail c) (and_elim (lead3 a b) (utf8_tail c) (λ h k z. encoded_3 a b c h (tail_byte c k))) (λ g.
     cond_elim P (lead4 a b && utf8_tail c && utf8_tail d)
-    (and_elim (lead4 a b && utf8_tail c) (utf8_tail d) (λ h k. and_elim (lead4 a b) (utf8_tail c) (λ m n z. encoded_4 a b c d m (tail_byte_lem c n) (tail_byte_lem d k)) h))
+    (and_elim (lead4 a b && utf8_tail c) (utf8_tail d) (λ h k. and_elim (lead4 a b) (utf8_tail c) (λ m n z. encoded_4 a b c d m (tail_byte c n) (tail_byte d k)) h))
     (λ g z. absurd (z refl)))))
     z)
   where

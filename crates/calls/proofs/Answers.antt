@@ -83,11 +83,11 @@ module _ (s old : List ℕ) {n : ℕ} (refusal_eq : n ≡ text_refusal text_limi
   sheet_short z l t q = rw (q, passed_first text later refusal_eq z, l, t)
 
   -- else the call answers the counts, and writes the call sheet
-  pub sheet_result_lem : n ≡ 0 → any_long (entries s) ≡ false → is_short ≡ false → length old < usize_max → (t t₀ : List ℕ) {new : List ℕ} {p : Cursor} {k : ℕ}
+  pub sheet_result : n ≡ 0 → any_long (entries s) ≡ false → is_short ≡ false → length old < usize_max → (t t₀ : List ℕ) {new : List ℕ} {p : Cursor} {k : ℕ}
       → k ≡ length (tokens s) → writer new t p ≡ lines_to (entries s) (writer old t₀ spaced_cursor)
       → as_sheet (record { refusal = 0; tokens = k; words = p.words; bytes = p.at }) new ≡ sheet_call s old
   unfolding sheet_call
-  sheet_result_lem z l f small t t₀ {new} {p} c q =
+  sheet_result z l f small t t₀ {new} {p} c q =
       let g = written_lines (wrote_lines (entries s)) (lines_words (entries s)) new t old t₀ refl q f small in
       rw (passed_first text later refusal_eq z, l, f) (λ j. record { refusal = 0; value = record { tokens = c j; words = g.1 j; bytes = g.0 j; buffer = g.2 j } })
 

@@ -81,20 +81,20 @@ module _ (h m : List ℕ) (p : is_hour h ≡ true) (q : is_minute m ≡ true) wh
   at : span (except (code ":")) (h ++ (bytes ":" ++ m)) ≡ length h
   at = colon_at (except (code ":")) refl digit_colon h m p
 
-  hour_of_lem : hour (h ++ (bytes ":" ++ m)) ≡ h
-  hour_of_lem = take_at h (code ":" ∷ m) _ (sym at)
+  hour_of : hour (h ++ (bytes ":" ++ m)) ≡ h
+  hour_of = take_at h (code ":" ∷ m) _ (sym at)
 
-  minute_of_lem : minute (h ++ (bytes ":" ++ m)) ≡ m
-  minute_of_lem = ap (drop 1) (drop_at h (code ":" ∷ m) _ (sym at))
+  minute_of : minute (h ++ (bytes ":" ++ m)) ≡ m
+  minute_of = ap (drop 1) (drop_at h (code ":" ∷ m) _ (sym at))
 
   plain_test : is_plain_time (h ++ (bytes ":" ++ m)) ≡ true
   unfolding split_once
   plain_test =
       let t = h ++ (bytes ":" ++ m) in
       let n = span (except (code ":")) t in
-      let b : drop (n + 1) t ≡ m = sym (drop-drop 1 n t) ∙ minute_of_lem in
+      let b : drop (n + 1) t ≡ m = sym (drop-drop 1 n t) ∙ minute_of in
       let l : ltb n (length t) ≡ true = lt-ltb n (length t) (omega (arith, at, length-append h (code ":" ∷ m))) in
-      rw (l, b, hour_of_lem, hour_minute h m p q, (hour_parts h p).0)
+      rw (l, b, hour_of, hour_minute h m p q, (hour_parts h p).0)
 
 -- a name that passes the test is clear
 pub test_time : (s : List ℕ) → is_time_clear s ≡ true → Clear s
@@ -106,12 +106,12 @@ test_time s h =
 
 -- an hour, a colon and a minute other than 00 pass the test
 pub time_test : (h m : List ℕ) → is_hour h ≡ true → is_minute m ≡ true → (m ≡ bytes "00" → ⊥) → is_time_clear (h ++ (bytes ":" ++ m)) ≡ true
-time_test h m p q n = rw (plain_test h m p q, minute_of_lem h m p q, same_false m (bytes "00") n)
+time_test h m p q n = rw (plain_test h m p q, minute_of h m p q, same_false m (bytes "00") n)
 
 -- ---- with "am" or "pm"
 
-am_pm_lem : (s : List ℕ) → (same s (bytes "am") || same s (bytes "pm")) ≡ true → AmPm s
-am_pm_lem s =
+am_pm : (s : List ℕ) → (same s (bytes "am") || same s (bytes "pm")) ≡ true → AmPm s
+am_pm s =
     or_true_elim (same s (bytes "am")) (same s (bytes "pm"))
     (λ k. rw (← same_true s (bytes "am") k) at am)
     (λ k. rw (← same_true s (bytes "pm") k) at pm)
@@ -125,7 +125,7 @@ test_meridiem s h =
     let e : hour n ++ (bytes ":" ++ (minute n ++ last_two s)) ≡ s =
     sym (append_assoc (hour n) (bytes ":" ++ minute n) (last_two s)) ∙ ap (λ (r : List ℕ). r ++ last_two s) t.whole
     ∙ take-append-drop (length s - 2) s in
-    rw e at (clear_meridiem (hour n) (minute n) (last_two s) t.hours t.minutes (am_pm_lem (last_two s) p.0))
+    rw e at (clear_meridiem (hour n) (minute n) (last_two s) t.hours t.minutes (am_pm (last_two s) p.0))
 
 am_pm_test : (x : List ℕ) → AmPm x → (length x ≡ 2) × ((same x (bytes "am") || same x (bytes "pm")) ≡ true)
 unfolding same_by

@@ -3,7 +3,7 @@ use mathlib.Core.List.{List}
 use Prim.Native.Nat.{ℕ}
 use Rattle.clear.specs.Clear.{Clear, clear_number, clear_percent, clear_time, clear_meridiem, clear_ordinal, clear_unit, clear_initials, clear_word}
 use Rattle.decoder.proofs.Decoded.{Decoded}
-use Rattle.decoder.proofs.Numbers.{number_decoded_lem, percent_decoded}
+use Rattle.decoder.proofs.Numbers.{number_decoded, percent_decoded}
 use Rattle.decoder.proofs.TimeRows.{time_decoded, meridiem_decoded}
 use Rattle.decoder.proofs.Ordinals.{ordinal_decoded}
 use Rattle.decoder.proofs.Units.{unit_decoded}
@@ -12,7 +12,7 @@ use Rattle.decoder.proofs.OneWord.{lowercase_lowered, word_decoded}
 
 -- a clear name is decoded as itself; of a word only this is used: it has two letters or more, a to z, and is not in the tables
 pub clear_decoded : (n : List ℕ) → Clear n → Decoded n
-clear_decoded n (clear_number s a) = number_decoded_lem s a
+clear_decoded n (clear_number s a) = number_decoded s a
 clear_decoded n (clear_percent s a) = percent_decoded s a
 clear_decoded n (clear_time h m a b c) = time_decoded h m a b c
 clear_decoded n (clear_meridiem h m x a b c) = meridiem_decoded h m x a b c

@@ -64,9 +64,9 @@ abbrev pub PlainValues : List ℕ → Type 0
 PlainValues d = (0 < length d) × (1 < length d → 0 < get_or d 0 0)
 
 -- this holds of the values of plain digits
-pub plain_values_lem : (s : List ℕ) → plain s ≡ true → PlainValues (digit_values s)
+pub plain_values : (s : List ℕ) → plain s ≡ true → PlainValues (digit_values s)
 unfolding all
-plain_values_lem s h = rw (digit_values_all s (digits_all s (plain_digits s h))) (go s h)
+plain_values s h = rw (digit_values_all s (digits_all s (plain_digits s h))) (go s h)
   where
     go : (s : List ℕ) → plain s ≡ true → PlainValues (map digit_value s)
     go [] h = absurd (omega (arith, digits_some [] (plain_digits [] h)))

@@ -127,10 +127,10 @@ exponent_tail (an_exponent g x no_sign h) k = plain_part e_is refl x h k
 exponent_tail (an_exponent g x plus_sign h) k = symbol_part (other (bytes "e")) (code "e") [] [] e_is tt refl (plain_part plus_is refl x h k)
 exponent_tail (an_exponent g x minus_sign h) k = symbol_part (other (bytes "e")) (code "e") [] [] e_is tt refl (plain_part minus_is refl x h k)
 
-fraction_tail_lem : {f t : List ℕ} {r : List Word} (d : Fraction f) → SymbolTail t r → SymbolTail (f ++ t) (fraction_words d ++ r)
-fraction_tail_lem no_point k = k
-fraction_tail_lem (a_point f h) k = symbol_part (other (bytes "point")) (code ".") (digits f) f point_is (digits_number_words f) (point_after f h) k
+fraction_tail : {f t : List ℕ} {r : List Word} (d : Fraction f) → SymbolTail t r → SymbolTail (f ++ t) (fraction_words d ++ r)
+fraction_tail no_point k = k
+fraction_tail (a_point f h) k = symbol_part (other (bytes "point")) (code ".") (digits f) f point_is (digits_number_words f) (point_after f h) k
 
 -- a fraction and an exponent, and the words that are decoded as them
 pub figure_tail : {f x : List ℕ} (d : Fraction f) (e : Exponent x) → SymbolTail (f ++ x) (fraction_words d ++ exponent_words e)
-figure_tail {f} {x} d e = rw (append-nil x, append-nil (exponent_words e)) at (fraction_tail_lem d (exponent_tail e no_tail))
+figure_tail {f} {x} d e = rw (append-nil x, append-nil (exponent_words e)) at (fraction_tail d (exponent_tail e no_tail))

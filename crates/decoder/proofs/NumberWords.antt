@@ -26,7 +26,7 @@ use Rattle.numerals.proofs.Value.{cardinal_value}
 use Rattle.clear.specs.Clear.{plain}
 use Rattle.decoder.specs.Decode.{parse_word_in, parse_word, parse_words, decimal_digits, digit_of, is_one, two_ones, decode_digits}
 use Rattle.clear.proofs.Figures.{plain_digits}
-use Rattle.decoder.proofs.DecimalDigits.{plain_values_lem, decimal_digits_plain, digit_values_length, digit_bytes_digit_values}
+use Rattle.decoder.proofs.DecimalDigits.{plain_values, decimal_digits_plain, digit_values_length, digit_bytes_digit_values}
 
 -- ---- words from their spelling
 
@@ -114,7 +114,7 @@ cardinal_long s h = rw (lt-leb (length (digit_values s)) 12 h)
 
 -- the digits of the value of a number's words
 decimal_digits_value : (s : List ℕ) → plain s ≡ true → length (digit_values s) ≤ 12 → decimal_digits 11 (words_value (cardinal s)) [] ≡ digit_values s
-decimal_digits_value s h l = rw (cardinal_value s l) (decimal_digits_plain (digit_values s) 11 (digit_values_below_ten s) (plain_values_lem s h) l)
+decimal_digits_value s h l = rw (cardinal_value s l) (decimal_digits_plain (digit_values s) 11 (digit_values_below_ten s) (plain_values s h) l)
 
 -- plain digits of the value 0 have one word, "zero"
 pub zero_named : (s : List ℕ) → plain s ≡ true → length (digit_values s) ≤ 12 → words_value (cardinal s) ≡ 0 → cardinal s ≡ one 0 ∷ []

@@ -168,8 +168,8 @@ module _ {s : List ℕ} {ws : List Word} (o : NumberDecoded s ws) where
       rw (said_percent, not_one_word (spelled ws ++ v) (omega (arith, o.some)), f, o.first, l, but_last_lem (spelled ws) v, figure_words_parsed, o.decoded)
 
 -- a number is decoded
-pub number_decoded_lem : {word : List ℕ → List ℕ} (s : List ℕ) → Number s → DecodedWith word s
-number_decoded_lem {word} s n = record { decoded = decode_number (number_words_decoded word s n) }
+pub number_decoded : {word : List ℕ → List ℕ} (s : List ℕ) → Number s → DecodedWith word s
+number_decoded {word} s n = record { decoded = decode_number (number_words_decoded word s n) }
 
 percent_words : (word : List ℕ → List ℕ) (s : List ℕ) → (read_with word (s ++ bytes "%")).words ≡ (read_with word s).words ++ per_cent
 percent_words word s = rw (percent_with word (s ++ bytes "%") (snoc_ends_with (code "%") s), cut_front s (bytes "%") 1 refl)

@@ -24,7 +24,7 @@ use Rattle.numerals.proofs.NumberWords.{digit_values_below_ten}
 use Rattle.decoder.specs.Decode.{digit_bytes, decimal_digits, digit_of, is_one, value_below_hundred, is_minute_only, time_like, decode_minute, decode_time, time_text, is_below_hundred}
 use Rattle.clear.proofs.Figures.{plain_digits}
 use Rattle.clear.proofs.Times.{hour_parts}
-use Rattle.decoder.proofs.DecimalDigits.{digit_values_all, digit_bytes_digit_values, digit_values_length, plain_values_lem, decimal_digits_plain}
+use Rattle.decoder.proofs.DecimalDigits.{digit_values_all, digit_bytes_digit_values, digit_values_length, plain_values, decimal_digits_plain}
 
 -- ---- hours and minutes as numbers
 
@@ -58,7 +58,7 @@ hour_number h e =
     let n : length (digit_values h) ≤ 2 = rw (digit_values_length h d) l in (
       decimal (digit_values h),
       two_digits_below (digit_values h) (digit_values_below_ten h) n,
-      sym (ap digit_bytes (decimal_digits_plain (digit_values h) 1 (digit_values_below_ten h) (plain_values_lem h p) n) ∙ digit_bytes_digit_values h d),
+      sym (ap digit_bytes (decimal_digits_plain (digit_values h) 1 (digit_values_below_ten h) (plain_values h p) n) ∙ digit_bytes_digit_values h d),
     )
 
 minute_number : (m : List ℕ) → is_minute m ≡ true → (k : ℕ) × (k < 60) × (m ≡ minute_bytes k)

@@ -130,8 +130,8 @@ same_long f (x ∷ xs) [] n = refl
 same_long f (x ∷ xs) (y ∷ ys) n = rw (same_long f xs ys (λ e. n (ap suc e))) (and-false (eqb (f x) y))
 
 -- a read past the end gives 0
-pub get_d_past : (s : List ℕ) (i : ℕ) → length s ≤ i → 0 ≡ get_or s i 0
-get_d_past s i h = sym (get_or-eq_default s 0 h)
+pub get_or_past : (s : List ℕ) (i : ℕ) → length s ≤ i → 0 ≡ get_or s i 0
+get_or_past s i h = sym (get_or-eq_default s 0 h)
 
 -- what f gives of two texts joined is what it gives of each, joined
 abbrev pub ByParts : {A : Type 0} → (List ℕ → List A) → Type 0

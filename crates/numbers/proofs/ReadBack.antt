@@ -8,7 +8,7 @@ use Rattle.admit.specs.Refusals.{◌when◌, text_limit, text_tests}
 use Rattle.admit.specs.declared.Refusal.TheVariants.{BufferTooShort}
 use Rattle.admit.proofs.Calls.{both_passed, text_valid}
 use Rattle.word_writer.specs.Words.{word_at, WordsResult, too_short, words_call, PairIs}
-use Rattle.word_writer.proofs.ReadBack.{none_held_lem, counts_read, pairs_read, words_read}
+use Rattle.word_writer.proofs.ReadBack.{none_held, counts_read, pairs_read, words_read}
 use Rattle.numerals.specs.Words.{spelled}
 use Rattle.numerals.proofs.Room.{room_counts}
 use Rattle.numbers.specs.Calls.{words_as}
@@ -26,7 +26,7 @@ module _ (r : SayAs) (s store table : List ℕ) (accepted : (words_call s (spell
   -- every accepted text is so short that four bytes hold each offset
   short_store : length (flatten words) < 256 ^ 4
   short_store =
-      let k = (both_passed (text_tests text_limit (s ∷ [])) (BufferTooShort when too_short words store table ∷ []) (none_held_lem s words store table accepted)).0 in
+      let k = (both_passed (text_tests text_limit (s ∷ [])) (BufferTooShort when too_short words store table ∷ []) (none_held s words store table accepted)).0 in
       omega (arith, room_counts (words_room r s), (text_valid text_limit s k).within_limit)
 
   -- its counts are those of the words and of their bytes

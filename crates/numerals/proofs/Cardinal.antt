@@ -27,8 +27,8 @@ pub record ScaleSplit (n : ℕ) : Type 0 where
   pub left_short : n ≤ 12 → split_at n ≤ 3
 
 -- a string of more than three digits is split like this
-pub scale_split_lem : (n : ℕ) → 3 < n → ScaleSplit n
-scale_split_lem n h =
+pub scale_split : (n : ℕ) → 3 < n → ScaleSplit n
+scale_split n h =
     ⊎_elim
     (λ (u : n ≤ 9).
     ⊎_elim (λ (v : n ≤ 6). by 1 (rw (le-ltb 9 n u, le-ltb 6 n v)) (omega arith) (omega arith) (λ w. omega arith))
@@ -46,7 +46,7 @@ cardinal_local f g (a ∷ b ∷ []) h = refl
 cardinal_local f g (a ∷ b ∷ c ∷ []) h = ap (λ (ws : List Word). cond (eqb a 0) ws (one a ∷ hundred ∷ pair_words b c)) (h (b ∷ c ∷ []) (omega arith))
 cardinal_local f g (a ∷ b ∷ c ∷ d ∷ s) h =
     let t = a ∷ b ∷ c ∷ d ∷ s in
-    let p = scale_split_lem (length t) (omega arith) in
+    let p = scale_split (length t) (omega arith) in
     rw (
       h (take (split_at (length t)) t) (omega (arith, length-take (split_at (length t)) t, p.left)),
       h (drop (split_at (length t)) t) (omega (arith, length-drop (split_at (length t)) t, p.whole, p.right)),
@@ -85,7 +85,7 @@ short_cardinal_induct D P r = recur_induct (λ s ws. Every D s → P (length s) 
     step f (a ∷ b ∷ c ∷ d ∷ s) i h =
         let t = a ∷ b ∷ c ∷ d ∷ s in
         let n = split_at (length t) in
-        let p = scale_split_lem (length t) (omega arith) in
+        let p = scale_split (length t) (omega arith) in
         let j : length (take n t) ≡ n = length-take-le n t (omega arith) in
         let k : length (drop n t) ≡ length t - n = length-drop n t in
         let x = i (take n t) (omega arith) (every_take D n t h) in
@@ -197,7 +197,7 @@ pub cardinal_more : (s : List ℕ) → 3 < length s → length s ≤ 12
 unfolding by_scale
 cardinal_more s h m =
     let n = split_at (length s) in
-    let p = scale_split_lem (length s) h in
+    let p = scale_split (length s) h in
     let e : length (take n s) ≡ n = length-take-le n s (omega (arith, p.left)) in
     cardinal_long_digits s h ∙ join_parts (short_cardinal (take n s)) (scale (scale_for (length s))) (short_cardinal (drop n s))
     ∙ rw (zero_group_nil (take n s) (omega (arith, p.whole, p.right)) (omega (arith, p.left_short m)))
@@ -246,7 +246,7 @@ module _ (s : List ℕ) (h : HeldWriter) where
 pub parts_shorter : (s : List ℕ) (k : ℕ) → 3 < length s → k ≡ scale_for (length s)
     → (3 * k < length s) × (length (take (length s - 3 * k) s) < length s) × (length (drop (length s - 3 * k) s) < length s)
 parts_shorter s k h e =
-    let p = scale_split_lem (length s) h in
+    let p = scale_split (length s) h in
     let r : 3 * k < length s = rw e p.right in
     let l : length s - 3 * k < length s = rw e p.left in
     (r, omega (arith, length-take (length s - 3 * k) s), omega (arith, length-drop (length s - 3 * k) s))

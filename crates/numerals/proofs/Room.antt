@@ -17,7 +17,7 @@ use Rattle.numerals.specs.Words.{Word, one, hundred, scale, spell, spelled, cons
 use Rattle.numerals.specs.Cardinal.{digit_value, digit_values, pair_words, scale_for, join_at_scale, split_at, short_cardinal, cardinal_of, cardinal, digits}
 use Rattle.numerals.specs.Ordinal.{form_in, ordinal_form, or_zero, on_last, ordinal}
 use Rattle.numerals.specs.Walk.{BelowTen}
-use Rattle.numerals.proofs.Cardinal.{scale_split_lem, short_cardinal_induct, cardinal_of_elim, cardinal_2}
+use Rattle.numerals.proofs.Cardinal.{scale_split, short_cardinal_induct, cardinal_of_elim, cardinal_2}
 use Rattle.numerals.proofs.NumberWords.{NumberWord, number_word_test, cardinal_number_words, digit_values_below_ten}
 
 -- the bytes that words take in a line, with a space before each
@@ -104,7 +104,7 @@ short_room = short_cardinal_induct (λ d. d < 10) (λ n ws. n ≤ 12 → Room (2
   triple = λ a b c d e f l. omega (arith, one_room a d, hundred_room, pair_room b c e f);
   joined =
       λ n left right z h k l.
-      let p = scale_split_lem n z in
+      let p = scale_split n z in
       omega (arith, join_room left (scale (scale_for n)) right (h (omega arith)) (k (omega arith)), most_joined n z l);
 })
 

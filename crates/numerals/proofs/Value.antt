@@ -20,7 +20,7 @@ use Rattle.numerals.specs.Ordinal.{form_in, ordinal_form, or_zero, on_last, ordi
 use Rattle.numerals.specs.Value.{Meaning, adds, cardinal_meanings, ordinal_meanings, meaning_in, prepend, meanings_of, ordinal_meanings_of}
 use Rattle.numerals.specs.Value.{value_from, value_of, ordinal_value_of, decimal_from, decimal, meaning_of, words_value}
 use Rattle.numerals.proofs.Digits.{digit_values_commas}
-use Rattle.numerals.proofs.Cardinal.{scale_split_lem, cardinal_eq, cardinal_1}
+use Rattle.numerals.proofs.Cardinal.{scale_split, cardinal_eq, cardinal_1}
 use Rattle.numerals.proofs.NumberWords.{NumberWord, number_word_same, one_number_word, cardinal_number_words, digits_number_words}
 
 -- `value_from` for words by their kind
@@ -109,7 +109,7 @@ shorter_value (suc m) t (a ∷ b ∷ c ∷ d ∷ r) l h =
     let s = a ∷ b ∷ c ∷ d ∷ r in
     let i = split_at (length s) in
     let k = scale_for (length s) in
-    let p = scale_split_lem (length s) (omega arith) in
+    let p = scale_split (length s) (omega arith) in
     let u = t + decimal (take i s) * 1000 ^ k in
     rw (cardinal_eq (a ∷ b ∷ c ∷ d ∷ r))
     (join_value t k (take i s) (short_cardinal (drop i s)) (omega (arith, length-take i s, p.left_short h))

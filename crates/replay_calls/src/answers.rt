@@ -58,11 +58,11 @@ fn expected_in_case(case: usize, expected: CallAnswer) -> CallAnswer {
 }
 
 // What the case expects in the buffer.
-fn result_in_case(case: usize, res: &[u8]) -> &[u8] {
-    if is_short(case, res.len()) {
-        return front(res, 0);
+fn result_in_case(case: usize, whole: &[u8]) -> &[u8] {
+    if is_short(case, whole.len()) {
+        return front(whole, 0);
     }
-    res
+    whole
 }
 
 fn answer_of_sheet(s: &[u8], out: &mut [u8]) -> CallAnswer {
@@ -101,9 +101,9 @@ fn call_within(what: usize, s: &[u8], k: usize, room: usize, out: &mut [u8]) -> 
 }
 
 // Whether the result is at the front, and the margin past it is as it was.
-fn is_result(res: &[u8], looked_at: &[u8]) -> bool {
-    let n = res.len();
-    same(EXACT, front(looked_at, n), res) & is_untouched(tail(looked_at, n))
+fn is_result(whole: &[u8], looked_at: &[u8]) -> bool {
+    let n = whole.len();
+    same(EXACT, front(looked_at, n), whole) & is_untouched(tail(looked_at, n))
 }
 
 // Whether a call answers what is expected, and leaves just that in the buffer.
@@ -113,14 +113,14 @@ fn agrees(
     k: usize,
     expected: CallAnswer,
     s: &[u8],
-    res: &[u8],
+    whole: &[u8],
     out: &mut [u8],
 ) -> bool {
-    let looked_at = add_or_bad(res.len(), MARGIN);
+    let looked_at = add_or_bad(whole.len(), MARGIN);
     repeat(out, looked_at, GUARD);
-    let a = call_within(what, s, k, room(case, res.len()), out);
+    let a = call_within(what, s, k, room(case, whole.len()), out);
     a.is(expected_in_case(case, expected))
-        & is_result(result_in_case(case, res), front(out, looked_at))
+        & is_result(result_in_case(case, whole), front(out, looked_at))
 }
 
 // A call in every case.
@@ -130,13 +130,13 @@ pub fn compare_call(
     k: usize,
     expected: CallAnswer,
     s: &[u8],
-    res: &[u8],
+    whole: &[u8],
     out: &mut [u8],
 ) -> Report {
     let mut now = r;
     let mut case = 0;
     while case < CASES {
-        let agreed = agrees(case, what, k, expected, s, res, out);
+        let agreed = agrees(case, what, k, expected, s, whole, out);
         now = now.count(what, agreed);
         case += 1;
     }

@@ -130,6 +130,6 @@ kept_letters (b ∷ s) h =
     cond_elim (λ (t : List ℕ). all letter t ≡ true) (except (code ".") b) (λ e. rw (kept_letter b k.0 e, kept_letters s k.1)) (λ e. kept_letters s k.1)
 
 -- so each byte of a dotted abbreviation that is no point is read as one letter
-pub dotted_initials_lem : (s : List ℕ) → is_dotted_abbrev s ≡ true → letters (filter_if (except (code ".")) s) ≡ initials s
+pub dotted_initials : (s : List ℕ) → is_dotted_abbrev s ≡ true → letters (filter_if (except (code ".")) s) ≡ initials s
 unfolding initials
-dotted_initials_lem s e = letter_chars (filter_if (except (code ".")) s) (kept_letters s (dotted_bytes s e))
+dotted_initials s e = letter_chars (filter_if (except (code ".")) s) (kept_letters s (dotted_bytes s e))

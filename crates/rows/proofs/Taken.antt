@@ -90,10 +90,10 @@ module _ (p : ℕ → Bool) where
   all_onto b [] = and_assoc (p b) true true
   all_onto b (s ∷ ps) = and_assoc (p b) (all p s) (all (all p) ps)
 
-  all_parts_lem : (c : ℕ) → p c ≡ true → (s : List ℕ) → all (all p) (split c s) ≡ all p s
+  all_parts : (c : ℕ) → p c ≡ true → (s : List ℕ) → all (all p) (split c s) ≡ all p s
   unfolding split all
-  all_parts_lem c q [] = refl
-  all_parts_lem c q (b ∷ s) = go (eqb b c) refl (all_parts_lem c q s)
+  all_parts c q [] = refl
+  all_parts c q (b ∷ s) = go (eqb b c) refl (all_parts c q s)
     where
       go : (t : Bool) → eqb b c ≡ t → all (all p) (split c s) ≡ all p s → all (all p) (cond t ([] ∷ split c s) (onto b (split c s))) ≡ p b && all p s
       go true e i = i ∙ rw (eqb-true b c e, q)
@@ -123,7 +123,7 @@ pub dotted_bytes : (s : List ℕ) → is_dotted_abbrev s ≡ true → all dotted
 dotted_bytes s h =
     let core = strip_suffix (code ".") s in
     all_suffixed dotted_byte (code ".") s refl
-    (sym (all_parts_lem dotted_byte (code ".") refl core)
+    (sym (all_parts dotted_byte (code ".") refl core)
     ∙ all_within is_one_letter (all dotted_byte)
     (λ t k. all_within letter dotted_byte (λ b e. or_true_left (letter b) (eqb b (code ".")) e) t (one_letter t k)) (split (code ".") core)
     (dotted_letters s h))
@@ -173,7 +173,7 @@ comma_groups (s ∷ ps) h =
 
 -- a comma integer is digits and commas
 pub comma_bytes : (s : List ℕ) → is_comma_int s ≡ true → all digit_or_comma s ≡ true
-comma_bytes s h = sym (all_parts_lem digit_or_comma (code ",") refl s) ∙ comma_groups (split (code ",") s) h
+comma_bytes s h = sym (all_parts digit_or_comma (code ",") refl s) ∙ comma_groups (split (code ",") s) h
 
 -- it has a comma
 pub comma_needed : (s : List ℕ) → is_comma_int s ≡ true → elem (code ",") s ≡ true

@@ -26,17 +26,17 @@ SameTests n [] [] = Unit
 abbrev LaterRefusal : ℕ → ℕ → Type 0
 LaterRefusal n m = (m ≡ 0 → ⊥) → n < m
 
-later_refusal_lem : (n : ℕ) (a b : List Test) → SameTests n a b → LaterRefusal n (first_refusal a) × LaterRefusal n (first_refusal b)
-later_refusal_lem n (r when h ∷ a) (q when k ∷ b) e =
-    let l = later_refusal_lem (refusal_number r) a b e.2 in
+later_refusal : (n : ℕ) (a b : List Test) → SameTests n a b → LaterRefusal n (first_refusal a) × LaterRefusal n (first_refusal b)
+later_refusal n (r when h ∷ a) (q when k ∷ b) e =
+    let l = later_refusal (refusal_number r) a b e.2 in
     (go h (refusal_number r) (first_refusal a) e.0 l.0, go k (refusal_number q) (first_refusal b) (omega (arith, e.0, e.1)) (λ z. omega (arith, l.1 z, e.1)))
   where
     go : (t : Bool) (i m : ℕ) → n < i → LaterRefusal i m → LaterRefusal n (cond t i m)
     go true i m h l = λ z. h
     go false i m h l = λ z. omega (arith, l z, h)
-later_refusal_lem n (r when h ∷ a) [] e = absurd e
-later_refusal_lem n [] (q when k ∷ b) e = absurd e
-later_refusal_lem n [] [] e = (λ z. absurd (z refl), λ z. absurd (z refl))
+later_refusal n (r when h ∷ a) [] e = absurd e
+later_refusal n [] (q when k ∷ b) e = absurd e
+later_refusal n [] [] e = (λ z. absurd (z refl), λ z. absurd (z refl))
 
 -- so n is the smaller of n and m, and of n and n
 smaller_first : (n m : ℕ) → 0 < n → LaterRefusal n m → (smaller_refusal n m ≡ n) × (smaller_refusal m n ≡ n) × (smaller_refusal n n ≡ n)
@@ -53,7 +53,7 @@ smaller_first n (suc m) h l =
 
 either_refusal : (n : ℕ) (a b : List Test) → SameTests n a b → smaller_refusal (first_refusal a) (first_refusal b) ≡ first_refusal (either_holds a b)
 either_refusal n (r when h ∷ a) (q when k ∷ b) e =
-    let l = later_refusal_lem (refusal_number r) a b e.2 in
+    let l = later_refusal (refusal_number r) a b e.2 in
     let x = smaller_first (refusal_number r) (first_refusal a) (omega (arith, e.0)) l.0 in
     let y = smaller_first (refusal_number r) (first_refusal b) (omega (arith, e.0)) l.1 in
     rw (← e.1) (go (refusal_number r) (first_refusal a) (first_refusal b) h k x.2 y.0 x.1 (either_refusal (refusal_number r) a b e.2))

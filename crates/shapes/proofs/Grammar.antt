@@ -22,7 +22,7 @@ use Rattle.units.specs.Units.{unit_abbreviations, abbreviations, is_unit}
 use Rattle.shapes.specs.Shapes.{unit_at, has_unit, is_number_s, is_leading_zero_digits, split_once, is_phone_parts, is_seven_digit_phone, is_hour_minute, is_time, are_digits, is_digits_slash_digits}
 use Rattle.shapes.specs.Times.{ends_in_meridiem, separator_at, time_of, is_meridiem_time}
 use Rattle.shapes.specs.Grammar.{join_by, suffixes, TimeForm, PhoneForm, SlashedForm, CommaIntForm, LeadingZeroForm, IllionForm, NumberSForm, MeridiemForm, OrdinalForm, MoneyForm, UnitForm}
-use Rattle.shapes.specs.Grammar.{time, phone, slashed, comma_int, leading_zero, illion, number_s, meridiem_time, ordinal_number_lem, dollars, cents, measure}
+use Rattle.shapes.specs.Grammar.{time, phone, slashed, comma_int, leading_zero, illion, number_s, meridiem_time, ordinal_number, dollars, cents, measure}
 use Rattle.shapes.proofs.Laws.{digits_all, digits_some}
 
 -- ---- a text at its first separator
@@ -69,9 +69,9 @@ time_taken _ (time h m d l n t) =
     (rw (le-leb 1 (length h) (digits_some h d), le-leb (length h) 2 l, d, n, le-leb (get_or m 0 0) (code "5") t))
 
 -- is_time takes a text exactly when it has this form
-pub time_form_lem : (s : List ℕ) → (is_time s ≡ true) ↔ TimeForm s
+pub time_form : (s : List ℕ) → (is_time s ≡ true) ↔ TimeForm s
 unfolding is_hour_minute
-time_form_lem s = (
+time_form s = (
   λ e.
       let o = once_parts (code ":") is_hour_minute s e in
       let h = o.front in
@@ -89,8 +89,8 @@ phone_taken : (s : List ℕ) → PhoneForm s → is_seven_digit_phone s ≡ true
 phone_taken _ (phone a b p q) = once_taken (code "-") is_phone_parts a b (no_separator (code "-") refl a (n_digits 3 a p)) (rw (p, q))
 
 -- is_seven_digit_phone takes a text exactly when it has this form
-pub phone_form_lem : (s : List ℕ) → (is_seven_digit_phone s ≡ true) ↔ PhoneForm s
-phone_form_lem s = (
+pub phone_form : (s : List ℕ) → (is_seven_digit_phone s ≡ true) ↔ PhoneForm s
+phone_form s = (
   λ e.
       let o = once_parts (code "-") is_phone_parts s e in
       let p = (and-eq-true_iff (is_n_digits 3 o.front) (is_n_digits 4 o.rest)).0 o.passed in
@@ -102,8 +102,8 @@ slashed_taken : (s : List ℕ) → SlashedForm s → is_digits_slash_digits s �
 slashed_taken _ (slashed a b p q) = once_taken (code "/") are_digits a b (no_separator (code "/") refl a p) (rw (p, q))
 
 -- is_digits_slash_digits takes a text exactly when it has this form
-pub slashed_form_lem : (s : List ℕ) → (is_digits_slash_digits s ≡ true) ↔ SlashedForm s
-slashed_form_lem s = (
+pub slashed_form : (s : List ℕ) → (is_digits_slash_digits s ≡ true) ↔ SlashedForm s
+slashed_form s = (
   λ e.
       let o = once_parts (code "/") are_digits s e in
       let p = (and-eq-true_iff (is_digits o.front) (is_digits o.rest)).0 o.passed in
@@ -194,8 +194,8 @@ illion_taken _ (illion t) =
     rw (le-leb 6 (length (t ++ bytes "illion")) (omega arith), drop_at t (bytes "illion") (length (t ++ bytes "illion") - 6) (omega arith))
 
 -- is_illion takes a text exactly when it has this form
-pub illion_form_lem : (s : List ℕ) → (is_illion s ≡ true) ↔ IllionForm s
-illion_form_lem s = (
+pub illion_form : (s : List ℕ) → (is_illion s ≡ true) ↔ IllionForm s
+illion_form s = (
   λ e.
       let n = length s - 6 in
       let t = same_true (drop n s) (bytes "illion") ((and-eq-true_iff (leb 6 (length s)) (same (drop n s) (bytes "illion"))).0 e).1 in
@@ -283,8 +283,8 @@ meridiem_taken _ (meridiem_time h m x c p q e) =
     p
 
 -- a text is a time with am or pm exactly when it has this form
-pub meridiem_form_lem : (s : List ℕ) → (is_meridiem_time s ≡ true) ↔ MeridiemForm s
-meridiem_form_lem s = (
+pub meridiem_form : (s : List ℕ) → (is_meridiem_time s ≡ true) ↔ MeridiemForm s
+meridiem_form s = (
   λ e.
       let t = time_of s in
       let sep = separator_at t in
@@ -295,13 +295,13 @@ meridiem_form_lem s = (
       let w : take sep t ++ (get_or t sep 0 ∷ drop (sep + 1) t) ≡ t = sym (rw (← add-one sep) at (split_at t sep 0 l)) in
       subst MeridiemForm (ap (λ (r : List ℕ). r ++ x) w ∙ take-append-drop (length s - 2) s)
       (meridiem_time (take sep t) (drop (sep + 1) t) x (get_or t sep 0) b.1 (span_fails not_colon_or_point t l)
-      (last_two_lem (leb 2 (length s)) (same_by to_lower x (bytes "am")) (same_by to_lower x (bytes "pm")) a.0)),
+      (last_two (leb 2 (length s)) (same_by to_lower x (bytes "am")) (same_by to_lower x (bytes "pm")) a.0)),
   meridiem_taken s,
 )
   where
-    last_two_lem : (t u v : Bool) → ((t && u) || (t && v)) ≡ true → (u || v) ≡ true
-    last_two_lem true u v h = h
-    last_two_lem false u v h = absurd (false≢true h)
+    last_two : (t u v : Bool) → ((t && u) || (t && v)) ≡ true → (u || v) ≡ true
+    last_two true u v h = h
+    last_two false u v h = absurd (false≢true h)
 
 -- a comparison that lowers the first text compares with the lowered text
 same_lowered : (s t : List ℕ) → same_by to_lower s t ≡ same t (map to_lower s)
@@ -334,8 +334,8 @@ suffix_listed s =
 
 ordinal_taken : (s : List ℕ) → OrdinalForm s → is_ordinal s ≡ true
 unfolding is_ordinal
-ordinal_taken _ (ordinal_number_lem [] suf f h x) = absurd (false≢true f)
-ordinal_taken _ (ordinal_number_lem (b ∷ num) suf f h x) =
+ordinal_taken _ (ordinal_number [] suf f h x) = absurd (false≢true f)
+ordinal_taken _ (ordinal_number (b ∷ num) suf f h x) =
     let s = b ∷ num ++ suf in
     let suffix = suffix_listed suf ∙ x in
     let two = suffix_bytes suf suffix in
@@ -351,9 +351,9 @@ ordinal_taken _ (ordinal_number_lem (b ∷ num) suf f h x) =
     h
 
 -- is_ordinal takes a text exactly when it has this form
-pub ordinal_form_lem : (s : List ℕ) → (is_ordinal s ≡ true) ↔ OrdinalForm s
+pub ordinal_form : (s : List ℕ) → (is_ordinal s ≡ true) ↔ OrdinalForm s
 unfolding is_ordinal
-ordinal_form_lem s = (
+ordinal_form s = (
   λ e.
       let num = take (length s - 2) s in
       let suf = drop (length s - 2) s in
@@ -361,7 +361,7 @@ ordinal_form_lem s = (
       let p = (and-eq-true_iff (long && is_ordinal_suffix suf && digit (get_or num 0 0)) (all digit_or_comma num)).0 e in
       let q = (and-eq-true_iff (long && is_ordinal_suffix suf) (digit (get_or num 0 0))).0 p.0 in
       let x = ((and-eq-true_iff long (is_ordinal_suffix suf)).0 q.0).1 in
-      subst OrdinalForm (take-append-drop (length s - 2) s) (ordinal_number_lem num suf q.1 p.1 (sym (suffix_listed suf) ∙ x)),
+      subst OrdinalForm (take-append-drop (length s - 2) s) (ordinal_number num suf q.1 p.1 (sym (suffix_listed suf) ∙ x)),
   ordinal_taken s,
 )
 
@@ -410,9 +410,9 @@ amount_form s e = go (drop n s) refl p.1
         more false f h = absurd (omega (arith, eqb-true (suc (length d)) 0 h))
 
 -- is_us_money takes a text exactly when it has this form
-pub money_form_lem : (s : List ℕ) → (is_us_money s ≡ true) ↔ MoneyForm s
-money_form_lem [] = (λ e. absurd (false≢true e), money_taken [])
-money_form_lem (b ∷ s) = (
+pub money_form : (s : List ℕ) → (is_us_money s ≡ true) ↔ MoneyForm s
+money_form [] = (λ e. absurd (false≢true e), money_taken [])
+money_form (b ∷ s) = (
   λ e.
       let p = (and-eq-true_iff (starts_with (code "$") (b ∷ s)) (is_amount s)).0 e in
       let z : b ≡ code "$" = eqb-true b (code "$") (sym (starts_with_first (code "$") b s) ∙ p.0) in
@@ -455,9 +455,9 @@ unit_taken _ (measure n u d h k x) =
     x
 
 -- a name has a unit exactly when it has this form
-pub unit_form_lem : (s : List ℕ) → (has_unit s ≡ true) ↔ UnitForm s
+pub unit_form : (s : List ℕ) → (has_unit s ≡ true) ↔ UnitForm s
 unfolding has_unit
-unit_form_lem s = (
+unit_form s = (
   λ e.
       let n = unit_at s in
       let a = (and-eq-true_iff (not (eqb n 0) && all digit_or_comma (take n s)) (is_unit (drop n s))).0 e in

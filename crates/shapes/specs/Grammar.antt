@@ -56,7 +56,7 @@ suffixes = map bytes ("th" ∷ "st" ∷ "nd" ∷ "rd" ∷ [])
 
 -- digits and commas, a digit first, and a suffix in any case
 pub data OrdinalForm : List ℕ → Type 0 where
-  ordinal_number_lem : (num suf : List ℕ) → digit (get_or num 0 0) ≡ true → all digit_or_comma num ≡ true → listed (map to_lower suf) suffixes ≡ true
+  ordinal_number : (num suf : List ℕ) → digit (get_or num 0 0) ≡ true → all digit_or_comma num ≡ true → listed (map to_lower suf) suffixes ≡ true
       → OrdinalForm (num ++ suf)
 
 -- a dollar sign, then digits or commas; if there is a point, digits after it: "passes "$,""

@@ -61,13 +61,13 @@ module _ (s : List ℕ) (ws : List (List ℕ)) (store table : List ℕ) (accepte
   given = (words_call s ws store table).value
 
   -- none of its tests holds
-  pub none_held_lem : first_refusal (words_tests s ws store table) ≡ 0
+  pub none_held : first_refusal (words_tests s ws store table) ≡ 0
   unfolding words_call
-  none_held_lem = sym (call_number _ _ (first_refusal (words_tests s ws store table))) ∙ accepted
+  none_held = sym (call_number _ _ (first_refusal (words_tests s ws store table))) ∙ accepted
 
   result_written : given ≡ words_result ws store table
   unfolding words_call
-  result_written = ap (λ (n : ℕ). (call (no_words_result store table) n (words_result ws store table)).value) none_held_lem
+  result_written = ap (λ (n : ℕ). (call (no_words_result store table) n (words_result ws store table)).value) none_held
 
   -- its counts are those of the words and of their bytes
   pub counts_read : (given.words ≡ length ws) × (given.bytes ≡ length (flatten ws))

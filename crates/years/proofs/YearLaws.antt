@@ -164,9 +164,9 @@ lead_count_lem n = go (eqb (n % 2) 1) refl
     go false e = let k = eqb-false (n % 2) 1 e in omega arith
 
 -- "oh" in the vocabulary
-pub oh_word_lem : word_of others_at ≡ bytes "oh"
+pub oh_word : word_of others_at ≡ bytes "oh"
 unfolding unfold_vocabulary
-oh_word_lem = refl
+oh_word = refl
 
 -- a list of two is its two elements
 pub as_two : (s : List ℕ) → length s ≡ 2 → get_or s 0 0 ∷ get_or s 1 0 ∷ [] ≡ s

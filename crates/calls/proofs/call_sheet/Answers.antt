@@ -1,7 +1,7 @@
 use mathlib.Core.Path.{sym, ap, ◌∙◌}
 use native.Mathlib.Omega.{arith}
 use Rattle.calls.specs.Walk.{refused_sheet}
-use Rattle.calls.proofs.Answers.{sheet_refused, sheet_long, sheet_short, sheet_result_lem}
+use Rattle.calls.proofs.Answers.{sheet_refused, sheet_long, sheet_short, sheet_result}
 use Rattle.calls.proofs.call_sheet.Goals as goal
 
 pub returns-then-number-ne0 : goal.returns-then-number-ne0
@@ -22,6 +22,6 @@ returns-then-is_sheet_short c =
 
 pub returns : goal.returns
 returns c =
-    sheet_result_lem c.args.s.now c.args.out.now c.refusal_of-number.ensures c.if-number-ne0.false
+    sheet_result c.args.s.now c.args.out.now c.refusal_of-number.ensures c.if-number-ne0.false
     (sym c.has_long_name.ensures ∙ c.if-has_long_name.false) (sym c.is_sheet_short.ensures ∙ c.if-is_sheet_short.false)
     (omega arith) _ _ c.say_sheet-walk.ensures.0 c.say_sheet-walk.ensures.1

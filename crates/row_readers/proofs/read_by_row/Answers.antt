@@ -15,7 +15,7 @@ use Rattle.rows.specs.Rows.{clock, hour_of, minute_of, read_step}
 use Rattle.rows.proofs.Laws.{read_eq}
 use Rattle.rows.specs.declared.Row.TheVariants.{Empty, Dotted, CommaInt, Time}
 use Rattle.row_readers.specs.Walk.{rows_after}
-use Rattle.row_readers.proofs.Laws.{says_row, says_same, dotted_initials_lem}
+use Rattle.row_readers.proofs.Laws.{says_row, says_same, dotted_initials}
 use Rattle.row_readers.proofs.read_by_row.Goals as goal
 
 pub returns-then-name-eq0 : goal.returns-then-name-eq0
@@ -31,7 +31,7 @@ returns-then-is_dotted_abbrev c =
     c.outcome-then-is_dotted_abbrev.ensures.0
     (rw (
       c.outcome-then-is_dotted_abbrev.ensures.1,
-      dotted_initials_lem c.args.name.now (sym c.is_dotted_abbrev.ensures ∙ c.if-is_dotted_abbrev.true),
+      dotted_initials c.args.name.now (sym c.is_dotted_abbrev.ensures ∙ c.if-is_dotted_abbrev.true),
     )
     c.say_initials.ensures)
 

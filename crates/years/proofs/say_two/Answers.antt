@@ -5,7 +5,7 @@ use native.Mathlib.Omega.{arith}
 use Rattle.numerals.specs.Words.{one, other, spell}
 use Rattle.lists.specs.Bytes.{bytes}
 use Rattle.numerals.proofs.Said.{said_word, said_digit, says_more}
-use Rattle.years.proofs.YearLaws.{year_two, oh_word_lem}
+use Rattle.years.proofs.YearLaws.{year_two, oh_word}
 use Rattle.years.proofs.say_two.Goals as goal
 
 pub returns-then-a-ne0 : goal.returns-then-a-ne0
@@ -22,4 +22,4 @@ unfolding spell
 returns c =
     says_more (other (bytes "oh") ∷ []) (one c.args.b ∷ [])
     (year_two c.args.a c.args.b ∙ rw (eq-eqb _ _ c.if-a-ne0.false, ne_eqb _ _ c.if-b-eq0.false))
-    _ (said_word (other (bytes "oh")) _ (rw oh_word_lem at c.say-p-2.ensures)) (said_digit c.args.b c.requires.1.0 _ c.say-2.ensures)
+    _ (said_word (other (bytes "oh")) _ (rw oh_word at c.say-p-2.ensures)) (said_digit c.args.b c.requires.1.0 _ c.say-2.ensures)
