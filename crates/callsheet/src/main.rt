@@ -1,7 +1,8 @@
 // Reads a sheet from standard input, up to 4,096 bytes of it, and writes its call sheet, or one line with the refusal's number.
 #![tactic(auto)]
 
-ghost use Rattle.std.specs.Prelude.{◌≡◌, ◌+◌, ◌*◌, ◌≤◌, length};
+ghost use Rattle.std.specs.Prelude.{◌≡◌, ◌+◌, ◌*◌, ◌≤◌, length, take};
+ghost use Rattle.std.specs.Io.KnownBytes.{Consumes};
 
 use calls::call_sheet;
 use lists::front;
@@ -28,8 +29,9 @@ fn write_call(rt: &impl Print, sheet: &[u8], out: &mut [u8]) -> io::Result<()>
 
 // Reads until the sheet is full, the input ends or a read fails, and answers how many bytes it put at the front. What follows them
 // in the input stays unread.
-fn read_full(input: &mut impl Read, sheet: &mut [u8]) -> usize
-    ensures { result ≤ length sheet.new }
+fn read_full<R: Read>(input: &mut R, sheet: &mut [u8]) -> usize
+    ensures within { result ≤ length sheet.new }
+    ensures bytes { Consumes (R.remaining input.old) (R.remaining input.new) (take result sheet.new) }
 {
     let mut done = 0;
     while done < sheet.len() {
