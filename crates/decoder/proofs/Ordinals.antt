@@ -53,9 +53,9 @@ module _ (s : List ℕ) (p : plain s ≡ true) where
   before_suffix : length name - 2 ≡ length s
   before_suffix = omega (arith, length-append s u, suffix_two s)
 
-  clear_ordinal : is_ordinal name ≡ true
+  ordinal_name : is_ordinal name ≡ true
   unfolding is_ordinal same_by
-  clear_ordinal =
+  ordinal_name =
       let z = digits_some s (plain_digits s p) in
       rw (
         before_suffix,
@@ -72,7 +72,7 @@ module _ (s : List ℕ) (p : plain s ≡ true) where
   unfolding all
   words word =
       read_ordinal s u (plain_digits s p) (suffix_elim (λ u. all letter u ≡ true) refl refl refl refl s)
-      (suffix_elim (λ u. all double_byte u ≡ false) refl refl refl refl s) word clear_ordinal
+      (suffix_elim (λ u. all double_byte u ≡ false) refl refl refl refl s) word ordinal_name
       ∙ rw (before_suffix, take_at s u (length s) refl)
 
 -- ---- the forms

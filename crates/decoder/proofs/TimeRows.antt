@@ -105,8 +105,8 @@ module _ (h m x : List ℕ) (p : is_hour h ≡ true) (q : is_minute m ≡ true) 
   at : separator_at time ≡ length h
   at = colon_at not_colon_or_point refl digit_no_separator h m p
 
-  clear_meridiem : is_meridiem_time whole ≡ true
-  clear_meridiem =
+  meridiem_time : is_meridiem_time whole ≡ true
+  meridiem_time =
       rw (
         back,
         front,
@@ -126,7 +126,7 @@ module _ (h m x : List ℕ) (p : is_hour h ≡ true) (q : is_minute m ≡ true) 
       let e =
       outside (is_time whole) time_byte (code "m") whole (time_bytes whole) refl
       (elem_right (code "m") h (bytes ":" ++ (m ++ x)) (elem_right (code "m") (bytes ":" ++ m) x (am_pm_lowered x d).2)) in
-      step_eq word whole ∙ rw (a, b, c, e, clear_meridiem, front, back, at, take-append_seam h (bytes ":" ++ m), past_byte h 58 m)
+      step_eq word whole ∙ rw (a, b, c, e, meridiem_time, front, back, at, take-append_seam h (bytes ":" ++ m), past_byte h 58 m)
 
 -- ---- what is decoded
 
