@@ -2,13 +2,14 @@
 use mathlib.Core.Path.{◌≡◌, refl, sym, ap, ◌∙◌}
 use mathlib.Core.Bool.{true, false, or-false}
 use mathlib.Core.List.{List, [], ◌∷◌, ◌++◌}
+use Rattle.std.specs.Prelude.{Result, Ok, Err, IsErrAnd}
 use Prim.Native.Nat.{ℕ, zero, suc, ◌≤◌}
 use native.Mathlib.Omega.{arith}
 use lib.ListN.{length}
 use borrow.Author.Tests.{ltb-false, le-ltb, not-false}
 use Rattle.lists.specs.Bytes.{any, Every}
 use Rattle.admit.specs.Utf8.{utf8}
-use Rattle.admit.specs.Refusals.{refusal_number, Test, ◌when◌, first_refusal, text_tests, text_refusal, call}
+use Rattle.admit.specs.Refusals.{refusal_number, Test, ◌when◌, first_refusal, text_tests, text_refusal, call, answer_number, answered}
 use Rattle.admit.specs.declared.Refusal.{Refusal}
 use Rattle.admit.specs.declared.Refusal.TheVariants.{TextTooLong, NotUtf8, NoSuchEntry, NameTooLong, BufferTooShort}
 
@@ -81,6 +82,39 @@ pub none_refused : (tests : List Test) → first_refusal tests ≡ 0 → Every F
 none_refused [] h = tt
 none_refused (r when true ∷ tests) h = absurd (omega (arith, h, numbered r 1 ∙ ap (λ (n : ℕ). or_else n 1) h))
 none_refused (r when false ∷ tests) h = (refl, none_refused tests h)
+
+-- ---- calls that answer a `Result`
+
+-- `made` is what an earlier call answered, which made the tests a; the tests b follow
+module _ (a b : List Test) {T : Type 0} {made : Result T Refusal} (made_eq : answer_number made ≡ first_refusal a) where
+  -- if that call is refused, `?` leaves with its refusal
+  pub leaves_first : {A B : Type 0} (nothing given : B) (f : A → B) (result : Result A Refusal) {r : Refusal} → made ≡ Err r → IsErrAnd result (λ e. e ≡ r)
+      → answered nothing f result ≡ call nothing (first_refusal (a ++ b)) given
+  leaves_first {A = A} nothing given f result {r = r} e h = go result h
+    where
+      n : refusal_number r ≡ first_refusal a
+      n = sym (ap answer_number e) ∙ made_eq
+
+      go : (result : Result A Refusal) → IsErrAnd result (λ e. e ≡ r) → answered nothing f result ≡ call nothing (first_refusal (a ++ b)) given
+      go (Ok v) h = absurd h
+      go (Err q) h = rw (h, first_refusal_append a b, ← n) (left r)
+        where
+          left : (r : Refusal) → record { refusal = refusal_number r; value = nothing } ≡ call nothing (or_else (refusal_number r) (first_refusal b)) given
+          left TextTooLong = refl
+          left NotUtf8 = refl
+          left NoSuchEntry = refl
+          left NameTooLong = refl
+          left BufferTooShort = refl
+
+  -- if it is accepted, the tests b decide
+  pub decides_next : {v : T} → made ≡ Ok v → first_refusal (a ++ b) ≡ first_refusal b
+  decides_next e = passed_first a b made_eq (ap answer_number e)
+
+-- if a call is left by the `?` after another, the answers of both are the same
+pub leaves_same : {T A B : Type 0} (nothing : B) (f : T → B) (g : A → B) {made : Result T Refusal} (result : Result A Refusal) {r : Refusal}
+    → made ≡ Err r → IsErrAnd result (λ e. e ≡ r) → answered nothing g result ≡ answered nothing f made
+leaves_same nothing f g (Ok v) e h = absurd h
+leaves_same nothing f g (Err q) e h = rw (e, h)
 
 -- ---- one text
 

@@ -1,14 +1,18 @@
--- A text is UTF-8 exactly when it is the encoding of some Unicode scalar values. Assumes nothing.
+-- A text is UTF-8 exactly when it is the encoding of some Unicode scalar values, and that is what the library tests. Assumes nothing.
 use mathlib.Core.Path.{◌≡◌, refl, sym, ap, ap₂, ◌∙◌}
 use mathlib.Core.Bool.{Bool, true, false, ◌&&◌, ◌||◌, and-eq-true_iff, and-false, false≢true}
 use mathlib.Core.List.{List, [], ◌∷◌, ◌++◌, map, flatten}
 use mathlib.Core.Logic.{inl, inr, ⊎_elim, ◌↔◌}
 use Prim.Native.Nat.{ℕ, zero, suc, ◌+◌, ◌-◌, ◌*◌, ◌/◌, ◌≤◌, ◌<◌}
 use native.Mathlib.Omega.{arith}
-use lib.Dec.{eqb, leb}
+use lib.Dec.{eqb, leb, ltb}
 use lib.ListN.{length, take, drop, get_or, length-append, length-drop, take-append-drop}
 use lib.Seq.{drop-cons, take_all, take-append_seam, drop-append_seam}
 use borrow.Author.Tests.{leb-true, leb-false, le-leb, lt-leb, eqb-true, eqb-false, ne_eqb, lt-ltb, le-ltb, ltb-true}
+use lib.Utf8.{scalar, scalars, scalar_cases}
+use Rattle.std.specs.Prelude.{Result, Ok, Err, MatchResult, is_ok}
+use Rattle.std.specs.Char.{encode_utf8}
+use Rattle.std.specs.Str.{encode_utf8_all, IsUtf8}
 use Rattle.lists.specs.Bytes.{Every}
 use Rattle.lists.specs.Classes.{ascii}
 use Rattle.lists.proofs.Bools.{or_true_elim}
@@ -298,3 +302,55 @@ utf8_scalars s = (utf8_text s, λ t. rw t.2 (text_utf8 t.0 t.1))
 -- the characters of a UTF-8 text, joined, are the text
 pub utf8_chars_join : (s : List ℕ) → utf8 s ≡ true → flatten (utf8_chars s) ≡ s
 utf8_chars_join s h = let t = utf8_text s h in rw t.2 (ap flatten (text_chars t.0 t.1))
+
+-- ---- the library's words for the same
+
+le_lt : (n k : ℕ) → leb n k ≡ ltb n (suc k)
+le_lt n k = go (leb n k) refl
+  where
+    go : (t : Bool) → leb n k ≡ t → t ≡ ltb n (suc k)
+    go true e = sym (lt-ltb n (suc k) (omega (arith, leb-true n k e)))
+    go false e = sym (le-ltb n (suc k) (omega (arith, leb-false n k e)))
+
+-- a scalar value is encoded in the same way
+encode_is : (c : ℕ) → encode c ≡ encode_utf8 c
+unfolding encode encode_utf8
+encode_is c = rw (le_lt c 0x7F, le_lt c 0x7FF, le_lt c 0xFFFF)
+
+-- the scalar values are the same
+scalar_true : (c : ℕ) → Scalar c → scalar c ≡ true
+scalar_true c = ⊎_elim (λ h. rw (lt-ltb c 0xD800 (omega arith)))
+    (λ h. rw (le-ltb c 0xD800 (omega (arith, h.0)), le-leb 0xE000 c h.0, lt-ltb c 0x110000 (omega (arith, h.1))))
+
+true_scalar : (c : ℕ) → scalar c ≡ true → Scalar c
+true_scalar c h = ⊎_elim (λ k. inl (omega arith)) (λ k. inr (k.0, omega (arith, k.1))) (scalar_cases c h)
+
+scalars_true : (cs : List ℕ) → Every Scalar cs → scalars cs ≡ true
+scalars_true [] h = refl
+scalars_true (c ∷ cs) h = rw (scalar_true c h.0) (scalars_true cs h.1)
+
+true_scalars : (cs : List ℕ) → scalars cs ≡ true → Every Scalar cs
+true_scalars [] h = tt
+true_scalars (c ∷ cs) h = let k = (and-eq-true_iff (scalar c) (scalars cs)).0 h in (true_scalar c k.0, true_scalars cs k.1)
+
+text_is : (cs : List ℕ) → encode_utf8_all cs ≡ text_of cs
+unfolding flatten
+text_is [] = refl
+text_is (c ∷ cs) = rw (encode_is c, text_is cs)
+
+-- a text that is UTF-8 is so in the library's words, and the other way round
+pub utf8_library : (s : List ℕ) → (utf8 s ≡ true) ↔ IsUtf8 s
+utf8_library s = (
+  λ h. let t = utf8_text s h in (t.0, (scalars_true t.0 t.1, text_is t.0 ∙ sym t.2)),
+  λ t. rw (sym t.1.1 ∙ text_is t.0) (text_utf8 t.0 (true_scalars t.0 t.1.0)),
+)
+
+-- so the library's test accepts a text exactly if it is UTF-8
+pub utf8_tested : {T E : Type 0} (r : Result T E) (s : List ℕ) (P : T → Type 0) (Q : E → Type 0)
+    → MatchResult r (λ t. P t × IsUtf8 s) (λ e. ¬ (IsUtf8 s) × Q e) → is_ok r ≡ utf8 s
+utf8_tested (Ok t) s P Q h = sym ((utf8_library s).1 h.1)
+utf8_tested (Err e) s P Q h = go (utf8 s) refl
+  where
+    go : (t : Bool) → utf8 s ≡ t → false ≡ t
+    go true k = absurd (h.0 ((utf8_library s).0 k))
+    go false k = refl

@@ -1,18 +1,18 @@
 -- How the test of UTF-8 goes on: past one character, or past a run of ASCII. Assumes nothing.
-use mathlib.Core.Path.{◌≡◌, refl, ap, ◌∙◌}
+use mathlib.Core.Path.{◌≡◌, refl, sym, ap, ◌∙◌}
 use mathlib.Core.Bool.{Bool, true, false, cond, ◌&&◌, and_assoc, and-true}
 use mathlib.Core.List.{List, [], ◌∷◌}
-use Prim.Native.Nat.{ℕ, zero, suc, ◌+◌, ◌≤◌, ◌<◌}
+use Prim.Native.Nat.{ℕ, zero, suc, ◌≤◌, ◌<◌}
 use native.Mathlib.Omega.{arith}
 use lib.Dec.{eqb}
-use lib.ListN.{length, take, drop, get_or, length-drop, drop_of_length-le}
-use lib.Seq.{drop-drop, take-length, take-add}
+use lib.ListN.{length, take, drop, length-drop}
+use lib.Seq.{take-length}
 use borrow.Author.Tests.{ne_eqb, eqb-false}
+use Rattle.std.specs.List.{fold}
 use Rattle.lists.specs.Bytes.{all}
 use Rattle.lists.proofs.Recursion.{Local, recur_eq, cond_cong}
-use Rattle.lists.proofs.Scan.{all_more, all_append}
 use Rattle.lists.specs.Classes.{ascii}
-use Rattle.admit.specs.Utf8.{sequence_len, char_len, utf8_step, utf8, utf8_chars_step, utf8_chars, Passed}
+use Rattle.admit.specs.Utf8.{sequence_len, char_len, utf8_step, utf8, utf8_chars_step, utf8_chars}
 
 -- a step that goes on after the character at the front reads only shorter texts again
 char_step_local : {A : Type 0} (x y : A) (f : List ℕ → A → A)
@@ -75,19 +75,8 @@ utf8_run (suc n) (a ∷ s) h = go (ascii a) refl h (utf8_run n s)
 pub utf8_all : (s : List ℕ) → all ascii s ≡ true → utf8 s ≡ true
 utf8_all s h = utf8_run (length s) s (rw take-length h) ∙ utf8_end s (length s) (omega arith)
 
--- what the test for ASCII keeps: the result for the bytes so far, and the bytes that are left
-pub ascii_more : (ok : Bool) (s : List ℕ) (i : ℕ) → i < length s → (ok && all ascii (drop i s)) ≡ ((ok && ascii (get_or s i 0)) && all ascii (drop (i + 1) s))
-ascii_more ok s i h = rw (all_more ascii s i h, and_assoc ok (ascii (get_or s i 0)) (all ascii (drop (i + 1) s)))
-
--- at the end no bytes are left, and that result is the answer
-pub ascii_end : (ok : Bool) (s : List ℕ) (i : ℕ) → length s ≤ i → (ok && all ascii (drop i s)) ≡ ok
+-- a fold that joins what each byte answers
+pub all_folded : (p : ℕ → Bool) (ok : Bool) (s : List ℕ) → fold (λ ok b. ok && p b) ok s ≡ (ok && all p s)
 unfolding all
-ascii_end ok s i h = rw (drop_of_length-le s {i = i} h) (and-true ok)
-
--- after a step of n bytes at place i the test goes on at i + n
-pub utf8_on : (s : List ℕ) (i n : ℕ) → i < length s → Passed (drop i s) n → utf8 (drop i s) ≡ cond (eqb n 0) false (utf8 (drop (i + n) s))
-utf8_on s i n h p = p.decides (simp length-drop (omega arith)) ∙ rw drop-drop
-
--- two runs of ASCII, one after the other, are one run
-pub ascii_runs : (s : List ℕ) (i n : ℕ) → all ascii (take i s) ≡ true → all ascii (take n (drop i s)) ≡ true → all ascii (take (i + n) s) ≡ true
-ascii_runs s i n h k = rw (take-add, all_append, h) k
+all_folded p ok [] = sym (and-true ok)
+all_folded p ok (b ∷ s) = all_folded p (ok && p b) s ∙ and_assoc ok (p b) (all p s)

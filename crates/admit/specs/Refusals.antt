@@ -1,11 +1,9 @@
 -- Document 01, "Calls held back": the refusals, their numbers, the tests of a call, and what a refused call answers. Definitions only.
-use Rattle.std.specs.Prelude.{Bool, true, cond, not, ◌&&◌, List, [], ◌∷◌, ℕ, zero, suc, ltb, length}
+use Rattle.std.specs.Prelude.{Bool, true, cond, not, ◌&&◌, List, [], ◌∷◌, ℕ, zero, suc, ltb, length, Result, Ok, Err}
 use Rattle.lists.specs.Bytes.{any}
 use Rattle.admit.specs.Utf8.{utf8}
 use Rattle.admit.specs.declared.Refusal.{Refusal}
 use Rattle.admit.specs.declared.Refusal.TheVariants.{TextTooLong, NotUtf8, NoSuchEntry, NameTooLong, BufferTooShort}
-use Rattle.admit.specs.declared.Answer.{Answer}
-use Rattle.admit.specs.declared.Answer.TheVariants.{Accepted, Refused}
 
 -- the column "No." of the table
 abbrev pub refusal_number : Refusal → ℕ
@@ -16,9 +14,9 @@ refusal_number NameTooLong = 4
 refusal_number BufferTooShort = 5
 
 -- the number that a call answers, 0 if it is accepted
-abbrev pub answer_number : Answer → ℕ
-answer_number Accepted = 0
-answer_number (Refused r) = refusal_number r
+abbrev pub answer_number : {A : Type 0} → Result A Refusal → ℕ
+answer_number (Ok a) = 0
+answer_number (Err r) = refusal_number r
 
 -- a test of a call: a refusal, and whether its condition holds, as in the table's column "When"
 infix 70 ◌when◌
@@ -74,3 +72,8 @@ pub record Call (A : Type 0) : Type 0 where
 abbrev pub call : {A : Type 0} → A → ℕ → A → Call A
 call nothing zero given = record { refusal = zero; value = given }
 call nothing (suc n) given = record { refusal = suc n; value = nothing }
+
+-- the answer r in that form: `given` has the values of an accepted call, and `nothing` is the value of a refused one
+abbrev pub answered : {A B : Type 0} → B → (A → B) → Result A Refusal → Call B
+answered nothing given (Ok a) = record { refusal = 0; value = given a }
+answered nothing given (Err r) = record { refusal = refusal_number r; value = nothing }

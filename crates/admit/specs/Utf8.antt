@@ -1,6 +1,6 @@
 -- UTF-8 as the table of byte sequences in RFC 3629, section 4, has it. Definitions only.
 -- A byte past the end reads as 0. That is no tail byte, so a character that is cut off needs no case of its own.
-use Rattle.std.specs.Prelude.{◌≡◌, Bool, true, false, cond, ◌&&◌, ◌||◌, List, [], ◌∷◌, ℕ, ◌+◌, ◌≤◌, ◌<◌, leb, eqb, length, take, drop, get_or}
+use Rattle.std.specs.Prelude.{Bool, true, false, cond, ◌&&◌, ◌||◌, List, [], ◌∷◌, ℕ, leb, eqb, length, take, drop, get_or}
 use Rattle.lists.specs.Classes.{ascii}
 use Rattle.lists.specs.Recur.{recur}
 
@@ -50,11 +50,3 @@ utf8_chars_step rest s = cond (eqb (length s) 0) [] (cond (eqb (char_len s) 0) [
 
 unfoldable pub utf8_chars : List ℕ → List (List ℕ)
 utf8_chars = recur [] utf8_chars_step
-
--- ---- no public promise is made of these
-
--- what a step at the front of s answers: n bytes are passed, and s is UTF-8 exactly if what follows them is; or n is 0, and s is not
--- UTF-8. n is bounded, so that it can be added to an index without overflow
-pub record Passed (s : List ℕ) (n : ℕ) : Type 0 where
-  pub bounded : n ≤ length s + 4
-  pub decides : 0 < length s → utf8 s ≡ cond (eqb n 0) false (utf8 (drop n s))

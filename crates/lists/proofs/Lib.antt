@@ -1,8 +1,9 @@
+pub mod Library
 pub mod Bools
 pub mod Scan
 pub mod Parts
 pub mod Sets
 pub mod Table
 pub mod Recursion
-pub mod Packed
+pub mod LittleEndian
 pub mod Every

@@ -4,16 +4,14 @@ use mathlib.Core.Path.{◌≡◌, refl, sym, ◌∙◌}
 use mathlib.Core.Bool.{Bool, true, false, cond, not, ◌||◌}
 use mathlib.Core.List.{List, [], ◌∷◌}
 use Prim.Native.Nat.{ℕ, zero, suc, ◌+◌, ◌≤◌, ◌<◌, min}
-use native.Mathlib.Nat.{add-zero}
 use native.Mathlib.Numerals.{add-one}
 use native.Mathlib.Omega.{arith}
 use lib.Dec.{eqb, leb, ltb, leb-suc-suc}
 use lib.ListN.{length, take, drop}
-use lib.Seq.{take_all, take-length}
+use lib.Seq.{take_all}
 use borrow.Author.Tests.{ltb-true, ltb-false, lt-ltb, le-leb}
 use Rattle.lists.specs.Bytes.{span, elem, split, onto, all, non_empty, any}
 use Rattle.lists.specs.Classes.{except}
-use Rattle.lists.proofs.Scan.{span_le}
 
 -- there is always a part
 pub split_some : (c : ℕ) (s : List ℕ) → 0 < length (split c s)
@@ -70,17 +68,6 @@ parts_fail p c s f = go (ltb (span (except c) s) (length s)) refl
     go true e = rw (split_more c s (ltb-true _ _ e), f)
     go false e = rw (split_last c s (ltb-false _ _ e), ← take_all (span (except c) s) s (ltb-false _ _ e), f)
 
--- if the first part passes and is the last, all parts pass
-pub parts_end : (p : List ℕ → Bool) (c : ℕ) (s : List ℕ) → p (take (span (except c) s) s) ≡ true → length s ≤ span (except c) s → all p (split c s) ≡ true
-unfolding all
-parts_end p c s f h = let q : p s ≡ true = rw (take_all (span (except c) s) s h) at f in rw (split_last c s h, q)
-
--- if the first part passes and others follow, these decide
-pub parts_more : (p : List ℕ → Bool) (c : ℕ) (s : List ℕ) → p (take (span (except c) s) s) ≡ true → span (except c) s < length s
-    → all p (split c s) ≡ all p (split c (drop (span (except c) s + 1) s))
-unfolding all
-parts_more p c s f h = rw (split_more c s h, f)
-
 -- a separator stands in the text exactly if a scan for it stops before the end
 pub elem_span : (c : ℕ) (s : List ℕ) → elem c s ≡ ltb (span (except c) s) (length s)
 unfolding any span
@@ -97,18 +84,3 @@ unfolding non_empty
 non_empty_front zero s ps h = omega arith
 non_empty_front (suc n) [] ps h = absurd (omega arith)
 non_empty_front (suc n) (b ∷ s) ps h = omega arith
-
--- if there is a separator, the parts that are not empty are counted: the first part, and then the others
-pub non_empty_more : (c : ℕ) (s : List ℕ) (n : ℕ) → n ≡ span (except c) s → n < length s
-    → length (non_empty (split c s)) ≡ min n 1 + length (non_empty (split c (drop (n + 1) s)))
-non_empty_more c s n e h = let l : span (except c) s < length s = omega arith in
-    rw (split_more c s l, ← e) (non_empty_front n s (split c (drop (n + 1) s)) (omega arith))
-
--- if there is no separator, the only part is counted if it is not empty
-pub non_empty_end : (c : ℕ) (s : List ℕ) (n : ℕ) → n ≡ span (except c) s → length s ≤ n → length (non_empty (split c s)) ≡ min n 1
-unfolding non_empty
-non_empty_end c s n e h =
-    let m : n ≡ length s = omega (arith, span_le (except c) s) in
-    let l : length s ≤ span (except c) s = omega arith in
-    let f = non_empty_front n s [] (omega arith) in
-    rw (split_last c s l) (rw (m, take-length) at f ∙ rw (m, add-zero))

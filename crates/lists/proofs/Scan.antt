@@ -1,5 +1,4 @@
--- Laws of `all`, `span`, `count_if`, `filter_if`, `after_last` and `same_by`, many of them for loops with an index. They hold for every
--- test. Assumes nothing.
+-- Laws of `all`, `span`, `count_if`, `filter_if`, `after_last` and `same_by`. They hold for every test. Assumes nothing.
 use mathlib.Core.Path.{◌≡◌, refl, sym, ap, ◌∙◌}
 use mathlib.Core.Bool.{Bool, true, false, cond, ◌&&◌, and-false, and_assoc, and-eq-true_iff, true≢false, ◌||◌, or_assoc, or-false}
 use mathlib.Core.List.{List, [], ◌∷◌, ◌++◌}
@@ -8,50 +7,17 @@ use native.Mathlib.Nat.{add-zero}
 use native.Mathlib.Numerals.{add-one}
 use native.Mathlib.Omega.{arith}
 use lib.Dec.{eqb}
-use lib.ListN.{length, take, drop, get_or, length-drop, take-append-drop, drop_of_length-le, get_or-eq_default}
-use lib.Seq.{drop-cons, take_all, take-suc, length-take-le}
+use lib.ListN.{length, take, drop, get_or, length-drop, take-append-drop}
+use lib.Seq.{drop-cons, take_all}
 use borrow.Author.Tests.{eqb-true, ne_eqb}
 use Rattle.lists.specs.Classes.{one_of}
 use Rattle.lists.proofs.Bools.{or_true_elim}
-use Rattle.lists.specs.Bytes.{all, any, span, count_if, filter_if, after_last, same_by, starts_with}
+use Rattle.lists.specs.Bytes.{all, any, span, filter_if, after_last, same_by, starts_with}
 
-module _ (p : ℕ → Bool) (s : List ℕ) (i : ℕ) where
-  -- what a loop keeps: the bytes before i passed
-  abbrev pub Kept : Type 0
-  Kept = (i ≤ length s) × (all p s ≡ all p (drop i s))
-
-  -- the bytes from i on pass exactly if the byte at i and those after it do
-  pub all_more : i < length s → all p (drop i s) ≡ p (get_or s i 0) && all p (drop (i + 1) s)
-  unfolding all
-  all_more h = rw (add-one, drop-cons s i 0)
-
-  -- if the byte at i fails, not all bytes pass
-  pub all_fails : Kept → i < length s → p (get_or s i 0) ≡ false → false ≡ all p s
-  all_fails k h e = rw (k.1, all_more h, e)
-
-  -- at the end all bytes have passed
-  pub all_end : Kept → length s ≤ i → true ≡ all p s
-  unfolding all
-  all_end k h = rw (k.1, drop_of_length-le s)
-
--- if the byte at i passes, the bytes before i + 1 passed
-pub all_next : (p : ℕ → Bool) (s : List ℕ) (i : ℕ) → Kept p s i → i < length s → p (get_or s i 0) ≡ true → Kept p s (i + 1)
-all_next p s i k h e = (omega arith, k.1 ∙ rw (all_more p s i h, e))
-
--- if the byte at i passes, a scan that goes on at i + 1 gives the same answer
-pub span_more : (p : ℕ → Bool) (s : List ℕ) (i : ℕ) → i < length s → p (get_or s i 0) ≡ true → i + span p (drop i s) ≡ (i + 1) + span p (drop (i + 1) s)
-unfolding span
-span_more p s i h e = rw (add-one, drop-cons s i 0, e) (omega arith)
-
--- a scan stops at a byte that fails
-pub span_stop : (p : ℕ → Bool) (s : List ℕ) (i : ℕ) → i < length s → p (get_or s i 0) ≡ false → i + span p (drop i s) ≡ i
-unfolding span
-span_stop p s i h e = rw (drop-cons s i 0, e) (omega arith)
-
--- a scan stops at the end
-pub span_end : (p : ℕ → Bool) (s : List ℕ) (i : ℕ) → length s ≤ i → i + span p (drop i s) ≡ i
-unfolding span
-span_end p s i h = rw (drop_of_length-le s) (omega arith)
+-- the bytes from i on pass exactly if the byte at i and those after it do
+pub all_more : (p : ℕ → Bool) (s : List ℕ) (i : ℕ) → i < length s → all p (drop i s) ≡ p (get_or s i 0) && all p (drop (i + 1) s)
+unfolding all
+all_more p s i h = rw (add-one, drop-cons s i 0)
 
 -- a scan passes no more bytes than there are
 pub span_le : (p : ℕ → Bool) (s : List ℕ) → span p s ≤ length s
@@ -63,23 +29,8 @@ span_le p (b ∷ s) = go (p b) (span_le p s)
     go true h = omega arith
     go false h = omega arith
 
--- what a count keeps: n bytes are counted before i, the byte at i adds 1 if it passes, and the rest is still to be counted
-pub count_if_more : (p : ℕ → Bool) (s : List ℕ) (i n : ℕ) → i < length s → count_if p s ≡ n + count_if p (drop i s)
-    → count_if p s ≡ (n + cond (p (get_or s i 0)) 1 0) + count_if p (drop (i + 1) s)
-unfolding count_if
-count_if_more p s i n h e = e ∙ rw (add-one, drop-cons s i 0) (go (p (get_or s i 0)))
-  where
-    go : (t : Bool) → n + cond t (suc (count_if p (drop (suc i) s))) (count_if p (drop (suc i) s)) ≡ (n + cond t 1 0) + count_if p (drop (suc i) s)
-    go true = omega arith
-    go false = omega arith
-
--- at the end n is the whole count
-pub count_if_end : (p : ℕ → Bool) (s : List ℕ) (i n : ℕ) → length s ≤ i → count_if p s ≡ n + count_if p (drop i s) → n ≡ count_if p s
-unfolding count_if
-count_if_end p s i n h e = sym (e ∙ rw (drop_of_length-le s) (omega arith))
-
 -- one more byte at the end
-last_snoc : (p : ℕ → Bool) (s : List ℕ) (x : ℕ) → after_last p (s ++ (x ∷ [])) ≡ cond (p x) (suc (length s)) (after_last p s)
+pub last_snoc : (p : ℕ → Bool) (s : List ℕ) (x : ℕ) → after_last p (s ++ (x ∷ [])) ≡ cond (p x) (suc (length s)) (after_last p s)
 unfolding after_last
 last_snoc p [] x = refl
 last_snoc p (y ∷ s) x = rw (last_snoc p s x) (go (p x))
@@ -89,15 +40,6 @@ last_snoc p (y ∷ s) x = rw (last_snoc p s x) (go (p x))
         (suc (suc (length s))) (cond (eqb (after_last p s) 0) (cond (p y) 1 0) (suc (after_last p s)))
     go true = rw (ne_eqb (suc (length s)) 0 (omega arith))
     go false = refl
-
--- a scan from the end stops at i if the byte before i passes, and otherwise goes on with the first i - 1 bytes
-pub last_more : (p : ℕ → Bool) (s : List ℕ) (i : ℕ) → 0 < i → i ≤ length s
-    → after_last p (take i s) ≡ cond (p (get_or s (i - 1) 0)) i (after_last p (take (i - 1) s))
-last_more p s zero z h = absurd (omega arith)
-last_more p s (suc i) z h =
-    let e : length (take i s) ≡ i = length-take-le i s (omega arith) in
-    let d : suc i - 1 ≡ i = omega arith in
-    rw (d, take-suc s i 0) (rw e at (last_snoc p (take i s) (get_or s i 0)))
 
 -- the bytes after the last one that passes p fail p, and so pass every q that follows from this
 pub last_rest : (p q : ℕ → Bool) → ((b : ℕ) → p b ≡ false → q b ≡ true) → (s : List ℕ) → all q (drop (after_last p s) s) ≡ true
@@ -110,17 +52,6 @@ last_rest p q f (b ∷ s) = go (after_last p s) (p b) refl (last_rest p q f s)
     go zero false e h = rw (f b e, h)
     go (suc n) t e h = rw (ne_eqb (suc n) 0 (omega arith)) h
 
--- a comparison from place i on compares the bytes there, and then what follows
-pub same_more : (f : ℕ → ℕ) (x y : List ℕ) (i : ℕ) → i < length x → i < length y
-    → same_by f (drop i x) (drop i y) ≡ eqb (f (get_or x i 0)) (get_or y i 0) && same_by f (drop (i + 1) x) (drop (i + 1) y)
-unfolding same_by
-same_more f x y i h k = rw (add-one, drop-cons x i 0, drop-cons y i 0)
-
--- past the end of both texts nothing is left to differ
-pub same_end : (f : ℕ → ℕ) (x y : List ℕ) (i : ℕ) → length x ≤ i → length y ≤ i → same_by f (drop i x) (drop i y) ≡ true
-unfolding same_by
-same_end f x y i h k = rw (drop_of_length-le x h, drop_of_length-le y k)
-
 -- texts of different lengths are not the same
 pub same_long : (f : ℕ → ℕ) (x y : List ℕ) → (length x ≡ length y → ⊥) → same_by f x y ≡ false
 unfolding same_by
@@ -128,10 +59,6 @@ same_long f [] [] n = absurd (n refl)
 same_long f [] (y ∷ ys) n = refl
 same_long f (x ∷ xs) [] n = refl
 same_long f (x ∷ xs) (y ∷ ys) n = rw (same_long f xs ys (λ e. n (ap suc e))) (and-false (eqb (f x) y))
-
--- a read past the end gives 0
-pub get_or_past : (s : List ℕ) (i : ℕ) → length s ≤ i → 0 ≡ get_or s i 0
-get_or_past s i h = sym (get_or-eq_default s 0 h)
 
 -- what f gives of two texts joined is what it gives of each, joined
 abbrev pub ByParts : {A : Type 0} → (List ℕ → List A) → Type 0
@@ -277,14 +204,6 @@ unfolding span
 span_some p [] h e = absurd (omega arith)
 span_some p (b ∷ s) h e = rw e (omega arith)
 
--- if a scan goes to the end, all bytes pass
-pub span_full : (p : ℕ → Bool) (s : List ℕ) → length s ≤ span p s → all p s ≡ true
-span_full p s h = go (all p s) refl
-  where
-    go : (t : Bool) → all p s ≡ t → all p s ≡ true
-    go true e = e
-    go false e = let k : span p s < length s = span_short p s e in absurd (omega arith)
-
 -- the place after the last byte that passes is not past the end
 pub last_le : (p : ℕ → Bool) (s : List ℕ) → after_last p s ≤ length s
 unfolding after_last
@@ -404,7 +323,3 @@ found_left : (t : Bool) (cs : List ℕ) (b : ℕ) → found_in t cs b ≡ t || o
 unfolding any
 found_left t [] b = sym (or-false t)
 found_left t (c ∷ cs) b = rw (found_left (t || eqb b c) cs b) (or_assoc t (eqb b c) (one_of cs b))
-
--- the code's tests from the left find the bytes that `one_of` finds
-pub from_left : (cs : List ℕ) (b : ℕ) → found_in false cs b ≡ one_of cs b
-from_left cs b = found_left false cs b

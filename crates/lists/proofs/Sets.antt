@@ -9,8 +9,12 @@ use lib.Dec.{leb}
 use mathlib.Core.Bool.{Bool, true, false}
 use native.Mathlib.Numerals.{add-one}
 use native.Mathlib.Omega.{arith}
-use lib.ListN.{length, take, drop, get_or, set, length-set}
-use lib.Seq.{sets, sets-eq, set_out, take-nil, take_all, take-suc, take-append_seam, drop-append_seam}
+use mathlib.Core.List.{append-nil}
+use lib.ListN.{length, take, drop, get_or, set, length-set, drop_of_length-le}
+use lib.Seq.{sets, paste, sets-eq, set_out, take-nil, take_all, take-suc, take-append_seam, drop-append_seam}
+use lib.Seq.{length-take-le}
+use borrow.Rule.Slice.PartMut.{put_mid}
+use Rattle.std.proofs.lemmas.Slice.{put_mid-paste}
 use Rattle.lists.specs.Bytes.{overwrite}
 
 -- what a comparison of two numbers says
@@ -52,6 +56,30 @@ sets_clip l i (a ∷ vs) (suc k) h = sets_clip (set l i a) (suc i) vs k (omega (
 pub sets_min : (l : List ℕ) (i : ℕ) (vs : List ℕ) (k : ℕ) → k ≡ min (length vs) (length l - i) → sets l i (take k vs) ≡ sets l i vs
 sets_min l i vs k e =
     ⊎_elim (λ (h : length vs ≤ k). ap (sets l i) (take_all k vs h)) (λ (h : k < length vs). sets_clip l i vs k (omega arith)) (le_or_lt (length vs) k)
+
+-- a write to the part of the list from the place on, as far as it has the bytes, is a store that stops at the list's end
+pub put_is : (l vs ys : List ℕ) (i a k k' : ℕ) → a ≡ min i (length l) → k ≡ min (length vs) (length l - a) → k' ≡ k → ys ≡ take k vs
+    → put_mid a k' l ys ≡ sets l i vs
+put_is l vs ys i a k k' start room same stored =
+    put_mid-paste a k' l ys (take k vs) k stored (sym same) (sym full) ∙ ⊎_elim within outside (le_or_lt i (length l))
+  where
+    full : length (take k vs) ≡ k
+    full = length-take-le k vs (omega arith)
+
+    within : i ≤ length l → paste l a (take k vs) k ≡ sets l i vs
+    within h =
+        let e : a ≡ i = omega arith in
+        let fits : i + length (take k vs) ≤ length l = omega (arith, full) in
+        rw (e, take_all k (take k vs) (omega (arith, full)))
+        (sym (rw full at (sets-eq (take k vs) l i fits)) ∙ sets_min l i vs k (omega arith))
+
+    outside : length l < i → paste l a (take k vs) k ≡ sets l i vs
+    outside h =
+        let e : a ≡ length l = omega arith in
+        let z : k ≡ 0 = omega arith in
+        let all : length l ≤ length l = omega arith in
+        rw (e, z, take_all (length l) l all, add-zero, drop_of_length-le l all)
+        (simp append-nil (sym (sets_out l i vs (omega arith))))
 
 -- a run that fits is stored over the front of the list
 pub sets_front : (l vs : List ℕ) → length vs ≤ length l → sets l 0 vs ≡ overwrite vs l

@@ -1,7 +1,7 @@
--- The classes of bytes that a scan is given by number. Definitions only.
-use Rattle.std.specs.Prelude.{Bool, true, false, not, ◌&&◌, ◌||◌, List, [], ◌∷◌, ℕ, leb, ltb, eqb, get_or}
+-- The classes of bytes. Definitions only.
+use Rattle.std.specs.Prelude.{Bool, not, ◌&&◌, ◌||◌, List, ℕ, leb, ltb, eqb}
 use Prim.Native.Char.{code}
-use Rattle.lists.specs.Bytes.{bytes, any, uppercase, lowercase, to_lower}
+use Rattle.lists.specs.Bytes.{bytes, any, uppercase, lowercase}
 
 -- a byte that is a character by itself
 abbrev pub ascii : ℕ → Bool
@@ -22,12 +22,20 @@ digit_or_comma b = digit b || eqb b (code ",")
 abbrev pub roman_tail : ℕ → Bool
 roman_tail b = eqb b (code "V") || eqb b (code "I") || eqb b (code "X")
 
+-- a colon or a point
+abbrev pub colon_or_point : ℕ → Bool
+colon_or_point b = eqb b (code ":") || eqb b (code ".")
+
 -- neither a colon nor a point
 abbrev pub not_colon_or_point : ℕ → Bool
 not_colon_or_point b = not (eqb b (code ":") || eqb b (code "."))
 
 abbrev pub except : ℕ → ℕ → Bool
 except c b = not (eqb b c)
+
+-- e and E
+abbrev pub letter_e : ℕ → Bool
+letter_e b = eqb b (code "e") || eqb b (code "E")
 
 -- neither e nor E
 abbrev pub not_e : ℕ → Bool
@@ -78,18 +86,3 @@ digit_or_dash b = digit b || eqb b (code "-")
 
 abbrev pub non_digit : ℕ → Bool
 non_digit b = not (digit b)
-
--- the classes by number; only `except` and `only` use c
-abbrev pub classes : ℕ → List (ℕ → Bool)
-classes c =
-    ascii ∷ digit ∷ letter ∷ digit_or_comma ∷ digit_or_dash ∷ roman_tail ∷ not_colon_or_point ∷ except c
-    ∷ non_digit ∷ not_e ∷ continuation ∷ whitespace ∷ non_whitespace ∷ prepunctuation_mark ∷ non_postpunctuation ∷ only c ∷ []
-
--- the class of number k; if there is none, no byte is in it
-abbrev pub in_class : ℕ → ℕ → ℕ → Bool
-in_class k c = get_or (classes c) k (λ b. false)
-
--- what a comparison does to each byte of its first text: A to Z are lowered, or nothing
-abbrev pub folded : Bool → ℕ → ℕ
-folded true = to_lower
-folded false = λ b. b

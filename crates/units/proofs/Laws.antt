@@ -1,22 +1,23 @@
 -- No other text has the key of an abbreviation, the vocabulary has each word, and a look-up goes row by row. Assumes nothing.
 use mathlib.Core.Path.{◌≡◌, refl, sym, ap, ◌∙◌}
-use mathlib.Core.Bool.{Bool, true, false, cond, ◌&&◌, ◌||◌, and-eq-true_iff}
-use mathlib.Core.List.{List, [], ◌∷◌}
+use mathlib.Core.Bool.{Bool, true, false, cond, not, ◌&&◌, ◌||◌, and-eq-true_iff}
+use mathlib.Core.List.{List, [], ◌∷◌, map}
 use Prim.Native.Nat.{ℕ, suc, ◌+◌, ◌*◌, ◌≤◌, ◌<◌, ◌%◌}
 use native.Mathlib.Nat.{mod-eq_of_lt, add-mul-mod_self_left, eq_of_mul-eq-mul_left}
-use native.Mathlib.Numerals.{add-one}
 use native.Mathlib.Omega.{arith}
 use lib.Dec.{leb, ltb, eqb, leb-suc-suc}
-use lib.ListN.{length, drop, get_or, drop_of_length-le, get_or-eq_default, get_or-map}
-use lib.Seq.{drop-cons}
-use borrow.Author.Tests.{lt-ltb, le-ltb, le-leb, lt-leb, leb-true, leb-false, eq-eqb, ne_eqb, eqb-true, eqb-false, ltb-true}
+use lib.ListN.{length, get_or, get_or-eq_default}
+use borrow.Author.Tests.{lt-ltb, le-leb, lt-leb, leb-true, leb-false, eq-eqb, ne_eqb, eqb-true, eqb-false, ltb-true}
+use Rattle.std.specs.List.{position, position_or_len}
+use Rattle.std.specs.Option.{is_some}
+use Rattle.std.proofs.Common.{Some, None}
 use Rattle.lists.specs.Bytes.{all, any, same, same_by, listed}
 use Rattle.lists.specs.LittleEndian.{le_value}
 use Rattle.lists.proofs.Scan.{same_long}
 use Rattle.lists.proofs.Table.{below, same_true}
 use Rattle.vocabulary.specs.Vocabulary.{word_of}
 use Rattle.vocabulary.proofs.Laws.{unfold_vocabulary}
-use Rattle.units.specs.Units.{unit_abbreviations, abbreviations, unit_words, index_of, unit_index, is_unit, unit_word, unit_key, unit_keys, word_numbers}
+use Rattle.units.specs.Units.{unit_abbreviations, abbreviations, unit_words, index_of, unit_index, is_unit, unit_row, unit_word, unit_key, unit_keys, word_numbers}
 
 -- two numbers, each a lowest digit and a rest, are equal exactly if the digits are equal and the rests are
 digit_same : (n b c v w : ℕ) → b < n → c < n → eqb (b + n * v) (c + n * w) ≡ eqb b c && eqb v w
@@ -79,18 +80,24 @@ pub key_long : (u : List ℕ) → 3 < length u → 0 ≡ unit_key u
 unfolding unit_key
 key_long u h = rw (lt-leb (length u) 3 h)
 
--- the abbreviation of row k has 1 to 3 bytes
-has_short_key : ℕ → Bool
-has_short_key k = let a = get_or abbreviations k [] in leb 1 (length a) && leb (length a) 3 && bytesb a
+-- each abbreviation has 1 to 3 bytes
+abbrev short_text : List ℕ → Bool
+short_text a = leb 1 (length a) && leb (length a) 3 && bytesb a
 
--- u has the key of row k exactly if u is the abbreviation of that row
-unit_key_same : (u : List ℕ) (k : ℕ) → Bytes u → k < 22 → eqb (get_or unit_keys k 0) (unit_key u) ≡ same (get_or abbreviations k []) u
-unfolding has_short_key abbreviations unit_abbreviations unit_keys unit_key le_value all
-unit_key_same u k b h =
-    let a = get_or abbreviations k [] in
-    let y = (and-eq-true_iff (leb 1 (length a) && leb (length a) 3) (bytesb a)).0 (below has_short_key 22 refl k h) in
+-- the first key that is the key of u stands where the first text that is u stands
+index_of_key : (u : List ℕ) (ss : List (List ℕ)) → Bytes u → all short_text ss ≡ true
+    → position_or_len (λ k. eqb k (unit_key u)) (map unit_key ss) ≡ index_of u ss
+unfolding all index_of
+index_of_key u [] b t = refl
+index_of_key u (a ∷ ss) b t =
+    let x = (and-eq-true_iff (short_text a) (all short_text ss)).0 t in
+    let y = (and-eq-true_iff (leb 1 (length a) && leb (length a) 3) (bytesb a)).0 x.0 in
     let z = (and-eq-true_iff (leb 1 (length a)) (leb (length a) 3)).0 y.0 in
-    rw (get_or-map unit_key abbreviations k []) (key_same a u (leb-true _ _ z.0) (leb-true _ _ z.1) y.1 b)
+    rw (key_same a u (leb-true _ _ z.0) (leb-true _ _ z.1) y.1 b, index_of_key u ss b x.1) (go (same a u))
+  where
+    go : (t : Bool) → cond (not t) (1 + index_of u ss) 0 ≡ cond t 0 (suc (index_of u ss))
+    go true = refl
+    go false = omega arith
 
 -- the word of row k is the one that the vocabulary has under its number
 has_word : ℕ → Bool
@@ -104,17 +111,6 @@ unit_word_number k h = same_true _ _ (below has_word 22 refl k h)
 abbreviations_length : length abbreviations ≡ 22
 unfolding abbreviations unit_abbreviations
 abbreviations_length = refl
-
--- the look-up from row k on: this row, or those after it
-pub index_more : (u : List ℕ) (k : ℕ) → Bytes u → k < 22
-    → index_of u (drop k abbreviations) ≡ cond (eqb (get_or unit_keys k 0) (unit_key u)) 0 (suc (index_of u (drop (k + 1) abbreviations)))
-unfolding index_of
-index_more u k b h = rw (unit_key_same u k b h, add-one, drop-cons abbreviations k [] (rw abbreviations_length h))
-
--- past the last row nothing is left to look at
-pub index_end : (u : List ℕ) (k : ℕ) → 22 ≤ k → index_of u (drop k abbreviations) ≡ 0
-unfolding index_of
-index_end u k h = rw (drop_of_length-le abbreviations {i = k} (rw abbreviations_length h))
 
 -- a text is one of those listed exactly if fewer than all stand before it
 pub listed_index_of : (t : List ℕ) (ss : List (List ℕ)) → listed t ss ≡ ltb (index_of t ss) (length ss)
@@ -130,20 +126,47 @@ listed_index_of t (s ∷ ss) = go (same s t) (listed_index_of t ss)
 pub unit_in_table : (u : List ℕ) → is_unit u ≡ ltb (unit_index u) 22
 unit_in_table u = listed_index_of u abbreviations ∙ ap (ltb (unit_index u)) abbreviations_length
 
+-- the row of a text is found by its key
+pub row_of_key : (u : List ℕ) → Bytes u → position (λ k. eqb k (unit_key u)) unit_keys ≡ unit_row u
+unfolding unit_row unit_keys abbreviations unit_abbreviations all
+row_of_key u b =
+    let e = index_of_key u abbreviations b refl in
+    rw (e, unit_in_table u)
+
 -- no abbreviation is empty
 pub empty_none : is_unit [] ≡ false
 unfolding abbreviations unit_abbreviations any same_by
 empty_none = refl
-
--- a text whose row number is past the table is no unit
-pub miss_none : (u : List ℕ) → 22 ≤ unit_index u → is_unit u ≡ false
-miss_none u h = unit_in_table u ∙ le-ltb (unit_index u) 22 h
 
 -- and it has no word
 pub miss_word : (u : List ℕ) → 22 ≤ unit_index u → unit_word u ≡ []
 unfolding unit_words unit_abbreviations
 miss_word u h = get_or-eq_default unit_words [] h
 
--- a text whose row number is in the table is a unit
-pub hit_some : (u : List ℕ) → unit_index u < 22 → is_unit u ≡ true
-hit_some u h = unit_in_table u ∙ lt-ltb (unit_index u) 22 h
+-- the row of a text is there exactly if the text is a unit
+pub row_there : (u : List ℕ) → is_some (unit_row u) ≡ is_unit u
+unfolding unit_row
+row_there u = go (is_unit u)
+  where
+    go : (t : Bool) → is_some (cond t (Some (unit_index u)) None) ≡ t
+    go true = refl
+    go false = refl
+
+-- a text with a row is a unit, and the row is the first that has it
+pub row_some : (u : List ℕ) (k : ℕ) → Some k ≡ unit_row u → (is_unit u ≡ true) × (unit_index u ≡ k)
+unfolding unit_row
+row_some u k e = go (is_unit u) refl e
+  where
+    go : (t : Bool) → is_unit u ≡ t → Some k ≡ cond t (Some (unit_index u)) None → (is_unit u ≡ true) × (unit_index u ≡ k)
+    go true h e = (h, cc)
+    go false h e = cc
+
+-- the vocabulary has the word of that row under its number
+pub row_word : (u : List ℕ) (k : ℕ) → Some k ≡ unit_row u → word_of (get_or word_numbers k 0) ≡ unit_word u
+row_word u k e =
+    let y = row_some u k e in
+    rw (← y.1) (unit_word_number (unit_index u) (ltb-true _ _ (sym (unit_in_table u) ∙ y.0)))
+
+-- a text with no row is no unit
+pub row_none : (u : List ℕ) → None ≡ unit_row u → is_unit u ≡ false
+row_none u e = sym (row_there u) ∙ ap is_some (sym e)

@@ -1,5 +1,5 @@
 -- patterns.rs, UNIT_ABBREVIATIONS, and its two look-ups. Definitions only.
-use Rattle.std.specs.Prelude.{Bool, cond, List, [], ◌∷◌, map, ℕ, suc, leb, length, get_or}
+use Rattle.std.specs.Prelude.{Option, Some, None, Bool, cond, List, [], ◌∷◌, map, ℕ, suc, leb, length, get_or}
 use Prim.Native.String.{String}
 use Rattle.lists.specs.Bytes.{bytes, same, listed}
 use Rattle.lists.specs.LittleEndian.{le_value}
@@ -41,6 +41,10 @@ unit_index u = index_of u abbreviations
 -- some row's abbreviation is u
 abbrev pub is_unit : List ℕ → Bool
 is_unit u = listed u abbreviations
+
+-- the number of the first row whose abbreviation is u, if there is one
+unfoldable pub unit_row : List ℕ → Option ℕ
+unit_row u = cond (is_unit u) (Some (unit_index u)) None
 
 -- unit_word: the word of the first row whose abbreviation is u, nothing if there is none
 abbrev pub unit_word : List ℕ → List ℕ

@@ -1,9 +1,7 @@
 -- The words of units, of number readings and of row 10. Definitions only.
-use Rattle.std.specs.Prelude.{List, [], ◌∷◌, ◌++◌, map, ℕ, take, drop, get_or}
+use Rattle.std.specs.Prelude.{List, [], ◌∷◌, ◌++◌, map, ℕ, get_or}
 use Prim.Native.String.{String}
 use Rattle.lists.specs.Bytes.{bytes}
-use Rattle.lists.specs.LittleEndian.{le_value}
-use Rattle.lists.specs.Packed.{pack}
 
 -- the tables of numbers.rs: ONES, TEENS and TENS; and "hundred" with the words of SCALES, smallest first
 unfoldable pub ones : List String
@@ -83,10 +81,3 @@ others_at = 84
 -- the word of a number, nothing if there is none
 unfoldable pub word_of : ℕ → List ℕ
 word_of k = get_or vocabulary k []
-
--- a word as the code holds it: the two halves of its 16 packed bytes, as numbers
-unfoldable pub low_of : ℕ → ℕ
-low_of k = le_value (take 8 (pack (word_of k)))
-
-unfoldable pub high_of : ℕ → ℕ
-high_of k = le_value (drop 8 (pack (word_of k)))

@@ -1,12 +1,12 @@
-use native.Mathlib.Omega.{arith}
-use mathlib.Core.Path.{sym, ◌∙◌}
-use Rattle.admit.proofs.Utf8.{ascii_more, ascii_end}
+use Rattle.std.proofs.Common.{rules, tests, true, ◌&&◌, ◌∙◌}
+use Rattle.std.proofs.lemmas.Iterator.{YieldsList-from_slice}
+use Rattle.std.proofs.lemmas.Iterator.Consumers.{fold_from_yields_List}
+use Rattle.lists.specs.Classes.{ascii}
+use Rattle.admit.proofs.Utf8.{all_folded}
 use Rattle.admit.proofs.is_ascii.Goals as goal
-
-pub loop-i-preserved : goal.loop-i-preserved
-loop-i-preserved c =
-    (omega arith, sym (ascii_more c.loop-i.ok c.args.s.now c.loop-i.i (omega arith)) ∙ c.loop-i.invariant.1)
 
 pub returns : goal.returns
 returns c =
-    sym (ascii_end c.loop-i.ok c.args.s.now c.loop-i.i (omega arith)) ∙ c.loop-i.invariant.1
+    fold_from_yields_List _ (λ ok b. ok && ascii b) true c.fold.result c.fold.ensures.ran
+    (YieldsList-from_slice c.args.s.now (cc)) (λ a x b q k. search (rules, tests))
+    ∙ all_folded ascii true c.args.s.now

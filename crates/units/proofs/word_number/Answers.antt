@@ -1,7 +1,8 @@
+use Rattle.std.proofs.Common.{rules}
 use Rattle.units.specs.Units.{unit_abbreviations, unit_words, index_of, word_numbers}
 use Rattle.vocabulary.proofs.Laws.{unfold_vocabulary}
 use Rattle.units.proofs.word_number.Goals as goal
 
 pub returns : goal.returns
 unfolding word_numbers index_of unfold_vocabulary unit_words unit_abbreviations
-returns c = c.byte_at.ensures
+returns c = search rules
