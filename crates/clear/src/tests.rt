@@ -1,28 +1,43 @@
-// The tests of a clear name, for names that are already admitted, kind by kind in document 01's order. Each test works on any bytes,
-// so nothing is demanded of the caller.
-ghost use Rattle.std.specs.Prelude.{◌≡◌, ◌&&◌, [], ◌<◌, ltb, eqb, length, get_or};
-ghost use Rattle.lists.specs.Bytes.{all, same as same_text, listed};
-ghost use Rattle.vocabulary.specs.Vocabulary.{word_of};
+// The tests of a clear name, for names that are already admitted, kind by kind in document 01's order. Each test works on any
+// bytes, so nothing is demanded of the caller.
+ghost use Rattle.std.specs.Prelude.{◌≡◌, ◌&&◌, [], ltb, eqb, length, drop, get_or};
+ghost use Rattle.lists.specs.Bytes.{lowercase, drop_while, listed};
+ghost use Rattle.lists.specs.Classes.{except};
 ghost use Rattle.units.specs.Units.{abbreviations, unit_words, index_of};
 ghost use Rattle.clear.specs.Clear.{plain, suffix, suffix_for, table_words};
-ghost use Rattle.clear.specs.Test.{is_exponent_clear, is_fraction_clear, is_figure_clear, is_number_clear, is_percent_clear, is_plain_time, is_time_clear, is_meridiem_clear, is_ordinal_clear, is_unit_clear, is_initials_clear, is_word_clear, is_clear};
-ghost use Rattle.clear.specs.Classes.{of_class};
+ghost use Rattle.clear.specs.Test.{uppercase_or_point, is_exponent_clear, is_fraction_clear, is_figure_clear, is_number_clear, is_percent_clear, is_plain_time, is_time_clear, is_meridiem_clear, is_ordinal_clear, is_unit_clear, is_initials_clear, is_word_clear, is_clear};
 
 use lists::{
-    DIGIT, EXACT, NOT, after_last, back, byte_at, ends_with, front, same, saturating_sub, span_of,
-    starts_with, strip_prefix, tail, unpacked, without_back,
+    Byte, ByteClass, Digit, Not, all, back, byte_at, ends_with, equal, front, last_end, span,
+    starts_with, strip_prefix, tail, without_back,
 };
 use shapes::{is_digits, is_dotted_abbrev, is_leading_zero_digits, is_time, strip_sign};
-use units::{UNIT_COUNT, unit_index, word_number};
-use vocabulary::{HUNDRED, ONES, ORDINAL};
+use units::{unit_index, word_number};
+use vocabulary::{HUNDRED, ONES, ORDINAL, word};
 
-// The two classes of a scan.
-const LOWERCASE: bool = false;
+// a to z.
+#[derive(Clone, Copy)]
+struct Lowercase;
 
-const UPPERCASE_OR_POINT: bool = true;
+impl ByteClass for Lowercase {
+    ghost contains = { λ _. lowercase };
 
-// How many words the tables of numbers.rs have.
-const TABLE_WORDS: usize = 63;
+    fn contains(self, b: u8) -> bool {
+        b.is_ascii_lowercase()
+    }
+}
+
+// A to Z and the point.
+#[derive(Clone, Copy)]
+struct UppercaseOrPoint;
+
+impl ByteClass for UppercaseOrPoint {
+    ghost contains = { λ _. uppercase_or_point };
+
+    fn contains(self, b: u8) -> bool {
+        b.is_ascii_uppercase() | (b == b'.')
+    }
+}
 
 // "0", or digits with no leading zero.
 fn is_plain(s: &[u8]) -> bool
@@ -32,32 +47,35 @@ fn is_plain(s: &[u8]) -> bool
 }
 
 // Whether s may follow the digits of a clear figure: an exponent, or nothing.
+#[tactic(auto, unfolding(crate::specs::Test::is_exponent_clear))]
 fn is_exponent_clear(s: &[u8]) -> bool
     ensures { result ≡ is_exponent_clear s.now }
 {
     if starts_with(s, b'e') {
         return is_plain(strip_sign(tail(s, 1)));
     }
-    s.len() == 0
+    s.is_empty()
 }
 
 // Whether s may follow its whole digits.
+#[tactic(auto, unfolding(crate::specs::Test::is_fraction_clear))]
 fn is_fraction_clear(s: &[u8]) -> bool
     ensures { result ≡ is_fraction_clear s.now }
 {
     if starts_with(s, b'.') {
         let after = tail(s, 1);
-        let frac = span_of(DIGIT, 0, after);
+        let frac = span(after, Digit);
         return (frac != 0) & is_exponent_clear(tail(after, frac));
     }
     is_exponent_clear(s)
 }
 
 // Whether s may follow its minus.
+#[tactic(auto, unfolding(crate::specs::Test::is_figure_clear))]
 fn is_figure_clear(s: &[u8]) -> bool
     ensures { result ≡ is_figure_clear s.now }
 {
-    let whole = span_of(DIGIT, 0, s);
+    let whole = span(s, Digit);
     is_plain(front(s, whole)) & is_fraction_clear(tail(s, whole))
 }
 
@@ -70,162 +88,105 @@ pub fn is_number_clear(s: &[u8]) -> bool
 pub fn is_percent_clear(s: &[u8]) -> bool
     ensures { result ≡ is_percent_clear s.now }
 {
-    ends_with(s, b'%') & is_number_clear(without_back(s, 1))
+    ends_with(s, b'%') && is_number_clear(without_back(s, 1))
 }
 
 // A time whose hour is plain.
 fn is_plain_time(s: &[u8]) -> bool
     ensures { result ≡ is_plain_time s.now }
 {
-    is_time(s) & is_plain(front(s, span_of(NOT, b':', s)))
+    is_time(s) && is_plain(front(s, span(s, Not(Byte(b':')))))
+}
+
+// What follows the first colon, nothing if there is none.
+fn after_colon(s: &[u8]) -> &[u8]
+    ensures { result.now ≡ drop 1 (drop_while (except 58) s.now) }
+{
+    tail(tail(s, span(s, Not(Byte(b':')))), 1)
 }
 
 pub fn is_time_clear(s: &[u8]) -> bool
     ensures { result ≡ is_time_clear s.now }
 {
-    let minute = tail(tail(s, span_of(NOT, b':', s)), 1);
-    is_plain_time(s) & !same(EXACT, minute, b"00")
+    is_plain_time(s) && !equal(after_colon(s), b"00")
 }
 
 pub fn is_meridiem_clear(s: &[u8]) -> bool
     ensures { result ≡ is_meridiem_clear s.now }
 {
     let meridiem = back(s, 2);
-    (same(EXACT, meridiem, b"am") | same(EXACT, meridiem, b"pm"))
-        & is_plain_time(without_back(s, 2))
+    (equal(meridiem, b"am") | equal(meridiem, b"pm")) && is_plain_time(without_back(s, 2))
 }
 
-// Whether t is the suffix for a last digit b, if the digit before it is not 1.
-fn is_suffix_for(b: u8, t: &[u8]) -> bool
-    ensures { result ≡ same_text t.now (suffix_for b) }
+// The suffix for a last digit b, if the digit before it is not 1.
+fn suffix_for(b: u8) -> &'static [u8]
+    ensures { result.now ≡ suffix_for b }
 {
-    if b == b'1' {
-        return same(EXACT, t, b"st");
+    match b {
+        b'1' => b"st",
+        b'2' => b"nd",
+        b'3' => b"rd",
+        _ => b"th",
     }
-    if b == b'2' {
-        return same(EXACT, t, b"nd");
-    }
-    if b == b'3' {
-        return same(EXACT, t, b"rd");
-    }
-    same(EXACT, t, b"th")
 }
 
-// Whether t is the right suffix of the number s.
-fn is_suffix(s: &[u8], t: &[u8]) -> bool
-    ensures { result ≡ same_text t.now (suffix s.now) }
+// The right suffix of the number s.
+#[tactic(auto, unfolding(crate::specs::Clear::suffix))]
+fn suffix(s: &[u8]) -> &'static [u8]
+    ensures { result.now ≡ suffix s.now }
 {
     let n = s.len();
-    if (1 < n) & (byte_at(s, saturating_sub(n, 2)) == b'1') {
-        return same(EXACT, t, b"th");
+    if (1 < n) & (byte_at(s, n.saturating_sub(2)) == b'1') {
+        return b"th";
     }
-    is_suffix_for(byte_at(s, saturating_sub(n, 1)), t)
+    suffix_for(byte_at(s, n.saturating_sub(1)))
 }
 
 pub fn is_ordinal_clear(s: &[u8]) -> bool
     ensures { result ≡ is_ordinal_clear s.now }
 {
     let number = without_back(s, 2);
-    is_plain(number) & is_suffix(number, back(s, 2))
+    is_plain(number) & equal(back(s, 2), suffix(number))
 }
 
 // Whether row k of the units is the first with its word. Rows with the same word stand together.
-fn is_first_at(k: u8) -> bool
+fn is_first_at(k: usize) -> bool
     ensures { result ≡ (ltb k (length abbreviations) && eqb (index_of (get_or unit_words k []) unit_words) k) }
 {
-    if k == 0 {
-        return true;
-    }
-    (k < UNIT_COUNT) & (word_number(k - 1) < word_number(k))
+    (k == 0) || word_number(k - 1) < word_number(k)
 }
 
 pub fn is_unit_clear(s: &[u8]) -> bool
     ensures { result ≡ is_unit_clear s.now }
 {
-    let at = after_last(DIGIT, 0, s);
-    is_plain(front(s, at)) & is_first_at(unit_index(tail(s, at)))
-}
-
-fn of_class(class: bool, b: u8) -> bool
-    ensures { result ≡ of_class class b }
-{
-    match class {
-        UPPERCASE_OR_POINT => ((b'A' <= b) & (b <= b'Z')) | (b == b'.'),
-        LOWERCASE => (b'a' <= b) & (b <= b'z'),
-    }
-}
-
-// Whether every byte is of the class.
-fn all_letters(class: bool, s: &[u8]) -> bool
-    ensures { result ≡ all (of_class class) s.now }
-{
-    let mut i = 0;
-    while i < s.len() {
-        if !of_class(class, s[i]) {
-            return false;
-        }
-        i += 1;
-    }
-    true
+    let at = last_end(s, Digit);
+    is_plain(front(s, at)) & unit_index(tail(s, at)).is_some_and(is_first_at)
 }
 
 pub fn is_initials_clear(s: &[u8]) -> bool
     ensures { result ≡ is_initials_clear s.now }
 {
-    is_dotted_abbrev(s) & !ends_with(s, b'.') & all_letters(UPPERCASE_OR_POINT, s)
+    is_dotted_abbrev(s) & !ends_with(s, b'.') & all(s, UppercaseOrPoint)
 }
 
-// The number in the vocabulary of word i of the tables.
-fn table_word(i: usize) -> usize
-    requires { i < 63 }
-    ensures { word_of result ≡ get_or table_words i [] }
-{
-    // ones, teens and tens
-    if i < 30 {
-        return ONES + i;
-    }
-    // their ordinal forms
-    if i < 60 {
-        return ONES + ORDINAL + (i - 30);
-    }
-    // billion, million, thousand
-    HUNDRED + (63 - i)
-}
-
-// Whether s is word number k of the vocabulary.
-fn is_word_number(k: usize, s: &[u8]) -> bool
-    ensures { result ≡ same_text (word_of k) s.now }
-{
-    if vocabulary::word_len(k) != s.len() {
-        return false;
-    }
-    let packed = vocabulary::packed(k);
-    same(EXACT, unpacked(&packed), s)
-}
-
+// Whether s is a word of the tables of numbers.rs: ones, teens and tens, their ordinal forms, or thousand, million, billion.
 fn is_table_word(s: &[u8]) -> bool
     ensures { result ≡ listed s.now table_words }
 {
-    let mut i = 0;
-    while i < TABLE_WORDS {
-        if is_word_number(table_word(i), s) {
-            return true;
-        }
-        i += 1;
-    }
-    false
+    (ONES..HUNDRED)
+        .chain(ONES + ORDINAL..HUNDRED + ORDINAL)
+        .chain(HUNDRED + 1..HUNDRED + 4)
+        .any(|k| equal(word(k), s))
 }
 
 pub fn is_word_clear(s: &[u8]) -> bool
     ensures { result ≡ is_word_clear s.now }
 {
-    // Any other name is not looked up.
-    if (2 <= s.len()) & all_letters(LOWERCASE, s) {
-        return !is_table_word(s);
-    }
-    false
+    // No other name is looked up.
+    (2 <= s.len()) && all(s, Lowercase) && !is_table_word(s)
 }
 
+#[tactic(auto, unfolding(crate::specs::Test::is_clear))]
 pub fn is_clear_name(s: &[u8]) -> bool
     ensures { result ≡ is_clear s.now }
 {

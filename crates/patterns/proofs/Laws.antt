@@ -1,45 +1,37 @@
 -- The unit calls, case by case. Assumes nothing.
-use mathlib.Core.Path.{◌≡◌, refl}
+use mathlib.Core.Path.{◌≡◌, refl, sym, ◌∙◌}
+use Rattle.std.specs.Prelude.{Some, None}
 use mathlib.Core.Bool.{Bool, true, false, cond}
 use mathlib.Core.List.{List, [], ◌∷◌, ◌++◌}
-use Prim.Native.Nat.{ℕ, ◌-◌, ◌≤◌, ◌<◌}
+use Prim.Native.Nat.{ℕ, ◌-◌, ◌≤◌}
 use native.Mathlib.Omega.{arith}
 use lib.Dec.{ltb}
-use lib.ListN.{length, take, drop, length-drop}
+use lib.ListN.{length, take, drop, get_or, length-drop}
 use lib.Seq.{take-length}
-use borrow.Author.Tests.{le-ltb}
+use borrow.Author.Tests.{ltb-false, le-ltb}
 use Rattle.admit.specs.Refusals.{text_limit, text_tests, text_refusal, in_order}
-use Rattle.admit.proofs.Calls.{refused_first, passed_first}
-use Rattle.units.specs.Units.{unit_index, unit_word}
-use Rattle.units.proofs.Laws.{miss_none, miss_word, hit_some}
-use Rattle.shapes.specs.Shapes.{unit_at, has_unit, unit_part}
-use Rattle.shapes.proofs.Laws.{unit_some}
+use Rattle.admit.proofs.Calls.{passed_first}
+use Rattle.vocabulary.specs.Vocabulary.{word_of}
+use Rattle.units.specs.Units.{unit_index, unit_row, unit_word, word_numbers}
+use Rattle.units.proofs.Laws.{row_some, row_word, row_none, unit_in_table, miss_word}
+use Rattle.shapes.specs.Shapes.{unit_at, has_unit, split_unit, unit_part}
+use Rattle.shapes.proofs.Laws.{unit_some, split_unit_some, split_unit_none}
 use Rattle.patterns.specs.Calls.{no_part, unit_found, store_tests, store_call, unit_word_call}
 
--- if the unit is empty, no unit is found
-pub unit_none : (s : List ℕ) → length (unit_part s) ≡ 0 → unit_found s ≡ no_part
+-- if there is no unit, none is found
+pub unit_none : (s : List ℕ) → None ≡ split_unit s → no_part ≡ unit_found s
 unfolding unit_found
-unit_none s h = go (has_unit s) refl h
-  where
-    go : (t : Bool) → has_unit s ≡ t → length (cond t (drop (unit_at s) s) []) ≡ 0
-        → cond t (record { found = true; offset = unit_at s; size = length (cond t (drop (unit_at s) s) []) }) no_part ≡ no_part
-    go true e h = absurd (unit_some s e h)
-    go false e h = refl
+unit_none s e = rw (split_unit_none s e)
 
--- if the unit is not empty, it is found at the end of the name
-pub unit_found_lem : (s : List ℕ) → (length (unit_part s) ≡ 0 → ⊥)
-    → record { found = true; offset = length s - length (unit_part s); size = length (unit_part s) } ≡ unit_found s
+-- if there is one, it is found at the end of the name
+pub unit_found_lem : (s : List ℕ) {u : List ℕ} → Some u ≡ split_unit s → record { found = true; offset = length s - length u; size = length u } ≡ unit_found s
 unfolding unit_found
-unit_found_lem s h = go (has_unit s) h
-  where
-    go : (t : Bool) → (length (cond t (drop (unit_at s) s) []) ≡ 0 → ⊥)
-        → record { found = true; offset = length s - length (cond t (drop (unit_at s) s) []); size = length (cond t (drop (unit_at s) s) []) }
-        ≡ cond t (record { found = true; offset = unit_at s; size = length (cond t (drop (unit_at s) s) []) }) no_part
-    go true h =
-        let l : length (drop (unit_at s) s) ≡ length s - unit_at s = length-drop (unit_at s) s in
-        let e : length s - length (drop (unit_at s) s) ≡ unit_at s = omega arith in
-        rw e
-    go false h = absurd (h refl)
+unit_found_lem s e =
+    let k = split_unit_some s e in
+    let n = unit_some s k.0 in
+    let l : length (drop (unit_at s) s) ≡ length s - unit_at s = length-drop (unit_at s) s in
+    let o : length s - length (drop (unit_at s) s) ≡ unit_at s = omega arith in
+    rw (k.1, k.0, o)
 
 -- "the unit is a part of the caller's own bytes": what stands in the name at the unit's place is the unit
 pub unit_stands : (s : List ℕ) → take (unit_found s).size (drop (unit_found s).offset s) ≡ unit_part s
@@ -66,17 +58,17 @@ pub unit_word_in_order : (s store : List ℕ) → in_order (text_tests text_limi
 unfolding text_tests
 unit_word_in_order s store = refl
 
-module _ (s store : List ℕ) (n : ℕ) (refusal_eq : n ≡ text_refusal text_limit s) where
-  -- if the text is refused, the call answers its number
-  pub word_refused : (n ≡ 0 → ⊥) → record { refusal = n; value = record { found = false; size = 0; store = store } } ≡ unit_word_call s store
-  word_refused z = refused_first (text_tests text_limit (s ∷ [])) (store_tests (unit_word s) store) refusal_eq _ _ z
+-- the text s is accepted
+module _ (s store : List ℕ) (accepted : 0 ≡ text_refusal text_limit s) where
+  -- if it is a unit, the call answers what storing its word answers
+  pub word_found : {k : ℕ} → Some k ≡ unit_row s → store_call (word_of (get_or word_numbers k 0)) store ≡ unit_word_call s store
+  word_found {k = k} e =
+      rw (row_word s k e, (row_some s k e).0, passed_first (text_tests text_limit (s ∷ [])) (store_tests (unit_word s) store) accepted refl)
 
-  -- if the text is accepted and is a unit, the call answers what storing its word answers
-  pub word_found : n ≡ 0 → unit_index s < 22 → store_call (unit_word s) store ≡ unit_word_call s store
-  word_found z h = rw (hit_some s h, passed_first (text_tests text_limit (s ∷ [])) (store_tests (unit_word s) store) refusal_eq z)
-
-  -- if the text is accepted and is no unit, the call answers no word
-  pub word_none : n ≡ 0 → 22 ≤ unit_index s → record { refusal = 0; value = record { found = false; size = 0; store = store } } ≡ unit_word_call s store
-  word_none z h =
+  -- if it is no unit, the call answers no word
+  pub word_none : None ≡ unit_row s → record { refusal = 0; value = record { found = false; size = 0; store = store } } ≡ unit_word_call s store
+  word_none e =
+      let n = row_none s e in
+      let h : 22 ≤ unit_index s = ltb-false _ _ (sym (unit_in_table s) ∙ n) in
       let l : ltb (length store) 0 ≡ false = le-ltb (length store) 0 (omega arith) in
-      rw (miss_none s h, miss_word s h, passed_first (text_tests text_limit (s ∷ [])) (store_tests [] store) refusal_eq z, l)
+      rw (n, miss_word s h, passed_first (text_tests text_limit (s ∷ [])) (store_tests [] store) accepted refl, l)

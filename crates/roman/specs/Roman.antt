@@ -1,5 +1,5 @@
 -- Document 01, "Number words": `roman_value`. Definitions only.
-use Rattle.std.specs.Prelude.{Bool, cond, List, [], ◌∷◌, map, ◌++◌, ℕ, ◌+◌, ◌-◌, ◌/◌, ◌%◌, ltb, get_or}
+use Rattle.std.specs.Prelude.{Bool, cond, Option, Some, None, eqb, List, [], ◌∷◌, map, ◌++◌, ℕ, ◌+◌, ◌-◌, ◌/◌, ◌%◌, ltb, get_or}
 use Prim.Native.String.{String}
 use Rattle.lists.specs.Bytes.{bytes, any, elem}
 
@@ -8,6 +8,10 @@ unfoldable pub roman_letter_value : ℕ → ℕ
 roman_letter_value b =
     cond (elem b (bytes "Ii")) 1 (cond (elem b (bytes "Vv")) 5 (cond (elem b (bytes "Xx")) 10 (cond (elem b (bytes "Ll")) 50
     (cond (elem b (bytes "Cc")) 100 (cond (elem b (bytes "Dd")) 500 (cond (elem b (bytes "Mm")) 1000 0))))))
+
+-- the same, where another byte has none
+unfoldable pub letter_value : ℕ → Option ℕ
+letter_value b = cond (eqb (roman_letter_value b) 0) None (Some (roman_letter_value b))
 
 -- some value after v is larger
 abbrev pub any_larger : ℕ → List ℕ → Bool

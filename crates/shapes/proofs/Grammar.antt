@@ -23,6 +23,7 @@ use Rattle.shapes.specs.Shapes.{unit_at, has_unit, is_number_s, is_leading_zero_
 use Rattle.shapes.specs.Times.{ends_in_meridiem, separator_at, time_of, is_meridiem_time}
 use Rattle.shapes.specs.Grammar.{join_by, suffixes, TimeForm, PhoneForm, SlashedForm, CommaIntForm, LeadingZeroForm, IllionForm, NumberSForm, MeridiemForm, OrdinalForm, MoneyForm, UnitForm}
 use Rattle.shapes.specs.Grammar.{time, phone, slashed, comma_int, leading_zero, illion, number_s, meridiem_time, ordinal_number, dollars, cents, measure}
+use Rattle.shapes.proofs.Parts.{eqb_sym}
 use Rattle.shapes.proofs.Laws.{digits_all, digits_some}
 
 -- ---- a text at its first separator
@@ -310,13 +311,6 @@ same_lowered [] [] = refl
 same_lowered [] (c ∷ t) = refl
 same_lowered (b ∷ s) [] = refl
 same_lowered (b ∷ s) (c ∷ t) = rw (same_lowered s t) (ap (λ (x : Bool). x && same t (map to_lower s)) (eqb_sym (to_lower b) c))
-  where
-    eqb_sym : (m n : ℕ) → eqb m n ≡ eqb n m
-    eqb_sym m n = go (eqb n m) refl
-      where
-        go : (x : Bool) → eqb n m ≡ x → eqb m n ≡ x
-        go true e = eq-eqb m n (sym (eqb-true n m e))
-        go false e = ne_eqb m n (λ z. eqb-false n m e (sym z))
 
 -- a text is a suffix exactly when it is one of the list once it is lowered
 suffix_listed : (s : List ℕ) → is_ordinal_suffix s ≡ listed (map to_lower s) suffixes

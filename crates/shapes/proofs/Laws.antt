@@ -7,11 +7,14 @@ use native.Mathlib.Omega.{arith}
 use lib.Dec.{leb, ltb, eqb}
 use lib.ListN.{length, take, drop, get_or, length-take, length-drop}
 use borrow.Author.Tests.{ne_eqb, ltb-true, leb-true, eqb-true, eqb-false, not-true}
+use Rattle.std.specs.Prelude.{Option, Some, None}
+use Rattle.std.specs.Option.{option_map}
 use Rattle.lists.specs.Bytes.{all, span, split, onto, non_empty}
-use Rattle.lists.specs.Classes.{digit, digit_or_comma, digit_or_dash, except}
-use Rattle.lists.proofs.Parts.{split_some, split_more, split_last}
-use Rattle.shapes.specs.Shapes.{is_digits, is_comma_groups, is_comma_int, is_n_digits, is_phone_parts, is_hour_minute, is_seven_digit_phone, is_time, split_once, unit_at, has_unit}
-use Rattle.units.specs.Units.{is_unit}
+use Rattle.lists.specs.Classes.{only, digit, digit_or_comma, digit_or_dash, except}
+use Rattle.lists.proofs.Parts.{split_some, split_last}
+use Rattle.shapes.specs.Shapes.{is_digits, is_comma_groups, is_comma_int, is_n_digits, is_phone_parts, is_hour_minute, is_seven_digit_phone, is_time, around, split_once, unit_at, has_unit, split_unit, unit_part}
+use Rattle.shapes.proofs.Parts.{split_around}
+use Rattle.units.specs.Units.{is_unit, unit_index, unit_row}
 use Rattle.units.proofs.Laws.{empty_none}
 
 -- each byte of a text of digits is a digit
@@ -29,19 +32,23 @@ pub digits_some : (s : List ℕ) → is_digits s ≡ true → 0 < length s
 digits_some s h = let n = eqb-false (length s) 0 (digits_nonempty s h) in omega arith
 
 -- a text with a comma passes exactly if the part before the first comma and the parts after it pass their tests
-pub comma_more : (s : List ℕ) → span (except 44) s < length s
-    → is_comma_int s ≡ is_digits (take (span (except 44) s) s) && leb (length (take (span (except 44) s) s)) 3 && all (is_n_digits 3)
-    (split 44 (drop (span (except 44) s + 1) s))
+pub comma_more : (s : List ℕ) {first groups : List ℕ} → Some (first, groups) ≡ around (only 44) s
+    → is_comma_int s ≡ is_digits first && leb (length first) 3 && all (is_n_digits 3) (split 44 groups)
 unfolding is_comma_groups
-comma_more s h =
-    let g = split_some 44 (drop (span (except 44) s + 1) s) in
+comma_more s {first} {groups} h =
     rw (
-      split_more 44 s h,
-      ne_eqb (length (split 44 (drop (span (except 44) s + 1) s))) 0 (λ z. omega arith),
-      and-true (is_digits (take (span (except 44) s) s) && leb (length (take (span (except 44) s) s)) 3),
+      split_around 44 s,
+      ← h,
+      ne_eqb (length (split 44 groups)) 0 (λ z. omega (arith, split_some 44 groups)),
+      and-true (is_digits first && leb (length first) 3),
     )
 
 -- a text without a comma does not pass
+pub comma_alone : (s : List ℕ) → None ≡ around (only 44) s → false ≡ is_comma_int s
+unfolding is_comma_groups
+comma_alone s h = rw (split_around 44 s, ← h, and-false (is_digits s && leb (length s) 3))
+
+-- the same, by a scan for the comma
 pub comma_none : (s : List ℕ) → length s ≤ span (except 44) s → is_comma_int s ≡ false
 unfolding is_comma_groups
 comma_none s h = rw (split_last 44 s h, and-false (is_digits s && leb (length s) 3))
@@ -119,3 +126,34 @@ time_length s n = split_length 58 is_hour_minute s (λ h m p e.
     let x : length h ≤ 2 = leb-true (length h) 2 ((and-eq-true_iff (leb 1 (length h)) (leb (length h) 2)).0 f.0).1 in
     let y = n_digits_length 2 m r.1 in
     omega arith)
+
+-- without a number before it, there is no unit
+pub unit_unnumbered : (s : List ℕ) → not (eqb (unit_at s) 0) && all digit_or_comma (take (unit_at s) s) ≡ false → None ≡ split_unit s
+unfolding has_unit
+unit_unnumbered s e = rw e
+
+-- with one, there is a unit if the table has what follows it
+pub unit_numbered : (s : List ℕ) {o : Option ℕ} → not (eqb (unit_at s) 0) && all digit_or_comma (take (unit_at s) s) ≡ true
+    → o ≡ unit_row (drop (unit_at s) s) → option_map (λ _. drop (unit_at s) s) o ≡ split_unit s
+unfolding has_unit unit_row
+unit_numbered s e f = rw (f, e) (go (is_unit (drop (unit_at s) s)))
+  where
+    go : (t : Bool) → option_map (λ _. drop (unit_at s) s) (cond t (Some (unit_index (drop (unit_at s) s))) None)
+        ≡ cond t (Some (drop (unit_at s) s)) None
+    go true = refl
+    go false = refl
+
+-- what a split by the unit says
+pub split_unit_some : (s : List ℕ) {u : List ℕ} → Some u ≡ split_unit s → (has_unit s ≡ true) × (u ≡ unit_part s)
+split_unit_some s {u} = go (has_unit s)
+  where
+    go : (t : Bool) → Some u ≡ cond t (Some (drop (unit_at s) s)) None → (t ≡ true) × (u ≡ cond t (drop (unit_at s) s) [])
+    go true e = (refl, cc)
+    go false e = cc
+
+pub split_unit_none : (s : List ℕ) → None ≡ split_unit s → has_unit s ≡ false
+split_unit_none s = go (has_unit s)
+  where
+    go : (t : Bool) → None ≡ cond t (Some (drop (unit_at s) s)) None → t ≡ false
+    go true e = cc
+    go false e = refl

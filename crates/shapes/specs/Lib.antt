@@ -1,4 +1,3 @@
 pub mod Shapes
 pub mod Times
-pub mod Tests
 pub mod Grammar

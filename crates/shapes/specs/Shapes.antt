@@ -1,6 +1,6 @@
 -- The shape verdicts of patterns.rs, each written from the Rust function of its name. They stand in that file's order, but
 -- is_n_digits comes earlier, since others use it. Definitions only.
-use Rattle.std.specs.Prelude.{Bool, false, cond, not, ◌&&◌, ◌||◌, List, [], ◌∷◌, ℕ, ◌+◌, ◌-◌, leb, ltb, eqb, length, take, drop, get_or}
+use Rattle.std.specs.Prelude.{Option, Some, None, Bool, false, cond, not, ◌&&◌, ◌||◌, List, [], ◌∷◌, ℕ, ◌+◌, ◌-◌, leb, ltb, eqb, length, take, drop, get_or}
 use Prim.Native.Char.{code}
 use Rattle.lists.specs.Bytes.{bytes, all, span, after_last, elem, same, same_by, to_lower, starts_with, ends_with, strip_prefix, strip_suffix, ends_with_by, split, non_empty}
 use Rattle.lists.specs.Classes.{digit, letter, digit_or_comma, roman_tail, except}
@@ -90,6 +90,10 @@ is_number_s s = leb 2 (length s) && ends_with (code "s") s && is_digits (take (l
 abbrev pub is_leading_zero_digits : List ℕ → Bool
 is_leading_zero_digits s = ltb 1 (length s) && starts_with (code "0") s && is_digits s
 
+-- what stands before the first byte that passes p and after it, if there is one
+unfoldable pub around : (ℕ → Bool) → List ℕ → Option (List ℕ × List ℕ)
+around p s = let at = span (λ b. not (p b)) s in cond (ltb at (length s)) (Some (take at s, drop (at + 1) s)) None
+
 -- split_once(c): c stands in the text, and what stands before and after the first c passes the test `both`
 unfoldable pub split_once : ℕ → (List ℕ → List ℕ → Bool) → List ℕ → Bool
 split_once c both s = let at = span (except c) s in ltb at (length s) && both (take at s) (drop (at + 1) s)
@@ -131,6 +135,10 @@ unit_at s = after_last digit s
 unfoldable pub has_unit : List ℕ → Bool
 has_unit s = not (eqb (unit_at s) 0) && all digit_or_comma (take (unit_at s) s) && is_unit (drop (unit_at s) s)
 
--- split_unit: the unit, "a part of the caller's own bytes"; empty if there is none, since no unit is empty
+-- split_unit: the unit, "a part of the caller's own bytes"
+abbrev pub split_unit : List ℕ → Option (List ℕ)
+split_unit s = cond (has_unit s) (Some (drop (unit_at s) s)) None
+
+-- the unit's bytes, none if there is no unit, since no unit is empty
 abbrev pub unit_part : List ℕ → List ℕ
 unit_part s = cond (has_unit s) (drop (unit_at s) s) []

@@ -2,51 +2,47 @@
 // None tests for a refusal: the public calls of the crate patterns do that before they ask a shape.
 #![tactic(auto)]
 
-ghost use Rattle.std.specs.Prelude.{◌≡◌, min, length};
-ghost use Rattle.lists.specs.Bytes.{split, all, non_empty};
-ghost use Rattle.shapes.specs.Shapes.{is_digits, is_alpha, strip_sign, is_exponent, is_unsigned, is_double, is_comma_int, is_ordinal_suffix, is_ordinal, is_amount, is_us_money, is_illion, is_small_roman, is_roman, is_dr_or_st, is_number_s, is_leading_zero_digits, is_seven_digit_phone, is_n_digits, split_once, is_hour_minute, is_time, is_dotted_abbrev, is_digits_slash_digits, is_digits_dash_digits, has_unit, unit_part};
+ghost use Rattle.std.specs.Prelude.{◌≡◌, length};
+ghost use Rattle.std.specs.Option.{option_copied, option_map};
+ghost use Rattle.lists.specs.Bytes.{split, non_empty};
+ghost use Rattle.shapes.specs.Shapes.{is_digits, is_alpha, strip_sign, is_exponent, is_unsigned, is_double, is_comma_int, is_ordinal_suffix, is_ordinal, is_amount, is_us_money, is_illion, is_small_roman, is_roman, is_dr_or_st, is_number_s, is_leading_zero_digits, is_seven_digit_phone, is_n_digits, around, is_hour_minute, is_time, is_one_letter, is_dotted_abbrev, is_digits_slash_digits, is_digits_dash_digits, split_unit};
 ghost use Rattle.shapes.specs.Times.{ends_in_meridiem, SplitsTime};
-ghost use Rattle.shapes.specs.Tests.{part_passes, pair_passes};
 
 use lists::{
-    DIGIT, DIGIT_OR_COMMA, DIGIT_OR_DASH, EXACT, LETTER, LOWERED, NOT, NOT_COLON_OR_POINT,
-    ROMAN_TAIL, after_last, all_of, back, byte_at, ends_same, ends_with, front, in_class, same,
-    span_of, starts_with, strip_prefix, strip_suffix, tail, without_back,
+    Byte, ByteClass, ColonOrPoint, Digit, DigitOrComma, DigitOrDash, Letter, RomanTail, all, back,
+    byte_at, ends_equal_lowered, ends_with, equal, equal_lowered, front, last_end, span,
+    starts_with, strip_prefix, strip_suffix, tail, without_back,
 };
 
-// The tests of a part between separators, by number.
-const THREE_DIGITS: u8 = 0;
+// The suffixes of ordinals, lowered.
+static ORDINAL_SUFFIXES: [&[u8]; 4] = [b"th", b"st", b"nd", b"rd"];
 
-const ONE_LETTER: u8 = 1;
+// The roman numerals below X.
+static SMALL_ROMANS: [&[u8]; 9] = [
+    b"I", b"II", b"III", b"IV", b"V", b"VI", b"VII", b"VIII", b"IX",
+];
 
-// The tests of the two parts before and after a first separator, by number.
-const PHONE: u8 = 0;
-
-const HOUR_MINUTE: u8 = 1;
-
-const TWO_NUMBERS: u8 = 2;
-
-// What split_time_meridiem finds: where the hour ends, where the minute starts, and where the minute ends and the meridiem starts.
-#[derive(Clone, Copy)]
-pub enum TimeSplit {
-    At {
-        hour: usize,
-        minute: usize,
-        meridiem: usize,
-    },
-    Nothing,
+// What split_time_meridiem finds: where the hour ends, where the minute starts, and where the minute ends and the meridiem
+// starts.
+#[derive(Clone, Copy, Debug, PartialEq, Eq)]
+pub struct TimeSplit {
+    pub hour: usize,
+    pub minute: usize,
+    pub meridiem: usize,
 }
 
+#[tactic(auto, unfolding(crate::specs::Shapes::is_digits))]
 pub fn is_digits(s: &[u8]) -> bool
     ensures { result ≡ is_digits s.now }
 {
-    (s.len() != 0) & all_of(DIGIT, 0, s)
+    !s.is_empty() & all(s, Digit)
 }
 
+#[tactic(auto, unfolding(crate::specs::Shapes::is_alpha))]
 pub fn is_alpha(s: &[u8]) -> bool
     ensures { result ≡ is_alpha s.now }
 {
-    (s.len() != 0) & all_of(LETTER, 0, s)
+    !s.is_empty() & all(s, Letter)
 }
 
 pub fn strip_sign(s: &[u8]) -> &[u8]
@@ -58,23 +54,25 @@ pub fn strip_sign(s: &[u8]) -> &[u8]
     s
 }
 
+#[tactic(auto, unfolding(crate::specs::Shapes::is_exponent))]
 fn is_exponent(s: &[u8]) -> bool
     ensures { result ≡ is_exponent s.now }
 {
     if starts_with(s, b'e') | starts_with(s, b'E') {
         return is_digits(strip_sign(tail(s, 1)));
     }
-    s.len() == 0
+    s.is_empty()
 }
 
+#[tactic(auto, unfolding(crate::specs::Shapes::is_unsigned))]
 fn is_unsigned(s: &[u8]) -> bool
     ensures { result ≡ is_unsigned s.now }
 {
-    let int = span_of(DIGIT, 0, s);
+    let int = span(s, Digit);
     let rest = tail(s, int);
     if starts_with(rest, b'.') {
         let after = tail(rest, 1);
-        let frac = span_of(DIGIT, 0, after);
+        let frac = span(after, Digit);
         return !((int == 0) & (frac == 0)) & is_exponent(tail(after, frac));
     }
     (int != 0) & is_exponent(rest)
@@ -86,55 +84,43 @@ pub fn is_double(s: &[u8]) -> bool
     is_unsigned(strip_prefix(s, b'-'))
 }
 
-// Whether a part between separators passes.
-fn part_passes(test: u8, s: &[u8]) -> bool
-    ensures { result ≡ part_passes test s.now }
+// What stands before the first byte of the class and after it, if there is one.
+fn split_once<C: ByteClass>(s: &[u8], separator: C) -> Option<(&[u8], &[u8])>
+    ensures { option_map (λ p. (p.0.now, p.1.now)) result ≡ around (C.contains separator) s.now }
 {
-    match test {
-        THREE_DIGITS => is_n_digits(s, 3),
-        ONE_LETTER => (s.len() == 1) & is_alpha(s),
-        _ => false,
-    }
+    let at = s.iter().position(|b| separator.contains(*b))?;
+    Some((&s[..at], &s[at + 1..]))
 }
 
-// Whether every part between the bytes c passes.
-fn all_parts(test: u8, c: u8, s: &[u8]) -> bool
-    ensures { result ≡ all (part_passes test) (split c s.now) }
+// How many parts between the bytes c are not empty.
+fn nonempty_parts(s: &[u8], c: u8) -> usize
+    ensures { result ≡ length (non_empty (split c s.now)) }
 {
-    let mut i = 0;
-    loop {
-        let rest = tail(s, i);
-        let n = span_of(NOT, c, rest);
-        if !part_passes(test, front(rest, n)) {
-            return false;
-        }
-        if rest.len() <= n {
-            return true;
-        }
-        i += n + 1;
-    }
+    s.split(|b| *b == c).filter(|part| !part.is_empty()).count()
 }
 
 pub fn is_comma_int(s: &[u8]) -> bool
     ensures { result ≡ is_comma_int s.now }
 {
-    let n = span_of(NOT, b',', s);
-    if s.len() <= n {
+    let Some((first, groups)) = split_once(s, Byte(b',')) else {
         return false;
-    }
-    let first = front(s, n);
-    is_digits(first) & (first.len() <= 3) & all_parts(THREE_DIGITS, b',', tail(s, n + 1))
+    };
+    is_digits(first)
+        & (first.len() <= 3)
+        & groups
+            .split(|b| *b == b',')
+            .all(|group| is_n_digits(group, 3))
 }
 
 fn is_ordinal_suffix(s: &[u8]) -> bool
     ensures { result ≡ is_ordinal_suffix s.now }
 {
-    same(LOWERED, s, b"th")
-        | same(LOWERED, s, b"st")
-        | same(LOWERED, s, b"nd")
-        | same(LOWERED, s, b"rd")
+    ORDINAL_SUFFIXES
+        .iter()
+        .any(|suffix| equal_lowered(s, suffix))
 }
 
+#[tactic(auto, unfolding(crate::specs::Shapes::is_ordinal))]
 pub fn is_ordinal(s: &[u8]) -> bool
     ensures { result ≡ is_ordinal s.now }
 {
@@ -144,19 +130,20 @@ pub fn is_ordinal(s: &[u8]) -> bool
     (3 <= s.len())
         & ((b < 0x80) | (0xC0 <= b))
         & is_ordinal_suffix(suffix)
-        & in_class(DIGIT, 0, byte_at(num, 0))
-        & all_of(DIGIT_OR_COMMA, 0, num)
+        & byte_at(num, 0).is_ascii_digit()
+        & all(num, DigitOrComma)
 }
 
+#[tactic(auto, unfolding(crate::specs::Shapes::is_amount))]
 fn is_amount(s: &[u8]) -> bool
     ensures { result ≡ is_amount s.now }
 {
-    let whole = span_of(DIGIT_OR_COMMA, 0, s);
+    let whole = span(s, DigitOrComma);
     let rest = tail(s, whole);
     if starts_with(rest, b'.') {
         return (whole != 0) & is_digits(tail(rest, 1));
     }
-    (whole != 0) & (rest.len() == 0)
+    (whole != 0) & rest.is_empty()
 }
 
 pub fn is_us_money(s: &[u8]) -> bool
@@ -168,33 +155,25 @@ pub fn is_us_money(s: &[u8]) -> bool
 pub fn is_illion(s: &[u8]) -> bool
     ensures { result ≡ is_illion s.now }
 {
-    ends_same(EXACT, s, b"illion")
+    s.ends_with(b"illion")
 }
 
 fn is_small_roman(s: &[u8]) -> bool
     ensures { result ≡ is_small_roman s.now }
 {
-    same(EXACT, s, b"I")
-        | same(EXACT, s, b"II")
-        | same(EXACT, s, b"III")
-        | same(EXACT, s, b"IV")
-        | same(EXACT, s, b"V")
-        | same(EXACT, s, b"VI")
-        | same(EXACT, s, b"VII")
-        | same(EXACT, s, b"VIII")
-        | same(EXACT, s, b"IX")
+    SMALL_ROMANS.iter().any(|numeral| equal(s, numeral))
 }
 
 pub fn is_roman(s: &[u8]) -> bool
     ensures { result ≡ is_roman s.now }
 {
-    is_small_roman(s) | (starts_with(s, b'X') & all_of(ROMAN_TAIL, 0, tail(s, 1)))
+    is_small_roman(s) | (starts_with(s, b'X') & all(tail(s, 1), RomanTail))
 }
 
 pub fn is_dr_or_st(s: &[u8]) -> bool
     ensures { result ≡ is_dr_or_st s.now }
 {
-    same(LOWERED, s, b"dr") | same(LOWERED, s, b"st")
+    equal_lowered(s, b"dr") | equal_lowered(s, b"st")
 }
 
 pub fn is_number_s(s: &[u8]) -> bool
@@ -215,33 +194,11 @@ pub fn is_n_digits(s: &[u8], n: usize) -> bool
     (s.len() == n) & is_digits(s)
 }
 
+#[tactic(auto, unfolding(crate::specs::Shapes::is_hour_minute))]
 fn is_hour_minute(h: &[u8], m: &[u8]) -> bool
     ensures { result ≡ is_hour_minute h.now m.now }
 {
     (1 <= h.len()) & (h.len() <= 2) & is_digits(h) & is_n_digits(m, 2) & (byte_at(m, 0) <= b'5')
-}
-
-// Whether the two parts before and after a first separator pass.
-fn pair_passes(test: u8, a: &[u8], b: &[u8]) -> bool
-    ensures { result ≡ pair_passes test a.now b.now }
-{
-    match test {
-        PHONE => is_n_digits(a, 3) & is_n_digits(b, 4),
-        HOUR_MINUTE => is_hour_minute(a, b),
-        TWO_NUMBERS => is_digits(a) & is_digits(b),
-        _ => false,
-    }
-}
-
-// Whether c stands in the text and the parts before and after the first c pass.
-fn split_once(test: u8, c: u8, s: &[u8]) -> bool
-    ensures { result ≡ split_once c (pair_passes test) s.now }
-{
-    let at = span_of(NOT, c, s);
-    if s.len() <= at {
-        return false;
-    }
-    pair_passes(test, front(s, at), tail(s, at + 1))
 }
 
 pub fn is_seven_digit_phone(s: &[u8]) -> bool
@@ -251,7 +208,7 @@ pub fn is_seven_digit_phone(s: &[u8]) -> bool
     if s.len() != 8 {
         return false;
     }
-    split_once(PHONE, b'-', s)
+    split_once(s, Byte(b'-')).is_some_and(|(a, b)| is_n_digits(a, 3) & is_n_digits(b, 4))
 }
 
 pub fn is_time(s: &[u8]) -> bool
@@ -261,98 +218,68 @@ pub fn is_time(s: &[u8]) -> bool
     if 5 < s.len() {
         return false;
     }
-    split_once(HOUR_MINUTE, b':', s)
+    split_once(s, Byte(b':')).is_some_and(|(h, m)| is_hour_minute(h, m))
 }
 
 fn ends_in_meridiem(s: &[u8]) -> bool
     ensures { result ≡ ends_in_meridiem s.now }
 {
-    ends_same(LOWERED, s, b"am") | ends_same(LOWERED, s, b"pm")
+    ends_equal_lowered(s, b"am") | ends_equal_lowered(s, b"pm")
 }
 
-pub fn split_time_meridiem(s: &[u8]) -> TimeSplit
+pub fn split_time_meridiem(s: &[u8]) -> Option<TimeSplit>
     ensures { SplitsTime s.now result }
 {
     if !ends_in_meridiem(s) {
-        return TimeSplit::Nothing;
+        return None;
     }
     let time = without_back(s, 2);
-    let sep = span_of(NOT_COLON_OR_POINT, 0, time);
-    if time.len() <= sep {
-        return TimeSplit::Nothing;
+    let (hour, minute) = split_once(time, ColonOrPoint)?;
+    if !is_hour_minute(hour, minute) {
+        return None;
     }
-    if is_hour_minute(front(time, sep), tail(time, sep + 1)) {
-        return TimeSplit::At {
-            hour: sep,
-            minute: sep + 1,
-            meridiem: time.len(),
-        };
-    }
-    TimeSplit::Nothing
+    Some(TimeSplit {
+        hour: hour.len(),
+        minute: hour.len() + 1,
+        meridiem: time.len(),
+    })
+}
+
+fn is_one_letter(s: &[u8]) -> bool
+    ensures { result ≡ is_one_letter s.now }
+{
+    (s.len() == 1) & is_alpha(s)
 }
 
 pub fn is_dotted_abbrev(s: &[u8]) -> bool
     ensures { result ≡ is_dotted_abbrev s.now }
 {
     let core = strip_suffix(s, b'.');
-    (span_of(NOT, b'.', core) < core.len()) & all_parts(ONE_LETTER, b'.', core)
+    core.contains(&b'.') & core.split(|b| *b == b'.').all(is_one_letter)
 }
 
 pub fn is_digits_slash_digits(s: &[u8]) -> bool
     ensures { result ≡ is_digits_slash_digits s.now }
 {
-    split_once(TWO_NUMBERS, b'/', s)
-}
-
-// What a part of n bytes adds to the count of parts that are not empty.
-fn one_if_any(n: usize) -> usize
-    ensures { result ≡ min n 1 }
-{
-    if n == 0 { 0 } else { 1 }
-}
-
-// How many parts between the bytes c are not empty.
-fn nonempty_parts(c: u8, s: &[u8]) -> usize
-    ensures { result ≡ length (non_empty (split c s.now)) }
-{
-    let mut count = 0;
-    let mut i = 0;
-    loop {
-        let rest = tail(s, i);
-        let n = span_of(NOT, c, rest);
-        count += one_if_any(n);
-        if rest.len() <= n {
-            return count;
-        }
-        i += n + 1;
-    }
+    split_once(s, Byte(b'/')).is_some_and(|(a, b)| is_digits(a) & is_digits(b))
 }
 
 pub fn is_digits_dash_digits(s: &[u8]) -> bool
     ensures { result ≡ is_digits_dash_digits s.now }
 {
-    (2 <= nonempty_parts(b'-', s)) & (span_of(NOT, b'-', s) < s.len()) & all_of(DIGIT_OR_DASH, 0, s)
+    (2 <= nonempty_parts(s, b'-')) & s.contains(&b'-') & all(s, DigitOrDash)
 }
 
-fn has_unit(s: &[u8]) -> bool
-    ensures { result ≡ has_unit s.now }
+// The unit, a part of the name, if there is one.
+pub fn split_unit(s: &[u8]) -> Option<&[u8]>
+    ensures { option_copied result ≡ split_unit s.now }
 {
-    let at = after_last(DIGIT, 0, s);
-    if at == 0 {
-        return false;
+    let at = last_end(s, Digit);
+    let has_number = (at != 0) & all(front(s, at), DigitOrComma);
+    if !has_number {
+        return None;
     }
-    if !all_of(DIGIT_OR_COMMA, 0, front(s, at)) {
-        return false;
-    }
-    units::unit_index(tail(s, at)) < units::UNIT_COUNT
-}
-
-// The unit, a part of the name; an empty part if there is none.
-pub fn split_unit(s: &[u8]) -> &[u8]
-    ensures { result.now ≡ unit_part s.now }
-{
-    if has_unit(s) {
-        return tail(s, after_last(DIGIT, 0, s));
-    }
-    &s[..0]
+    let unit = tail(s, at);
+    units::unit_index(unit)?;
+    Some(unit)
 }

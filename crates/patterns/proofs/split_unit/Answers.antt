@@ -1,20 +1,15 @@
-use mathlib.Core.Path.{sym}
-use Rattle.admit.proofs.Calls.{call_refused, call_accepted}
+use Rattle.admit.proofs.Calls.{call_accepted}
+use Rattle.shapes.proofs.Laws.{split_unit_some}
 use Rattle.patterns.proofs.Laws.{unit_none, unit_found_lem, unit_le}
 use Rattle.patterns.proofs.split_unit.Goals as goal
 
-pub returns-then-refusal-ne0 : goal.returns-then-refusal-ne0
-returns-then-refusal-ne0 c = call_refused _ _ _ _ c.if-refusal-ne0.true c.refusal_of-refusal.ensures
-
-pub returns-then-unit-eq0 : goal.returns-then-unit-eq0
-returns-then-unit-eq0 c =
-    call_accepted _ _ _ _ (rw c.if-refusal-ne0.false at c.refusal_of-refusal.ensures)
-    (sym (unit_none _ (rw c.split_unit-unit.ensures at c.if-unit-eq0.true)))
+pub returns-in_default : goal.returns-in_default
+returns-in_default c =
+    call_accepted _ _ _ _ (rw c.in_ok-admit_text.was at c.admit_text.ensures) (unit_none _ (rw c.in_default.is at c.split_unit.ensures))
 
 pub overflow_sub-offset : goal.overflow_sub-offset
-overflow_sub-offset c = rw c.split_unit-unit.ensures (unit_le _)
+overflow_sub-offset c = rw (split_unit_some _ (rw c.in-Some.is at c.split_unit.ensures)).1 (unit_le _)
 
 pub returns : goal.returns
 returns c =
-    let f = unit_found_lem c.args.s.now (rw c.split_unit-unit.ensures at c.if-unit-eq0.false) in
-    call_accepted _ _ _ _ (rw c.if-refusal-ne0.false at c.refusal_of-refusal.ensures) (rw c.split_unit-unit.ensures f)
+    call_accepted _ _ _ _ (rw c.in_ok-admit_text.was at c.admit_text.ensures) (unit_found_lem _ (rw c.in-Some.is at c.split_unit.ensures))

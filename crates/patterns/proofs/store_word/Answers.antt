@@ -1,9 +1,6 @@
-use borrow.Author.Tests.{lt-ltb, le-ltb}
+use borrow.Author.Tests.{le-ltb}
 use Rattle.lists.proofs.Sets.{sets_front}
 use Rattle.patterns.proofs.store_word.Goals as goal
-
-pub returns-then-store-word : goal.returns-then-store-word
-returns-then-store-word c = rw (lt-ltb _ _ c.if-store-word.true, c.number.ensures)
 
 pub returns : goal.returns
 returns c =

@@ -1,30 +1,30 @@
 use mathlib.Core.Path.{◌∙◌}
-use Prim.Native.Nat.{◌<◌}
-use Rattle.vocabulary.proofs.Laws.{word_packed}
-use Rattle.units.specs.Units.{unit_index}
-use Rattle.units.proofs.Laws.{unit_word_number}
-use Rattle.patterns.proofs.Laws.{word_refused, word_found, word_none}
+use mathlib.Core.List.{[], ◌∷◌}
+use Rattle.admit.specs.Refusals.{text_tests, text_limit}
+use Rattle.admit.proofs.Calls.{leaves_first, leaves_same}
+use Rattle.units.specs.Units.{unit_word}
+use Rattle.patterns.specs.Calls.{store_tests}
+use Rattle.patterns.proofs.Laws.{word_found, word_none}
 use Rattle.patterns.proofs.unit_word.Goals as goal
 
-pub returns-then-refusal-ne0 : goal.returns-then-refusal-ne0
-returns-then-refusal-ne0 c =
-    word_refused c.args.unit.now c.args.store.now _ c.refusal_of-refusal.ensures c.if-refusal-ne0.true
+pub returns-in_err-admit_text : goal.returns-in_err-admit_text
+returns-in_err-admit_text c =
+    let u = c.args.unit.now in
+    leaves_first (text_tests text_limit (u ∷ [])) (store_tests (unit_word u) c.args.store.now) c.admit_text.ensures _ _ _
+    c.from_residual.result c.in_err-admit_text.was c.from_residual.ensures.1
 
-pub returns-then-k-ge-UNIT_COUNT : goal.returns-then-k-ge-UNIT_COUNT
-returns-then-k-ge-UNIT_COUNT c =
-    word_none c.args.unit.now c.args.store.now _ c.refusal_of-refusal.ensures c.if-refusal-ne0.false
-    (rw c.unit_index-k.ensures at c.if-k-ge-UNIT_COUNT.true)
+pub returns-in_default : goal.returns-in_default
+returns-in_default c =
+    word_none c.args.unit.now c.args.store.now (rw c.in_ok-admit_text.was at c.admit_text.ensures)
+    (rw c.in_default.is at c.unit_index.ensures)
+
+pub returns-in_err-len : goal.returns-in_err-len
+returns-in_err-len c =
+    leaves_same _ _ _ c.from_residual-in_err-len.result c.in_err-len.was c.from_residual-in_err-len.ensures.1
+    ∙ (rw (c.word-word.ensures, c.word_number.ensures) at c.store_word.ensures
+    ∙ word_found c.args.unit.now c.args.store.now (rw c.in_ok-admit_text.was at c.admit_text.ensures) (rw c.in-Some.is at c.unit_index.ensures))
 
 pub returns : goal.returns
 returns c =
-    let u = c.args.unit.now in
-    let h : unit_index u < 22 = rw c.unit_index-k.ensures at c.if-k-ge-UNIT_COUNT.false in
-    rw (
-      c.unpacked.ensures,
-      c.packed-packed.ensures,
-      word_packed,
-      c.word_number.ensures,
-      c.unit_index-k.ensures,
-      unit_word_number (unit_index u) h,
-    ) at c.store_word.ensures
-    ∙ word_found u c.args.store.now _ c.refusal_of-refusal.ensures c.if-refusal-ne0.false h
+    rw (c.word-word.ensures, c.word_number.ensures, c.in_ok-len.was) at c.store_word.ensures
+    ∙ word_found c.args.unit.now c.args.store.now (rw c.in_ok-admit_text.was at c.admit_text.ensures) (rw c.in-Some.is at c.unit_index.ensures)

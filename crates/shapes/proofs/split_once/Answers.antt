@@ -1,18 +1,17 @@
-use borrow.Author.Tests.{lt-ltb, le-ltb}
-use Rattle.shapes.specs.Shapes.{split_once}
+use Rattle.std.proofs.Common.{rules}
+use borrow.Author.Tests.{tests}
+use Rattle.std.proofs.lemmas.Iterator.{YieldsList-from_slice}
+use Rattle.std.proofs.lemmas.Iterator.Search.{position_from_yields_List}
+use Rattle.lists.proofs.Scan.{take_rest}
+use Rattle.shapes.proofs.Parts.{around_at}
 use Rattle.shapes.proofs.split_once.Goals as goal
 
-pub returns-then-s-at : goal.returns-then-s-at
-unfolding split_once
-returns-then-s-at c = rw (← c.span_of-at.ensures, le-ltb _ _ c.if-s-at.true)
+pub returns-in_err-at : goal.returns-in_err-at
+returns-in_err-at g c =
+    let at = position_from_yields_List _ _ _ _ c.position.ensures.ran (YieldsList-from_slice c.args.s.now cc) (λ x b q k. search (rules, tests)) in
+    rw (around_at _ _ at, c.in_err-at.was, c.from_residual.ensures)
 
 pub returns : goal.returns
-unfolding split_once
-returns c =
-    rw (
-      ← c.span_of-at.ensures,
-      lt-ltb _ _ c.if-s-at.false,
-      c.pair_passes.ensures,
-      c.front.ensures,
-      c.tail.ensures,
-    )
+returns g c =
+    let at = position_from_yields_List _ _ _ _ c.position.ensures.ran (YieldsList-from_slice c.args.s.now cc) (λ x b q k. search (rules, tests)) in
+    rw (around_at _ _ at, c.in_ok-at.was, take_rest)

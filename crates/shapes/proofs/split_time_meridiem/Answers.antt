@@ -1,60 +1,47 @@
-use native.Mathlib.Omega.{arith}
-use mathlib.Core.Path.{◌≡◌}
-use Prim.Native.Nat.{◌-◌, min}
-use lib.ListN.{length, length-take}
-use borrow.Author.Tests.{lt-ltb, le-ltb}
-use Rattle.shapes.specs.Times.{time_split}
-use Rattle.shapes.proofs.Times.{splits_time}
+use Rattle.shapes.proofs.Times.{splits_time, time_split_around}
 use Rattle.shapes.proofs.split_time_meridiem.Goals as goal
 
 pub returns-then-not-ends_in_meridiem : goal.returns-then-not-ends_in_meridiem
-unfolding time_split
-returns-then-not-ends_in_meridiem c = splits_time _ _ (rw (← c.ends_in_meridiem.ensures, c.if-not-ends_in_meridiem.true))
+returns-then-not-ends_in_meridiem c =
+    splits_time _ _ (rw (time_split_around c.args.s.now, ← c.ends_in_meridiem.ensures, c.if-not-ends_in_meridiem.true))
 
-pub returns-then-time-sep : goal.returns-then-time-sep
-unfolding time_split
-returns-then-time-sep c =
+pub returns-in_err-hour : goal.returns-in_err-hour
+returns-in_err-hour c =
     splits_time _ _
     (rw (
+      time_split_around c.args.s.now,
       ← c.ends_in_meridiem.ensures,
       c.if-not-ends_in_meridiem.false,
       ← c.without_back-time.ensures,
-      ← c.span_of-sep.ensures,
-      le-ltb _ _ c.if-time-sep.true,
+      ← c.split_once.ensures,
+      c.in_err-hour.was,
+      c.from_residual.ensures,
     ))
 
-pub returns-then-is_hour_minute : goal.returns-then-is_hour_minute
-unfolding time_split
-returns-then-is_hour_minute c =
-    let m : min (length c.args.s.now - 2) (length c.args.s.now) ≡ length c.args.s.now - 2 = omega arith in
+pub returns-then-not-is_hour_minute : goal.returns-then-not-is_hour_minute
+returns-then-not-is_hour_minute c =
     splits_time _ _
     (rw (
+      time_split_around c.args.s.now,
       ← c.ends_in_meridiem.ensures,
       c.if-not-ends_in_meridiem.false,
       ← c.without_back-time.ensures,
-      ← c.span_of-sep.ensures,
-      lt-ltb _ _ c.if-time-sep.false,
-      ← c.front.ensures,
-      ← c.tail.ensures,
+      ← c.split_once.ensures,
+      c.in_ok-hour.was,
       ← c.is_hour_minute.ensures,
-      c.if-is_hour_minute.true,
-      c.without_back-time.ensures,
-      length-take,
-      m,
+      c.if-not-is_hour_minute.true,
     ))
 
 pub returns : goal.returns
-unfolding time_split
 returns c =
     splits_time _ _
     (rw (
+      time_split_around c.args.s.now,
       ← c.ends_in_meridiem.ensures,
       c.if-not-ends_in_meridiem.false,
       ← c.without_back-time.ensures,
-      ← c.span_of-sep.ensures,
-      lt-ltb _ _ c.if-time-sep.false,
-      ← c.front.ensures,
-      ← c.tail.ensures,
+      ← c.split_once.ensures,
+      c.in_ok-hour.was,
       ← c.is_hour_minute.ensures,
-      c.if-is_hour_minute.false,
+      c.if-not-is_hour_minute.false,
     ))

@@ -1,18 +1,9 @@
-use lib.ListN.{drop}
-use Rattle.units.specs.Units.{abbreviations}
-use Rattle.units.proofs.Laws.{listed_index_of}
-use Rattle.shapes.specs.Shapes.{unit_at}
+use Rattle.std.proofs.Common.{rules}
+use borrow.Author.Tests.{tests}
+use Rattle.clear.proofs.Lookups.{first_of_row}
 use Rattle.clear.proofs.tests.is_unit_clear.Goals as goal
 
 pub returns : goal.returns
 returns c =
-    let s = c.args.s.now in
-    rw (
-      listed_index_of (drop (unit_at s) s) abbreviations,
-      c.is_plain.ensures,
-      c.is_first_at.ensures,
-      c.unit_index.ensures,
-      c.front.ensures,
-      c.tail.ensures,
-      c.after_last-at.ensures,
-    )
+    let row = rw (c.tail.ensures, c.last_end-at.ensures) at c.unit_index.ensures in
+    rw (first_of_row _ row c.is_some_and.ensures (λ k q. search (rules, tests)), c.is_plain.ensures, c.front.ensures, c.last_end-at.ensures)

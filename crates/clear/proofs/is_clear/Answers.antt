@@ -1,8 +1,0 @@
-use Rattle.admit.proofs.Calls.{call_refused, call_accepted}
-use Rattle.clear.proofs.is_clear.Goals as goal
-
-pub returns-then-refusal-ne0 : goal.returns-then-refusal-ne0
-returns-then-refusal-ne0 c = call_refused _ _ _ _ c.if-refusal-ne0.true c.refusal_of-refusal.ensures
-
-pub returns : goal.returns
-returns c = call_accepted _ _ _ _ (rw c.if-refusal-ne0.false at c.refusal_of-refusal.ensures) c.is_clear_name-yes.ensures

@@ -1,4 +1,0 @@
-use Rattle.clear.proofs.tests.is_plain.Goals as goal
-
-pub returns : goal.returns
-returns c = rw (c.is_digits.ensures, c.is_leading_zero_digits.ensures)
