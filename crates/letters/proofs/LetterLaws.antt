@@ -2,16 +2,15 @@
 use mathlib.Core.Path.{◌≡◌, refl, sym, ap, ap₂, ◌∙◌}
 use mathlib.Core.Bool.{Bool, true, false, cond}
 use mathlib.Core.List.{List, [], ◌∷◌, ◌++◌, map, flatten}
-use Prim.Native.Nat.{ℕ, suc, ◌+◌, ◌-◌, ◌≤◌, ◌<◌}
+use Rattle.word_writer.specs.Writer.{Says}
+use Rattle.word_writer.specs.declared.Writer.{Writer}
+use Prim.Native.Nat.{ℕ, suc, ◌<◌}
 use Prim.Native.Char.{code}
-use native.Mathlib.Numerals.{add-one}
 use native.Mathlib.Omega.{arith}
-use lib.ListN.{length, take, drop, get_or, length-take, length-drop}
-use lib.Seq.{drop-drop, length-take-le}
+use lib.ListN.{length, take, drop, get_or, length-drop}
 use borrow.Author.Tests.{eq-eqb, ne_eqb}
 use Rattle.lists.specs.Bytes.{bytes, to_lower, span, onto}
 use Rattle.lists.specs.Classes.{continuation}
-use Rattle.lists.proofs.Scan.{span_le}
 use Rattle.numerals.specs.Words.{other, spell, spelled}
 use Rattle.letters.specs.Letters.{chars, letter_word, letters}
 use Rattle.letters.specs.Walk.{char_span}
@@ -42,9 +41,10 @@ chars_join (b ∷ s) = go (continuation (get_or s 0 0)) (chars s) (chars_join s)
     go false cs e = ap (λ (l : List ℕ). b ∷ l) e
 
 -- an empty text has no words
-pub letters_none : spelled (letters []) ≡ []
+pub letters_end : (s : List ℕ) → length s ≡ 0 → [] ≡ spelled (letters s)
 unfolding letters chars spelled
-letters_none = refl
+letters_end [] h = refl
+letters_end (b ∷ s) h = absurd (omega arith)
 
 -- the word of the first character, and those of what is left
 letters_cons : (s : List ℕ) → 0 < length s → letters s ≡ other (letter_word (take (char_span s) s)) ∷ letters (drop (char_span s) s)
@@ -52,51 +52,36 @@ unfolding letters
 letters_cons [] h = absurd (omega arith)
 letters_cons (b ∷ s) h = ap (map (λ (c : List ℕ). other (letter_word c))) (chars_cons b s)
 
-char_length : (s : List ℕ) → 0 < length s → length (take (char_span s) s) ≡ char_span s
-char_length [] h = absurd (omega arith)
-char_length (b ∷ s) h = length-take-le (char_span (b ∷ s)) (b ∷ s) (omega (arith, span_le continuation s))
+-- what is left of a text after its first character, and the words of that
+module _ (s : List ℕ) (h : 0 < length s) where
+  -- it is shorter
+  pub rest_shorter : {t : List ℕ} → t ≡ drop (char_span s) s → length t < length s
+  rest_shorter e = omega (arith, ap length e, length-drop (char_span s) s)
 
--- the first character as the code takes it: one byte, and the n continuation bytes after it
-pub first_char : (s : List ℕ) {t : List ℕ} {n : ℕ} → t ≡ drop 1 s → n ≡ span continuation t → take (n + 1) s ≡ take (char_span s) s
-first_char s {t} {n} g e = ap (λ (k : ℕ). take k s) (add-one n ∙ ap suc (e ∙ ap (span continuation) g))
-
--- c is the character at i, where the text t starts
-module _ (s : List ℕ) (i : ℕ) (h : i < length s) {t c : List ℕ} (g : t ≡ drop i s) (e : c ≡ take (char_span t) t) where
-  long : length t ≡ length s - i
-  long = ap length g ∙ length-drop i s
-
-  size : length c ≡ char_span t
-  size = ap length e ∙ char_length t (omega (arith, long))
-
-  -- the loop moves on, and stays within the text
-  pub char_more : (0 < length c) × (i + length c ≤ length s)
-  char_more = (omega (arith, size), omega (arith, long, ap length e, length-take (char_span t) t))
-
-  -- the word of this character, and those of what is left
-  pub letters_at : spelled (letters (drop i s)) ≡ (letter_word c ∷ []) ++ spelled (letters (drop (i + length c) s))
+  pub letters_on : {c t : List ℕ} → c ≡ take (char_span s) s → t ≡ drop (char_span s) s
+      → spelled (letters s) ≡ (letter_word c ∷ []) ++ spelled (letters t)
   unfolding spelled spell
-  letters_at =
-      ap (λ (l : List ℕ). spelled (letters l)) (sym g)
-      ∙ ap spelled (letters_cons t (omega (arith, long)))
-      ∙ ap₂ (λ (w l : List ℕ). letter_word w ∷ spelled (letters l)) (sym e) (ap₂ drop (sym size) g ∙ drop-drop (length c) i s)
+  letters_on e d = ap spelled (letters_cons s h) ∙ ap₂ (λ (w l : List ℕ). letter_word w ∷ spelled (letters l)) (sym e) (sym d)
 
--- the letter a in either case
-pub letter_a : (c : List ℕ) {l : ℕ} → length c ≡ 1 → l ≡ to_lower (get_or c 0 0) → l ≡ code "a" → letter_word c ≡ bytes "_a"
+-- a writer says the word of the letter a in either case
+pub says_a : (c : List ℕ) {p q : Writer} → length c ≡ 1 → to_lower (get_or c 0 0) ≡ code "a" → Says (bytes "_a" ∷ []) p q
+    → Says (letter_word c ∷ []) p q
 unfolding letter_word
-letter_a [] n e a = absurd (omega arith)
-letter_a (b ∷ []) n e a = rw (eq-eqb (to_lower b) (code "a") (sym e ∙ a))
-letter_a (b ∷ d ∷ s) n e a = absurd (omega arith)
+says_a [] n a d = absurd (omega arith)
+says_a (b ∷ []) n a d = rw (eq-eqb (to_lower b) (code "a") a) d
+says_a (b ∷ e ∷ s) n a d = absurd (omega arith)
 
--- any other character of one byte
-pub letter_other : (c : List ℕ) {l : ℕ} → length c ≡ 1 → l ≡ to_lower (get_or c 0 0) → (l ≡ code "a" → ⊥) → letter_word c ≡ l ∷ []
+-- of any other character of one byte
+pub says_byte : (c : List ℕ) {p q : Writer} → length c ≡ 1 → (to_lower (get_or c 0 0) ≡ code "a" → ⊥) → Says (map to_lower c ∷ []) p q
+    → Says (letter_word c ∷ []) p q
 unfolding letter_word
-letter_other [] n e a = absurd (omega arith)
-letter_other (b ∷ []) {l} n e a = rw (ne_eqb (to_lower b) (code "a") (λ q. a (e ∙ q))) (ap (λ (x : ℕ). x ∷ []) (sym e))
-letter_other (b ∷ d ∷ s) n e a = absurd (omega arith)
+says_byte [] n a d = absurd (omega arith)
+says_byte (b ∷ []) n a d = rw (ne_eqb (to_lower b) (code "a") a) d
+says_byte (b ∷ e ∷ s) n a d = absurd (omega arith)
 
--- a character of several bytes is its own word
-pub letter_whole : (c : List ℕ) → (length c ≡ 1 → ⊥) → letter_word c ≡ c
+-- and of a character of several bytes
+pub says_bytes : (c : List ℕ) {p q : Writer} → (length c ≡ 1 → ⊥) → Says (c ∷ []) p q → Says (letter_word c ∷ []) p q
 unfolding letter_word
-letter_whole [] n = refl
-letter_whole (b ∷ []) n = absurd (n refl)
-letter_whole (b ∷ d ∷ s) n = refl
+says_bytes [] n d = d
+says_bytes (b ∷ []) n d = absurd (n refl)
+says_bytes (b ∷ e ∷ s) n d = d

@@ -1,49 +1,43 @@
 // Letters: one word per character.
 #![tactic(auto)]
 
-ghost use Rattle.std.specs.Prelude.{◌≡◌, take};
-ghost use Rattle.word_writer.specs.Writer.{writer, put_word, put_words};
+ghost use Rattle.std.specs.Prelude.{◌≡◌, ◌∷◌, [], take, drop};
+ghost use Rattle.word_writer.specs.Writer.{Says};
 ghost use Rattle.numerals.specs.Words.{spelled};
 ghost use Rattle.letters.specs.Letters.{letter_word, letters};
 ghost use Rattle.letters.specs.Walk.{char_span};
 
-use lists::{CONTINUATION, byte_at, front, span_of, tail, to_lower};
-use word_writer::{Cursor, put_word};
+use lists::{Continuation, span, tail};
+use word_writer::Writer;
 
-// The first character of s; empty if s is empty.
-fn first_char(s: &[u8]) -> &[u8]
-    ensures { result.now ≡ take (char_span s.now) s.now }
+// The first character of s, and what follows it. Both are empty if s is empty.
+fn split_first_char(s: &[u8]) -> (&[u8], &[u8])
+    ensures char { result.0.now ≡ take (char_span s.now) s.now }
+    ensures rest { result.1.now ≡ drop (char_span s.now) s.now }
 {
-    front(s, span_of(CONTINUATION, 0, tail(s, 1)) + 1)
+    let n = span(tail(s, 1), Continuation) + 1;
+    s.split_at(n.min(s.len()))
 }
 
 // Says the word of a character.
-pub fn say_letter(c: &[u8], store: &mut [u8], table: &mut [u8], cursor: Cursor) -> Cursor
-    ensures { writer store.new table.new result
-        ≡ put_word (letter_word c.now) (writer store.old table.old cursor) }
+pub fn say_letter(c: &[u8], out: &mut Writer)
+    ensures { Says (letter_word c.now ∷ []) out.old out.new }
 {
-    if c.len() != 1 {
-        return put_word(store, table, cursor, c);
+    match c {
+        [b'a' | b'A'] => out.put_word(b"_a"),
+        [_] => out.put_word_lowered(c),
+        _ => out.put_word(c),
     }
-    let lower = to_lower(byte_at(c, 0));
-    if lower == b'a' {
-        return put_word(store, table, cursor, b"_a");
-    }
-    let w = [lower];
-    put_word(store, table, cursor, &w)
 }
 
-// Says one word per character of s.
-pub fn say_letters(s: &[u8], store: &mut [u8], table: &mut [u8], cursor: Cursor) -> Cursor
-    ensures { writer store.new table.new result
-        ≡ put_words (spelled (letters s.now)) (writer store.old table.old cursor) }
+// Says one word per character of s. A text that is no UTF-8 has characters here too, so that it is no `str`.
+pub fn say_letters(s: &[u8], out: &mut Writer)
+    ensures { Says (spelled (letters s.now)) out.old out.new }
 {
-    let mut p = cursor;
-    let mut i = 0;
-    while i < s.len() {
-        let c = first_char(tail(s, i));
-        p = say_letter(c, store, table, p);
-        i += c.len();
+    let mut rest = s;
+    while !rest.is_empty() {
+        let (c, after) = split_first_char(rest);
+        say_letter(c, out);
+        rest = after;
     }
-    p
 }

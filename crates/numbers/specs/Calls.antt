@@ -1,6 +1,7 @@
 -- What the public calls of numbers.rs' functions answer. Definitions only.
-use Rattle.std.specs.Prelude.{List, ℕ}
-use Rattle.admit.specs.Refusals.{text_limit, text_refusal, Call, call}
+use Rattle.std.specs.Prelude.{List, ℕ, Result}
+use Rattle.admit.specs.Refusals.{text_limit, text_refusal, Call, call, answered}
+use Rattle.admit.specs.declared.Refusal.{Refusal}
 use Rattle.numerals.specs.Words.{Word}
 use Rattle.numerals.specs.Cardinal.{cardinal, digits}
 use Rattle.numerals.specs.Ordinal.{ordinal}
@@ -10,10 +11,9 @@ use Rattle.letters.specs.Letters.{letters}
 use Rattle.roman.specs.Roman.{roman_value}
 use Rattle.numbers.specs.declared.SayAs.{SayAs}
 use Rattle.numbers.specs.declared.SayAs.TheVariants.{Cardinal, Ordinal, Year, Digits, Real, Letters}
-use Rattle.numbers.specs.declared.RomanValue.{RomanValue}
 
-abbrev pub as_roman_value : RomanValue → Call ℕ
-as_roman_value r = record { refusal = r.refusal; value = r.value }
+abbrev pub as_roman_value : Result ℕ Refusal → Call ℕ
+as_roman_value r = answered 0 (λ v. v) r
 
 -- roman_value: "every count and value 0" if it is refused; no buffer is lent to it
 abbrev pub roman_call : List ℕ → Call ℕ

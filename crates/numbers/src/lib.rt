@@ -1,11 +1,10 @@
 // The public functions of numbers.rs, in its order and under its names. Each takes any bytes and buffers of any length. It answers
-// its result, or the first refusal whose condition holds.
+// its result, or the first refusal whose condition holds. It takes two buffers and no `Writer`, because the buffers are the caller's.
 #![tactic(auto)]
 
-ghost use Rattle.std.specs.Prelude.{◌≡◌, ◌&&◌, ◌/◌, ◌<◌, ltb, length};
-ghost use Rattle.word_writer.specs.Writer.{usize_max, writer, put_words};
-ghost use mathlib.Core.List.{flatten};
-ghost use Rattle.word_writer.specs.Words.{too_short_for, words_call, as_words};
+ghost use Rattle.std.specs.Prelude.{◌≡◌, ◌&&◌, ◌/◌, ltb};
+ghost use Rattle.word_writer.specs.Writer.{Says};
+ghost use Rattle.word_writer.specs.Words.{too_short, words_call, as_words};
 ghost use Rattle.numerals.specs.Words.{spelled};
 ghost use Rattle.numerals.specs.Cardinal.{cardinal, digits};
 ghost use Rattle.numerals.specs.Ordinal.{ordinal};
@@ -14,16 +13,16 @@ ghost use Rattle.reals.specs.Real.{real};
 ghost use Rattle.letters.specs.Letters.{letters};
 ghost use Rattle.numbers.specs.Calls.{words_as, as_roman_value, roman_call};
 
-use admit::{Refusal, refusal_of};
+use admit::{Refusal, admit_text};
 use letters::say_letters;
 use numerals::number::{say_cardinal, say_ordinal};
 use numerals::saying::say_digits;
 use reals::say_real;
-use word_writer::{Cursor, WordCounts};
+use word_writer::{WordCounts, Writer};
 use years::say_year;
 
-// How a text is read as words.
-#[derive(Clone, Copy)]
+// How a text is read as words. An enum, since a type for each reading would need six impls of a trait in place of one `match`.
+#[derive(Clone, Copy, Debug, PartialEq, Eq)]
 pub enum SayAs {
     Cardinal,
     Ordinal,
@@ -31,35 +30,6 @@ pub enum SayAs {
     Digits,
     Real,
     Letters,
-}
-
-// The answer for a roman numeral: the refusal's number or 0, and the value, which is 0 if the call is refused.
-#[repr(C)]
-#[derive(Clone, Copy)]
-pub struct RomanValue {
-    pub refusal: u8,
-    pub value: u32,
-}
-
-// Says s as one of the six readings.
-fn say_as(
-    interpretation: SayAs,
-    s: &[u8],
-    store: &mut [u8],
-    table: &mut [u8],
-    cursor: Cursor,
-) -> Cursor
-    ensures { writer store.new table.new result
-        ≡ put_words (spelled (words_as interpretation s.now)) (writer store.old table.old cursor) }
-{
-    match interpretation {
-        SayAs::Cardinal => say_cardinal(s, store, table, cursor),
-        SayAs::Ordinal => say_ordinal(s, store, table, cursor),
-        SayAs::Year => say_year(s, store, table, cursor),
-        SayAs::Digits => say_digits(s, store, table, cursor),
-        SayAs::Real => say_real(s, store, table, cursor),
-        SayAs::Letters => say_letters(s, store, table, cursor),
-    }
 }
 
 // The words of n bytes take at most n + 1 times this many bytes of the store and of the table.
@@ -74,94 +44,101 @@ fn has_ample_room(n: usize, store: usize, table: usize) -> bool
     (n < store / STORE_ROOM) & (n < table / TABLE_ROOM)
 }
 
-// Whether a buffer is too short for the words of s. They are measured by the function that writes them, on empty buffers.
-fn too_short(interpretation: SayAs, s: &[u8], store: usize, table: usize) -> bool
-    requires { (store < usize_max) × (table < usize_max) }
-    ensures { result
-        ≡ too_short_for (length (flatten (spelled (words_as interpretation s.now))))
-        (length (spelled (words_as interpretation s.now))) store table }
-{
-    if has_ample_room(s.len(), store, table) {
-        return false;
+impl SayAs {
+    // Says s as this reading.
+    fn say(self, s: &[u8], out: &mut Writer)
+        ensures { Says (spelled (words_as self s.now)) out.old out.new }
+    {
+        match self {
+            SayAs::Cardinal => say_cardinal(s, out),
+            SayAs::Ordinal => say_ordinal(s, out),
+            SayAs::Year => say_year(s, out),
+            SayAs::Digits => say_digits(s, out),
+            SayAs::Real => say_real(s, out),
+            SayAs::Letters => say_letters(s, out),
+        }
     }
-    let mut no_store = [0u8; 0];
-    let mut no_table = [0u8; 0];
-    let measured = say_as(
-        interpretation,
-        s,
-        &mut no_store,
-        &mut no_table,
-        Cursor::start(),
-    );
-    measured.exceeds(store, table)
+
+    // Whether a buffer is too short for the words of s. They are measured by the function that writes them, on empty buffers.
+    fn too_short(self, s: &[u8], store: &[u8], table: &[u8]) -> bool
+        ensures { result ≡ too_short (spelled (words_as self s.now)) store.now table.now }
+    {
+        if has_ample_room(s.len(), store.len(), table.len()) {
+            return false;
+        }
+        let mut no_store = [0u8; 0];
+        let mut no_table = [0u8; 0];
+        let mut measured = Writer::new(&mut no_store, &mut no_table);
+        self.say(s, &mut measured);
+        measured.exceeds(store.len(), table.len())
+    }
+
+    // Writes the words of s to store and table. They are measured first if the room is not ample, so that a refused call writes
+    // nothing.
+    fn write_words(
+        self,
+        s: &[u8],
+        store: &mut [u8],
+        table: &mut [u8],
+    ) -> Result<WordCounts, Refusal>
+        ensures { as_words result store.new table.new
+            ≡ words_call s.now (spelled (words_as self s.now)) store.old table.old }
+    {
+        admit_text(s)?;
+        if self.too_short(s, store, table) {
+            return Err(Refusal::BufferTooShort);
+        }
+        let mut out = Writer::new(store, table);
+        self.say(s, &mut out);
+        Ok(out.counts())
+    }
 }
 
-// Writes the words of s to store and table. They are measured first if the room is not ample, so that a refused call writes nothing.
-fn write_words(interpretation: SayAs, s: &[u8], store: &mut [u8], table: &mut [u8]) -> WordCounts
-    ensures { as_words result store.new table.new
-        ≡ words_call s.now (spelled (words_as interpretation s.now)) store.old table.old }
-{
-    let refusal = refusal_of(s);
-    if refusal != 0 {
-        return WordCounts::refused(refusal);
-    }
-    if too_short(interpretation, s, store.len(), table.len()) {
-        return WordCounts::refused(Refusal::BufferTooShort.number());
-    }
-    say_as(interpretation, s, store, table, Cursor::start()).counts()
-}
-
-pub fn cardinal(s: &[u8], store: &mut [u8], table: &mut [u8]) -> WordCounts
+pub fn cardinal(s: &[u8], store: &mut [u8], table: &mut [u8]) -> Result<WordCounts, Refusal>
     ensures { as_words result store.new table.new
         ≡ words_call s.now (spelled (cardinal s.now)) store.old table.old }
 {
-    write_words(SayAs::Cardinal, s, store, table)
+    SayAs::Cardinal.write_words(s, store, table)
 }
 
-pub fn ordinal(s: &[u8], store: &mut [u8], table: &mut [u8]) -> WordCounts
+pub fn ordinal(s: &[u8], store: &mut [u8], table: &mut [u8]) -> Result<WordCounts, Refusal>
     ensures { as_words result store.new table.new
         ≡ words_call s.now (spelled (ordinal s.now)) store.old table.old }
 {
-    write_words(SayAs::Ordinal, s, store, table)
+    SayAs::Ordinal.write_words(s, store, table)
 }
 
-pub fn year(s: &[u8], store: &mut [u8], table: &mut [u8]) -> WordCounts
+pub fn year(s: &[u8], store: &mut [u8], table: &mut [u8]) -> Result<WordCounts, Refusal>
     ensures { as_words result store.new table.new
         ≡ words_call s.now (spelled (year s.now)) store.old table.old }
 {
-    write_words(SayAs::Year, s, store, table)
+    SayAs::Year.write_words(s, store, table)
 }
 
-pub fn digits(s: &[u8], store: &mut [u8], table: &mut [u8]) -> WordCounts
+pub fn digits(s: &[u8], store: &mut [u8], table: &mut [u8]) -> Result<WordCounts, Refusal>
     ensures { as_words result store.new table.new
         ≡ words_call s.now (spelled (digits s.now)) store.old table.old }
 {
-    write_words(SayAs::Digits, s, store, table)
+    SayAs::Digits.write_words(s, store, table)
 }
 
-pub fn real(s: &[u8], store: &mut [u8], table: &mut [u8]) -> WordCounts
+pub fn real(s: &[u8], store: &mut [u8], table: &mut [u8]) -> Result<WordCounts, Refusal>
     ensures { as_words result store.new table.new
         ≡ words_call s.now (spelled (real s.now)) store.old table.old }
 {
-    write_words(SayAs::Real, s, store, table)
+    SayAs::Real.write_words(s, store, table)
 }
 
-pub fn letters(s: &[u8], store: &mut [u8], table: &mut [u8]) -> WordCounts
+pub fn letters(s: &[u8], store: &mut [u8], table: &mut [u8]) -> Result<WordCounts, Refusal>
     ensures { as_words result store.new table.new
         ≡ words_call s.now (spelled (letters s.now)) store.old table.old }
 {
-    write_words(SayAs::Letters, s, store, table)
+    SayAs::Letters.write_words(s, store, table)
 }
 
-pub fn roman_value(s: &[u8]) -> RomanValue
+pub fn roman_value(s: &[u8]) -> Result<u32, Refusal>
     ensures { as_roman_value result ≡ roman_call s.now }
 {
-    let refusal = refusal_of(s);
-    if refusal != 0 {
-        return RomanValue { refusal, value: 0 };
-    }
-    RomanValue {
-        refusal: 0,
-        value: roman::roman_value(s),
-    }
+    admit_text(s)?;
+    Ok(roman::roman_value(s))
 }

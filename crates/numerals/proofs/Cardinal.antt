@@ -1,6 +1,6 @@
 -- The equations of `short_cardinal`, one for each length, and an induction over the words of all numbers. Assumes nothing.
 use mathlib.Core.Path.{◌≡◌, refl, ap, ◌∙◌, subst⁻¹}
-use mathlib.Core.Bool.{Bool, true, false, cond, ◌&&◌, or-false}
+use mathlib.Core.Bool.{Bool, true, false, cond, ◌&&◌, and-true}
 use mathlib.Core.Logic.{⊎_elim}
 use mathlib.Core.List.{List, [], ◌∷◌, ◌++◌, map}
 use Prim.Native.Nat.{ℕ, ◌+◌, ◌-◌, ◌*◌, ◌≤◌, ◌<◌}
@@ -9,15 +9,14 @@ use lib.Dec.{leb, eqb}
 use lib.ListN.{length, take, drop, get_or, length-take, length-drop}
 use lib.Seq.{length-take-le}
 use borrow.Author.Tests.{leb-true, lt-ltb, le-ltb}
-use Rattle.vocabulary.specs.Vocabulary.{ones_at}
-use Rattle.lists.specs.Bytes.{Every}
+use Rattle.lists.specs.Bytes.{Every, all}
 use Rattle.lists.proofs.Every.{every_take, every_drop}
 use Rattle.lists.proofs.Sets.{le_or_lt}
 use Rattle.lists.proofs.Recursion.{Local, recur_eq, recur_induct, cond_elim}
 use Rattle.numerals.specs.Words.{Word, one, teen, ten, hundred, scale}
 use Rattle.numerals.specs.Cardinal.{pair_words, scale_for, join_at_scale, split_at, by_scale, cardinal_step, short_cardinal, cardinal_of}
-use Rattle.numerals.specs.Walk.{number_of, HeldWriter, hold_word, hold_words, is_zero_group}
-use Rattle.numerals.proofs.Holding.{hold_words_words, pair_tests}
+use Rattle.numerals.specs.Walk.{is_zero_group}
+use Rattle.numerals.proofs.Holding.{pair_tests}
 
 -- n digits are split at a scale: both parts have digits, and the left part has at most three if n is at most twelve
 pub record ScaleSplit (n : ℕ) : Type 0 where
@@ -167,14 +166,15 @@ three_nil false u w v ws e = refl
 
 -- of one to three digits, `is_zero_group` says which have no words
 pub zero_group_nil : (s : List ℕ) → 0 < length s → length s ≤ 3 → is_zero_group s ≡ nil (short_cardinal s)
-unfolding is_zero_group
+unfolding is_zero_group all
 zero_group_nil [] z h = absurd (omega arith)
 zero_group_nil (a ∷ []) z h = rw (cardinal_1 (a ∷ []) refl)
-zero_group_nil (a ∷ b ∷ []) z h = rw (cardinal_2 (a ∷ b ∷ []) refl, pair_nil a b) (or-false (eqb a 0 && eqb b 0))
+zero_group_nil (a ∷ b ∷ []) z h = rw (cardinal_2 (a ∷ b ∷ []) refl, pair_nil a b, and-true)
 zero_group_nil (a ∷ b ∷ c ∷ []) z h =
     rw (
       cardinal_three a b c,
       three_nil (eqb a 0) _ (one a) hundred (short_cardinal (b ∷ c ∷ [])) (ap nil (cardinal_2 (b ∷ c ∷ []) refl) ∙ pair_nil b c),
+      and-true,
     )
 zero_group_nil (a ∷ b ∷ c ∷ d ∷ s) z h = absurd (omega arith)
 
@@ -202,55 +202,12 @@ cardinal_more s h m =
     cardinal_long_digits s h ∙ join_parts (short_cardinal (take n s)) (scale (scale_for (length s))) (short_cardinal (drop n s))
     ∙ rw (zero_group_nil (take n s) (omega (arith, p.whole, p.right)) (omega (arith, p.left_short m)))
 
--- ---- the same equations for words that are held
-
-module _ (s : List ℕ) (h : HeldWriter) where
-  -- no digits: nothing more is held
-  pub hold_0 : length s ≡ 0 → h ≡ hold_words (map number_of (short_cardinal s)) h
-  unfolding hold_words
-  hold_0 e = rw (cardinal_0 s e)
-
-  -- one digit
-  pub hold_1 : length s ≡ 1 → {r : HeldWriter} → r ≡ hold_word (ones_at + get_or s 0 0) h → r ≡ hold_words (map number_of (short_cardinal s)) h
-  unfolding hold_words number_of
-  hold_1 e p = rw (cardinal_1 s e) p
-
-  -- two digits
-  pub hold_2 : length s ≡ 2 → {r : HeldWriter} → r ≡ hold_words (map number_of (pair_words (get_or s 0 0) (get_or s 1 0))) h
-      → r ≡ hold_words (map number_of (short_cardinal s)) h
-  hold_2 e p = rw (cardinal_2 s e) p
-
-  -- three digits: the hundreds, and the rest read again
-  pub hold_3 : length s ≡ 3 → {g r : HeldWriter} → g ≡ hold_words (map number_of (hundreds (get_or s 0 0))) h
-      → r ≡ hold_words (map number_of (short_cardinal (drop 1 s))) g → r ≡ hold_words (map number_of (short_cardinal s)) h
-  hold_3 e p q = rw (cardinal_3 s e, hold_words_words (hundreds (get_or s 0 0)) (short_cardinal (drop 1 s)) h, ← p) q
-
-  -- more digits: the left part, the scale, the right part
-  pub hold_more : 3 < length s → length s ≤ 12 → (k : ℕ) → k ≡ scale_for (length s) → {f g r : HeldWriter}
-      → f ≡ hold_words (map number_of (short_cardinal (take (length s - 3 * k) s))) h
-      → g ≡ hold_words (map number_of (scale_word (take (length s - 3 * k) s) k)) f
-      → r ≡ hold_words (map number_of (short_cardinal (drop (length s - 3 * k) s))) g
-      → r ≡ hold_words (map number_of (short_cardinal s)) h
-  hold_more z m k e {f} {g} p q w =
-      let n = length s - 3 * k in
-      let l = short_cardinal (take n s) in
-      let v = scale_word (take n s) k in
-      let c : short_cardinal s ≡ l ++ (v ++ short_cardinal (drop n s)) =
-      subst⁻¹
-      (λ (j : ℕ). short_cardinal s ≡ short_cardinal (take (length s - 3 * j) s)
-      ++ (scale_word (take (length s - 3 * j) s) j ++ short_cardinal (drop (length s - 3 * j) s))) e
-      (cardinal_more s z m) in
-      rw (c, hold_words_words l (v ++ short_cardinal (drop n s)) h, ← p, hold_words_words v (short_cardinal (drop n s)) f, ← q) w
-
--- both parts of a split are shorter
-pub parts_shorter : (s : List ℕ) (k : ℕ) → 3 < length s → k ≡ scale_for (length s)
-    → (3 * k < length s) × (length (take (length s - 3 * k) s) < length s) × (length (drop (length s - 3 * k) s) < length s)
-parts_shorter s k h e =
-    let p = scale_split (length s) h in
-    let r : 3 * k < length s = rw e p.right in
-    let l : length s - 3 * k < length s = rw e p.left in
-    (r, omega (arith, length-take (length s - 3 * k) s), omega (arith, length-drop (length s - 3 * k) s))
-
--- a number that is none of 0 to 3 is above 3
-pub above_3 : (n : ℕ) → (n ≡ 0 → ⊥) → (n ≡ 1 → ⊥) → (n ≡ 2 → ⊥) → (n ≡ 3 → ⊥) → 3 < n
-above_3 n a b c d = omega arith
+-- the same for a scale k that is known by another name
+pub cardinal_split : (s : List ℕ) (k : ℕ) → 3 < length s → length s ≤ 12 → k ≡ scale_for (length s)
+    → short_cardinal s ≡ short_cardinal (take (length s - 3 * k) s)
+    ++ (scale_word (take (length s - 3 * k) s) k ++ short_cardinal (drop (length s - 3 * k) s))
+cardinal_split s k h m e =
+    subst⁻¹
+    (λ (j : ℕ). short_cardinal s ≡ short_cardinal (take (length s - 3 * j) s)
+    ++ (scale_word (take (length s - 3 * j) s) j ++ short_cardinal (drop (length s - 3 * j) s))) e
+    (cardinal_more s h m)

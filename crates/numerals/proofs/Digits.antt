@@ -6,7 +6,7 @@ use Prim.Native.Nat.{ℕ, suc, ◌+◌, ◌-◌, ◌≤◌, ◌<◌}
 use native.Mathlib.Omega.{arith}
 use lib.Dec.{eqb}
 use lib.ListN.{length, get_or, take, drop}
-use borrow.Author.Tests.{le-leb, lt-leb, eqb-true, eqb-false}
+use borrow.Author.Tests.{le-leb, eqb-true, eqb-false}
 use Rattle.lists.specs.Bytes.{bytes, filter_if, after_last}
 use Rattle.lists.specs.Classes.{digit, except}
 use Rattle.lists.proofs.Scan.{filter_if_append, ByParts, next_byte}
@@ -38,15 +38,10 @@ pub digit_values_digit : (b : ℕ) → 48 ≤ b → b ≤ 57 → digit_values (b
 unfolding digit_values filter_if
 digit_values_digit b h k = rw (le-leb 48 b h, le-leb b 57 k)
 
--- a byte below the digits gives no value
-pub digit_values_low : (b : ℕ) → b < 48 → digit_values (b ∷ []) ≡ []
+-- a byte that is no digit gives no value
+pub digit_values_not : (b : ℕ) → digit b ≡ false → digit_values (b ∷ []) ≡ []
 unfolding digit_values filter_if
-digit_values_low b h = rw (lt-leb 48 b h)
-
--- a byte above the digits gives no value
-pub digit_values_high : (b : ℕ) → 48 ≤ b → 57 < b → digit_values (b ∷ []) ≡ []
-unfolding digit_values filter_if
-digit_values_high b h k = rw (le-leb 48 b h, lt-leb b 57 k)
+digit_values_not b e = rw e
 
 -- two lists of words are spelled one after the other
 pub spelled_append : (ws vs : List Word) → spelled (ws ++ vs) ≡ spelled ws ++ spelled vs

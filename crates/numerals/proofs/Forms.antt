@@ -1,6 +1,7 @@
 -- The words of `cardinal` are words of the vocabulary that have ordinal forms. Assumes nothing.
 use mathlib.Core.Path.{◌≡◌, refl, ap, ◌∙◌}
 use mathlib.Core.List.{List, [], ◌∷◌}
+use Rattle.std.specs.Prelude.{Some}
 use Prim.Native.Nat.{ℕ, ◌+◌, ◌-◌, ◌<◌}
 use native.Mathlib.Omega.{arith}
 use lib.Dec.{ltb}
@@ -21,15 +22,10 @@ pub spell_number : (w : Word) → NumberWord w → spell w ≡ word_of (number_o
 unfolding number_words consecutive_words spell number_of unfold_vocabulary
 spell_number = number_word_same spell (λ w. word_of (number_of w)) refl
 
--- no word of a number has the number 0, so 0 can mean that no word is held
-pub number_some : (w : Word) → NumberWord w → 0 < number_of w
-unfolding number_words consecutive_words number_of all
-number_some w n = ltb-true 0 (number_of w) (number_word_test (λ w. ltb 0 (number_of w)) refl w n)
-
 -- what the code does to the number of the last word is what `ordinal` does to its spelling
-pub form_number : (w : Word) → NumberWord w → ordinal_form (spell w) ≡ word_of (ordinal_number (number_of w))
+pub form_number : (w : Word) → NumberWord w → ordinal_form (spell w) ≡ word_of (ordinal_number (Some (number_of w)))
 unfolding number_words consecutive_words spell number_of unfold_vocabulary ordinal_form form_in ordinal_number
-form_number = number_word_same (λ w. ordinal_form (spell w)) (λ w. word_of (ordinal_number (number_of w))) refl
+form_number = number_word_same (λ w. ordinal_form (spell w)) (λ w. word_of (ordinal_number (Some (number_of w)))) refl
 
 -- the word of a digit, by its number
 pub digit_number : (d : ℕ) → d < 10 → spell (one d) ≡ word_of (ones_at + d)

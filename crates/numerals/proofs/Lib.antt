@@ -1,10 +1,10 @@
 pub mod Digits
-pub mod Picking
 pub mod Holding
 pub mod Cardinal
 pub mod NumberWords
 pub mod Forms
-pub mod Flushing
 pub mod Value
 pub mod Room
+pub mod Picking
+pub mod Flushing
 pub mod Said

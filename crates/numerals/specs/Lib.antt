@@ -3,3 +3,5 @@ pub mod Cardinal
 pub mod Ordinal
 pub mod Value
 pub mod Walk
+pub mod FirstDigits
+pub mod Held

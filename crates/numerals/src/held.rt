@@ -1,93 +1,105 @@
-// A writer that holds back the last word of a number, since an ordinal number changes its last word.
+// Holds back the last word of a number, since an ordinal number changes its last word.
 ghost use Rattle.std.specs.Prelude.{◌≡◌, cond, map, ◌∷◌, [], eqb};
-ghost use Rattle.word_writer.specs.Writer.{writer};
+ghost use Rattle.word_writer.specs.Writer.{written, SameBuffers};
 ghost use Rattle.numerals.specs.Words.{one, hundred, scale};
 ghost use Rattle.numerals.specs.Cardinal.{pair_words};
-ghost use Rattle.numerals.specs.Walk.{number_of, held, flushed, hold_word, hold_words, ordinal_number};
+ghost use Rattle.numerals.specs.Walk.{number_of, ordinal_number};
+ghost use Rattle.numerals.specs.Held.{held, flushed, formed, Holds};
 
 use crate::saying::say;
 use vocabulary::{HUNDRED, ONES, ORDINAL, TEENS, TENS};
-use word_writer::Cursor;
+use word_writer::Writer;
 
-// No word is held. Word 0 of the vocabulary is a unit's word, which is never held.
-pub const NONE: usize = 0;
-
+// The number of the word that is held back, if there is one.
 #[derive(Clone, Copy)]
 pub struct Held {
-    pub cursor: Cursor,
-    pub last: usize,
+    last: Option<usize>,
 }
 
-// Says the word that is held.
-pub fn flush(store: &mut [u8], table: &mut [u8], h: Held) -> Cursor
-    ensures { writer store.new table.new result ≡ flushed (held store.old table.old h) }
-{
-    if h.last == NONE {
-        return h.cursor;
+impl Held {
+    // No word is held.
+    pub fn none() -> Self
+        ensures { result.last ≡ None }
+    {
+        Held { last: None }
     }
-    say(h.last, store, table, h.cursor)
-}
 
-// Says the word that is held, and holds word number k.
-pub fn hold(k: usize, store: &mut [u8], table: &mut [u8], h: Held) -> Held
-    ensures { held store.new table.new result ≡ hold_word k (held store.old table.old h) }
-{
-    let cursor = flush(store, table, h);
-    Held { cursor, last: k }
-}
-
-// Holds the words of a pair of digits, tens and ones.
-pub fn hold_pair(t: u8, n: u8, store: &mut [u8], table: &mut [u8], h: Held) -> Held
-    ensures { held store.new table.new result ≡ hold_words (map number_of (pair_words t n)) (held store.old table.old h) }
-{
-    if t == 0 {
-        if n == 0 {
-            return h;
+    // Says the word that is held.
+    #[tactic(auto, unfolding(crate::specs::Held::flushed, word_writer::specs::Writer::put_words))]
+    pub fn flush(&self, out: &mut Writer)
+        ensures buffers { SameBuffers out.old out.new }
+        ensures words { written out.new ≡ flushed (held self.now out.old) }
+    {
+        if let Some(k) = self.last {
+            say(k, out);
         }
-        return hold(ONES + n as usize, store, table, h);
     }
-    if n == 0 {
-        return hold(TENS + t as usize, store, table, h);
+
+    // Says the ordinal form of the word that is held, "zeroth" if none is.
+    #[tactic(auto, unfolding(crate::specs::Held::formed, word_writer::specs::Writer::put_words))]
+    pub fn flush_ordinal(&self, out: &mut Writer)
+        ensures buffers { SameBuffers out.old out.new }
+        ensures words { written out.new ≡ formed (held self.now out.old) }
+    {
+        say(ordinal_number(self.last), out);
     }
-    if t == 1 {
-        return hold(TEENS + n as usize, store, table, h);
+
+    // Says the word that is held, and holds word number k.
+    #[tactic(auto, unfolding(crate::specs::Held::hold_word, crate::specs::Held::hold_words))]
+    pub fn hold(&mut self, k: usize, out: &mut Writer)
+        ensures { Holds (k ∷ []) self.old out.old self.new out.new }
+    {
+        self.flush(out);
+        self.last = Some(k);
     }
-    let g = hold(TENS + t as usize, store, table, h);
-    hold(ONES + n as usize, store, table, g)
+
+    // Holds the words of a pair of digits, tens and ones.
+    #[tactic(auto, using(crate::proofs::Holding::pair_tests), unfolding(crate::specs::Walk::number_of, crate::specs::Held::hold_words))]
+    pub fn hold_pair(&mut self, t: u8, n: u8, out: &mut Writer)
+        ensures { Holds (map number_of (pair_words t n)) self.old out.old self.new out.new }
+    {
+        match (t, n) {
+            (0, 0) => {}
+            (0, _) => self.hold(ONES + usize::from(n), out),
+            (_, 0) => self.hold(TENS + usize::from(t), out),
+            (1, _) => self.hold(TEENS + usize::from(n), out),
+            _ => {
+                self.hold(TENS + usize::from(t), out);
+                self.hold(ONES + usize::from(n), out);
+            }
+        }
+    }
+
+    // Holds the words of the hundreds digit d; none if it is 0.
+    #[tactic(auto, unfolding(crate::specs::Walk::number_of, crate::specs::Held::hold_words))]
+    pub fn hold_hundreds(&mut self, d: u8, out: &mut Writer)
+        ensures { Holds (map number_of (cond (eqb d 0) [] (one d ∷ hundred ∷ []))) self.old out.old self.new out.new }
+    {
+        if d == 0 {
+            return;
+        }
+        self.hold(ONES + usize::from(d), out);
+        self.hold(HUNDRED, out);
+    }
+
+    // Holds the word of scale k; none if the digits before it have no words.
+    #[tactic(auto, unfolding(crate::specs::Walk::number_of, crate::specs::Held::hold_words))]
+    pub fn hold_scale(&mut self, wordless: bool, k: u8, out: &mut Writer)
+        ensures { Holds (map number_of (cond wordless [] (scale k ∷ []))) self.old out.old self.new out.new }
+    {
+        if !wordless {
+            self.hold(HUNDRED + usize::from(k), out);
+        }
+    }
 }
 
-// Holds the words of the hundreds digit d; none if it is 0.
-pub fn hold_hundreds(d: u8, store: &mut [u8], table: &mut [u8], h: Held) -> Held
-    ensures { held store.new table.new result
-        ≡ hold_words (map number_of (cond (eqb d 0) [] (one d ∷ hundred ∷ []))) (held store.old table.old h) }
-{
-    if d == 0 {
-        return h;
-    }
-    let g = hold(ONES + d as usize, store, table, h);
-    hold(HUNDRED, store, table, g)
-}
-
-// Holds the word of scale k; none if the digits before it have no words.
-pub fn hold_scale(wordless: bool, k: u8, store: &mut [u8], table: &mut [u8], h: Held) -> Held
-    ensures { held store.new table.new result
-        ≡ hold_words (map number_of (cond wordless [] (scale k ∷ []))) (held store.old table.old h) }
-{
-    if wordless {
-        return h;
-    }
-    hold(HUNDRED + k as usize, store, table, h)
-}
-
-// The number of the ordinal form of word k; that of "zeroth" if k is no cardinal word.
-pub fn ordinal_number(k: usize) -> usize
+// The number of the ordinal form of word k; that of "zeroth" if there is no word, or it is no cardinal word.
+#[tactic(auto, unfolding(crate::specs::Walk::ordinal_number))]
+pub fn ordinal_number(k: Option<usize>) -> usize
     ensures { result ≡ ordinal_number k }
 {
-    if k < ONES {
-        return ONES + ORDINAL;
+    match k {
+        Some(k) if ONES <= k && k < ONES + ORDINAL => k + ORDINAL,
+        _ => ONES + ORDINAL,
     }
-    if ONES + ORDINAL <= k {
-        return ONES + ORDINAL;
-    }
-    k + ORDINAL
 }

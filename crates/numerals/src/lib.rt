@@ -4,5 +4,4 @@
 pub mod digit_values;
 pub mod held;
 pub mod number;
-pub mod progress;
 pub mod saying;

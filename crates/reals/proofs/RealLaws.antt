@@ -2,12 +2,12 @@
 use mathlib.Core.Path.{◌≡◌, refl, sym, ap, ap₂, ◌∙◌}
 use mathlib.Core.Bool.{Bool, true, false, cond}
 use mathlib.Core.List.{List, [], ◌∷◌, ◌++◌, append-nil}
-use Prim.Native.Nat.{ℕ, zero, suc, ◌+◌, ◌-◌, ◌≤◌, ◌<◌}
+use Prim.Native.Nat.{ℕ, zero, suc, ◌+◌, ◌≤◌, ◌<◌}
 use Prim.Native.Char.{code}
 use native.Mathlib.Omega.{arith}
 use lib.Dec.{ltb}
 use lib.ListN.{length, take, drop, length-take, length-drop, drop_of_length-le}
-use lib.Seq.{take_all, drop-drop, append_snoc}
+use lib.Seq.{take_all, append_snoc}
 use borrow.Author.Tests.{ltb-true, ltb-false, le-ltb}
 use Rattle.lists.specs.Bytes.{bytes, span, starts_with, filter_if}
 use Rattle.lists.specs.Classes.{not_e}
@@ -53,9 +53,10 @@ unfolding real real_step recur recur_at pointed span cardinal cardinal_of digit_
 real_none = refl
 
 -- an empty text has no words
-pub real_end : spelled (real []) ≡ []
+pub real_end : (s : List ℕ) → length s ≡ 0 → [] ≡ spelled (real s)
 unfolding spelled
-real_end = ap spelled real_none
+real_end [] h = ap spelled (sym real_none)
+real_end (b ∷ s) h = absurd (omega arith)
 
 -- a text with no leading sign and no "e"
 pub real_plain : (s : List ℕ) → starts_with (code "-") s ≡ false → starts_with (code "+") s ≡ false → length s ≤ e_at s → real s ≡ pointed s
@@ -90,19 +91,10 @@ part_bytes s h = go (starts_with_sign s) (ltb (e_at s) (length s)) refl (span_le
     go false true r l = (omega arith, omega (arith, ltb-true (e_at s) (length s) r))
     go false false r l = (omega (arith, ltb-false (e_at s) (length s) r), omega arith)
 
--- a step reads n bytes from i, where the text t starts
-module _ (s : List ℕ) (i : ℕ) {t : List ℕ} {n : ℕ} (g : t ≡ drop i s) (e : n ≡ part_size t) where
-  -- the step moves on, and stays within the text
-  pub part_more : i < length s → (0 < n) × (i + n ≤ length s)
-  part_more h =
-      let l : length t ≡ length s - i = ap length g ∙ length-drop i s in
-      let b = part_bytes t (omega arith) in
-      (omega arith, omega arith)
+-- what a step leaves is shorter
+pub rest_shorter : (s : List ℕ) → 0 < length s → {t : List ℕ} → t ≡ drop (part_size s) s → length t < length s
+rest_shorter s h e = omega (arith, ap length e, length-drop (part_size s) s, part_bytes s h)
 
-  -- the words of the step, and those of what is left
-  pub real_at : spelled (real (drop i s)) ≡ spelled (part_words t) ++ spelled (real (drop (i + n) s))
-  real_at =
-      ap (λ (l : List ℕ). spelled (real l)) (sym g)
-      ∙ ap spelled (real_part t)
-      ∙ spelled_append (part_words t) (real (drop (part_size t) t))
-      ∙ ap (λ (l : List ℕ). spelled (part_words t) ++ spelled (real l)) (ap₂ drop (sym e) g ∙ drop-drop n i s)
+-- the words of the step, and those of what is left
+pub real_on : (s : List ℕ) {t : List ℕ} → t ≡ drop (part_size s) s → spelled (real s) ≡ spelled (part_words s) ++ spelled (real t)
+real_on s e = rw e (ap spelled (real_part s) ∙ spelled_append (part_words s) (real (drop (part_size s) s)))

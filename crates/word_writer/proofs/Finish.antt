@@ -14,16 +14,18 @@ use Rattle.lists.specs.Bytes.{overwrite}
 use Rattle.lists.specs.LittleEndian.{le_bytes}
 use Rattle.lists.proofs.Sets.{sets_append, sets_front, le_or_lt}
 use Rattle.lists.proofs.Bools.{or_false_both}
-use Rattle.admit.specs.Refusals.{Test, ◌when◌, text_limit, text_tests, text_refusal, in_order}
+use Rattle.std.specs.Prelude.{Result, Ok, Err, IsErrAnd}
+use Rattle.admit.specs.Refusals.{Test, ◌when◌, text_limit, text_tests, text_refusal, answer_number, in_order}
+use Rattle.admit.specs.declared.Refusal.{Refusal}
 use Rattle.admit.specs.declared.Refusal.TheVariants.{BufferTooShort}
-use Rattle.admit.proofs.Calls.{refused_first, passed_first}
-use Rattle.word_writer.specs.Writer.{usize_max, pair_of, pair_size, Writer, writer, gap, after_gap, put_word, put_words}
-use Rattle.word_writer.specs.Words.{table_of, too_short_for, too_short, words_call, as_words, start_cursor, counts_at, refused_counts, words_tests}
-use Rattle.word_writer.specs.declared.Cursor.{Cursor}
+use Rattle.admit.proofs.Calls.{leaves_first, decides_next}
+use Rattle.word_writer.specs.Writer.{usize_max, pair_of, pair_size, Written, written, unwritten, gap, after_gap, put_word, put_words, Says}
+use Rattle.word_writer.specs.Words.{table_of, too_short_for, too_short, words_call, as_words, counts_at, words_tests}
+use Rattle.word_writer.specs.declared.Writer.{Writer}
 use Rattle.word_writer.specs.declared.WordCounts.{WordCounts}
 
 -- two runs of words joined are put one after the other
-pub put_words_append : (ws vs : List (List ℕ)) (s : Writer) → put_words (ws ++ vs) s ≡ put_words vs (put_words ws s)
+pub put_words_append : (ws vs : List (List ℕ)) (s : Written) → put_words (ws ++ vs) s ≡ put_words vs (put_words ws s)
 unfolding put_words
 put_words_append [] vs s = refl
 put_words_append (w ∷ ws) vs s = put_words_append ws vs (put_word w s)
@@ -54,7 +56,7 @@ gap_place true at h = refl
 gap_place false at h = omega arith
 
 -- the place in the store moves on by the bytes of the words, whatever the buffers are
-pub put_words_at : (ws : List (List ℕ)) (s : Writer) → s.at ≤ usize_max → (put_words ws s).at ≡ min (s.at + length (store_by s.spaced ws)) usize_max
+pub put_words_at : (ws : List (List ℕ)) (s : Written) → s.at ≤ usize_max → (put_words ws s).at ≡ min (s.at + length (store_by s.spaced ws)) usize_max
 unfolding put_words put_word store_by
 put_words_at [] s h = omega arith
 put_words_at (w ∷ ws) s h =
@@ -64,13 +66,13 @@ put_words_at (w ∷ ws) s h =
     put_words_at ws (put_word w s) (omega arith) ∙ omega arith
 
 -- the place in the table moves on by the count of words, whatever the buffers are
-pub put_words_words : (ws : List (List ℕ)) (s : Writer) → s.words ≤ usize_max → (put_words ws s).words ≡ min (s.words + length ws) usize_max
+pub put_words_words : (ws : List (List ℕ)) (s : Written) → s.words ≤ usize_max → (put_words ws s).words ≡ min (s.words + length ws) usize_max
 unfolding put_words put_word
 put_words_words [] s h = omega arith
 put_words_words (w ∷ ws) s h = put_words_words ws (put_word w s) (omega arith) ∙ omega arith
 
 -- the bytes of the words stand in the store and their pairs in the table, and the places are after them
-abbrev pub written_words : List (List ℕ) → Writer → Writer
+abbrev pub written_words : List (List ℕ) → Written → Written
 written_words ws s =
     record {
       store = sets s.store s.at (store_by s.spaced ws);
@@ -81,7 +83,7 @@ written_words ws s =
     }
 
 -- this is what putting words gives, if the places stay within the largest number
-pub put_words_is : (ws : List (List ℕ)) (s : Writer) → s.at + length (store_by s.spaced ws) ≤ usize_max → s.words + length ws ≤ usize_max
+pub put_words_is : (ws : List (List ℕ)) (s : Written) → s.at + length (store_by s.spaced ws) ≤ usize_max → s.words + length ws ≤ usize_max
     → put_words ws s ≡ written_words ws s
 unfolding put_words put_word store_by table_by pair_of le_bytes
 put_words_is [] s h k = λ j. record { store = s.store; table = s.table; at = sym (add-zero s.at) j; words = sym (add-zero s.words) j; spaced = s.spaced }
@@ -117,20 +119,20 @@ ltb_same a b l f g =
     (λ (h : l < a). lt-ltb l a h ∙ sym (lt-ltb l b (f h)))
     (le_or_lt a l)
 
--- the cursor after the words ws, with any buffers, shows whether buffers of a and b bytes are too short for them
-pub measured : (ws : List (List ℕ)) (a b : ℕ) → a < usize_max → b < usize_max → (x y x₀ y₀ : List ℕ) {m p₀ : Cursor} → p₀ ≡ start_cursor
-    → writer x y m ≡ put_words ws (writer x₀ y₀ p₀)
-    → too_short_for m.at m.words a b ≡ too_short_for (length (flatten ws)) (length ws) a b
-measured ws a b ha hb x y x₀ y₀ {m} {p₀} e₀ e =
-    let s₀ = writer x₀ y₀ p₀ in
-    let i : p₀.at ≡ 0 = ap (λ (p : Cursor). p.at) e₀ in
-    let j : p₀.words ≡ 0 = ap (λ (p : Cursor). p.words) e₀ in
-    let f : store_by p₀.spaced ws ≡ flatten ws = ap (λ (p : Cursor). store_by p.spaced ws) e₀ ∙ store_plain ws in
-    let n : m.at ≡ min (p₀.at + length (flatten ws)) usize_max = rw f at (ap (λ (q : Writer). q.at) e ∙ put_words_at ws s₀ (omega arith)) in
-    let w : m.words ≡ min (p₀.words + length ws) usize_max = ap (λ (q : Writer). q.words) e ∙ put_words_words ws s₀ (omega arith) in
+-- what is measured of the words ws, with any buffers, shows whether buffers of a and b bytes are too short for them
+pub measured : (ws : List (List ℕ)) (a b : ℕ) → a < usize_max → b < usize_max → {x y : List ℕ} {p q : Writer}
+    → written p ≡ unwritten false x y → Says ws p q
+    → too_short_for q.at q.words a b ≡ too_short_for (length (flatten ws)) (length ws) a b
+measured ws a b ha hb {x} {y} {p} {q} start said =
+    let e : written q ≡ put_words ws (unwritten false x y) = said.words ∙ ap (put_words ws) start in
+    let f : length (store_by false ws) ≡ length (flatten ws) = ap (λ (s : List ℕ). length s) (store_plain ws) in
+    let n : q.at ≡ min (length (flatten ws)) usize_max =
+    ap (λ (s : Written). s.at) e ∙ put_words_at ws (unwritten false x y) (omega arith) ∙ omega arith in
+    let w : q.words ≡ min (length ws) usize_max =
+    ap (λ (s : Written). s.words) e ∙ put_words_words ws (unwritten false x y) (omega arith) ∙ omega arith in
     rw (
-      ltb_same m.at (length (flatten ws)) a (λ h. omega arith) (λ h. omega arith),
-      ltb_same (pair_size * m.words) (pair_size * length ws) b (λ h. omega arith) (λ h. omega arith),
+      ltb_same q.at (length (flatten ws)) a (λ h. omega arith) (λ h. omega arith),
+      ltb_same (pair_size * q.words) (pair_size * length ws) b (λ h. omega arith) (λ h. omega arith),
     )
 
 -- buffers that are long enough are not too short
@@ -142,8 +144,8 @@ pub words_in_order : (s : List ℕ) (ws : List (List ℕ)) (st tb : List ℕ) �
 unfolding text_tests
 words_in_order s ws st tb = refl
 
--- ws are the words of the text s, whose refusal n is tested first; st and tb are the lent buffers
-module _ (s : List ℕ) (ws : List (List ℕ)) (st tb : List ℕ) (n : ℕ) (refusal_eq : n ≡ text_refusal text_limit s) where
+-- ws are the words of the text s; st and tb are the lent buffers
+module _ (s : List ℕ) (ws : List (List ℕ)) (st tb : List ℕ) where
   abbrev is_short : Bool
   is_short = too_short ws st tb
 
@@ -153,33 +155,36 @@ module _ (s : List ℕ) (ws : List (List ℕ)) (st tb : List ℕ) (n : ℕ) (ref
   abbrev room : List Test
   room = BufferTooShort when is_short ∷ []
 
-  -- if the text is refused, the call answers its number
-  pub text_refused : {r : WordCounts} → (n ≡ 0 → ⊥) → r ≡ refused_counts n → as_words r st tb ≡ words_call s ws st tb
-  unfolding words_call
-  text_refused z e = rw e (refused_first text room refusal_eq _ _ z)
+  -- `made` is what the call answered that tested the text
+  module _ {T : Type 0} {made : Result T Refusal} (made_eq : answer_number made ≡ text_refusal text_limit s) where
+    -- if the text is refused, `?` leaves with its refusal
+    pub text_refused : (result : Result WordCounts Refusal) {r : Refusal} → made ≡ Err r → IsErrAnd result (λ e. e ≡ r)
+        → as_words result st tb ≡ words_call s ws st tb
+    unfolding words_call
+    text_refused result e h = leaves_first text room made_eq _ _ _ result e h
 
-  -- if a buffer is too short, the call answers 5
-  pub short_refused : n ≡ 0 → is_short ≡ true → {r : WordCounts} → r ≡ refused_counts 5 → as_words r st tb ≡ words_call s ws st tb
-  unfolding words_call
-  short_refused z t q = rw (q, passed_first text room refusal_eq z, t)
+    -- if a buffer is too short, the call answers that
+    pub short_refused : {v : T} → made ≡ Ok v → is_short ≡ true → as_words (Err BufferTooShort) st tb ≡ words_call s ws st tb
+    unfolding words_call
+    short_refused e t = rw (decides_next text room made_eq e, t)
 
-  -- if both are long enough, the words are written to them and the call answers their counts
-  pub all_written : n ≡ 0 → is_short ≡ false → length st < usize_max → length tb < usize_max
-      → {st' tb' : List ℕ} {p p₁ : Cursor} → p₁ ≡ start_cursor → writer st' tb' p ≡ put_words ws (writer st tb p₁)
-      → {r : WordCounts} → r ≡ counts_at p → as_words r st' tb' ≡ words_call s ws st tb
-  unfolding words_call
-  all_written z f hs ht {st'} {tb'} {p} {p₁} e₁ d q =
-      let fits = or_false_both (ltb (length st) (length (flatten ws))) (ltb (length tb) (pair_size * length ws)) f in
-      let fs : length (flatten ws) ≤ length st = ltb-false _ _ fits.0 in
-      let ft : pair_size * length ws ≤ length tb = ltb-false _ _ fits.1 in
-      let g = store_plain ws in
-      let eg : length (store_by false ws) ≡ length (flatten ws) = ap (λ (t : List ℕ). length t) g in
-      let all : writer st' tb' p ≡ written_words ws (writer st tb start_cursor) =
-      d ∙ ap (λ (k : Cursor). put_words ws (writer st tb k)) e₁ ∙ put_words_is ws (writer st tb start_cursor) (omega arith) (omega arith) in
-      let es : st' ≡ overwrite (flatten ws) st = ap (λ (k : Writer). k.store) all ∙ ap (sets st 0) g ∙ sets_front st (flatten ws) fs in
-      let et : tb' ≡ overwrite (table_of 0 ws) tb =
-      ap (λ (k : Writer). k.table) all ∙ ap (sets tb 0) (table_plain 0 ws)
-      ∙ sets_front tb (table_of 0 ws) (omega (arith, table_of_length 0 ws)) in
-      let ea : p.at ≡ length (flatten ws) = ap (λ (k : Writer). k.at) all ∙ zero-add (length (store_by false ws)) ∙ eg in
-      let ew : p.words ≡ length ws = ap (λ (k : Writer). k.words) all ∙ zero-add (length ws) in
-      rw (q, passed_first text room refusal_eq z, f) (λ j. record { refusal = 0; value = record { words = ew j; bytes = ea j; store = es j; table = et j } })
+    -- if both are long enough, the words are written to them and the call answers their counts
+    pub all_written : {v : T} → made ≡ Ok v → is_short ≡ false → length st < usize_max → length tb < usize_max → {p q : Writer}
+        → written p ≡ unwritten false st tb → Says ws p q
+        → as_words (Ok (counts_at (written q))) q.store.now q.table.now ≡ words_call s ws st tb
+    unfolding words_call
+    all_written e f hs ht {p} {q} start said =
+        let fits = or_false_both (ltb (length st) (length (flatten ws))) (ltb (length tb) (pair_size * length ws)) f in
+        let fs : length (flatten ws) ≤ length st = ltb-false _ _ fits.0 in
+        let ft : pair_size * length ws ≤ length tb = ltb-false _ _ fits.1 in
+        let g = store_plain ws in
+        let eg : length (store_by false ws) ≡ length (flatten ws) = ap (λ (t : List ℕ). length t) g in
+        let s₀ = unwritten false st tb in
+        let all : written q ≡ written_words ws s₀ = said.words ∙ ap (put_words ws) start ∙ put_words_is ws s₀ (omega arith) (omega arith) in
+        let es : q.store.now ≡ overwrite (flatten ws) st = ap (λ (k : Written). k.store) all ∙ ap (sets st 0) g ∙ sets_front st (flatten ws) fs in
+        let et : q.table.now ≡ overwrite (table_of 0 ws) tb =
+        ap (λ (k : Written). k.table) all ∙ ap (sets tb 0) (table_plain 0 ws)
+        ∙ sets_front tb (table_of 0 ws) (omega (arith, table_of_length 0 ws)) in
+        let ea : q.at ≡ length (flatten ws) = ap (λ (k : Written). k.at) all ∙ zero-add (length (store_by false ws)) ∙ eg in
+        let ew : q.words ≡ length ws = ap (λ (k : Written). k.words) all ∙ zero-add (length ws) in
+        rw (decides_next text room made_eq e, f) (λ j. record { refusal = 0; value = record { words = ew j; bytes = ea j; store = es j; table = et j } })

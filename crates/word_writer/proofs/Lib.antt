@@ -1,3 +1,3 @@
 pub mod Finish
-pub mod Walks
+pub mod Saying
 pub mod ReadBack

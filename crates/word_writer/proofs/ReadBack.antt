@@ -7,7 +7,7 @@ use native.Mathlib.Omega.{arith}
 use lib.ListN.{length, take, drop, get_or, length-append}
 use lib.Seq.{take-append_seam, drop-append-add}
 use Rattle.lists.specs.LittleEndian.{le_value, le_bytes}
-use Rattle.lists.proofs.Packed.{le_bytes_value}
+use Rattle.lists.proofs.LittleEndian.{le_bytes_value}
 use Rattle.admit.specs.Refusals.{first_refusal, call}
 use Rattle.admit.proofs.Calls.{call_number}
 use Rattle.word_writer.specs.Writer.{pair_of}

@@ -1,12 +1,12 @@
 -- Document 01, "Number words": what a call that gives words answers, and leaves in the lent buffers. Definitions only.
-use Rattle.std.specs.Prelude.{◌≡◌, Bool, true, false, ◌||◌, ℕ, ◌+◌, ◌*◌, ltb, length, take, drop, get_or}
+use Rattle.std.specs.Prelude.{◌≡◌, Bool, ◌||◌, ℕ, ◌+◌, ◌*◌, Result, ltb, length, take, drop, get_or}
 use mathlib.Core.List.{List, [], ◌∷◌, ◌++◌, flatten}
 use Rattle.lists.specs.Bytes.{overwrite}
 use Rattle.lists.specs.LittleEndian.{le_value}
-use Rattle.admit.specs.Refusals.{Test, ◌when◌, first_refusal, text_limit, text_tests, Call, call}
+use Rattle.admit.specs.Refusals.{Test, ◌when◌, first_refusal, text_limit, text_tests, Call, call, answered}
+use Rattle.admit.specs.declared.Refusal.{Refusal}
 use Rattle.admit.specs.declared.Refusal.TheVariants.{BufferTooShort}
-use Rattle.word_writer.specs.Writer.{pair_of, pair_size}
-use Rattle.word_writer.specs.declared.Cursor.{Cursor}
+use Rattle.word_writer.specs.Writer.{pair_of, pair_size, Written}
 use Rattle.word_writer.specs.declared.WordCounts.{WordCounts}
 
 -- "with a table of pairs of offset and length sorted by offset, one pair a word"; the first word starts at `at`
@@ -49,8 +49,9 @@ words_call s ws store table =
     (words_result ws store table)
 
 -- an answer, with the buffers as the call leaves them
-abbrev pub as_words : WordCounts → List ℕ → List ℕ → Call WordsResult
-as_words r store table = record { refusal = r.refusal; value = record { words = r.words; bytes = r.bytes; store = store; table = table } }
+abbrev pub as_words : Result WordCounts Refusal → List ℕ → List ℕ → Call WordsResult
+as_words r store table =
+    answered (no_words_result store table) (λ counts. record { words = counts.words; bytes = counts.bytes; store = store; table = table }) r
 
 -- ---- what a caller reads from a table and a store
 
@@ -76,17 +77,6 @@ pub record PairIs (at : ℕ) (ws : List (List ℕ)) (table : List ℕ) (i : ℕ)
 
 -- ---- no public promise is made of these
 
--- a cursor at the start of both buffers
-abbrev pub start_cursor : Cursor
-start_cursor = record { at = 0; words = 0; spaced = false }
-
--- the same, with a space before each word
-abbrev pub spaced_cursor : Cursor
-spaced_cursor = record { at = 0; words = 0; spaced = true }
-
--- what an accepted call answers if its cursor is p at the end
-abbrev pub counts_at : Cursor → WordCounts
-counts_at p = record { refusal = 0; words = p.words; bytes = p.at }
-
-abbrev pub refused_counts : ℕ → WordCounts
-refused_counts n = record { refusal = n; words = 0; bytes = 0 }
+-- what an accepted call answers if s is written at the end
+abbrev pub counts_at : Written → WordCounts
+counts_at s = record { words = s.words; bytes = s.at }

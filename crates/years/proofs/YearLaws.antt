@@ -1,31 +1,26 @@
 -- The digits of a text one by one, and the steps that read a year. Assumes nothing.
-use mathlib.Core.Path.{◌≡◌, refl, sym, ap, ◌∙◌}
+use mathlib.Core.Path.{◌≡◌, refl, ap, ◌∙◌}
 use mathlib.Core.Bool.{Bool, true, false, cond, not, ◌&&◌}
+use mathlib.Core.Logic.{⊎_elim}
 use mathlib.Core.List.{List, [], ◌∷◌, ◌++◌, map}
 use Prim.Native.Nat.{ℕ, suc, ◌+◌, ◌-◌, ◌%◌, ◌≤◌, ◌<◌}
 use native.Mathlib.Numerals.{add-one}
 use native.Mathlib.Omega.{arith}
 use lib.Dec.{leb, eqb}
 use lib.ListN.{length, take, drop, get_or, length-drop, drop_of_length-le, get_or-eq_default}
-use lib.Seq.{get_or-drop, drop-drop}
 use borrow.Author.Tests.{ne_eqb, lt-leb, leb-false, eqb-true, eqb-false}
 use Rattle.lists.specs.Bytes.{bytes, span, count_if, filter_if}
 use Rattle.lists.specs.Classes.{digit, non_digit}
 use Rattle.lists.proofs.Recursion.{Local, recur_eq}
-use Rattle.lists.proofs.Scan.{span_le}
+use Rattle.lists.proofs.Sets.{le_or_lt}
 use Rattle.vocabulary.specs.Vocabulary.{word_of, others_at}
 use Rattle.vocabulary.proofs.Laws.{unfold_vocabulary}
 use Rattle.numerals.specs.Words.{Word, one, hundred, other, spelled}
 use Rattle.numerals.specs.Cardinal.{digit_value, digit_values, pair_words, short_cardinal, cardinal_of}
-use Rattle.numerals.specs.Walk.{BelowTen, first_digits}
-use Rattle.numerals.specs.declared.digit_values.FirstDigits.{FirstDigits}
 use Rattle.numerals.proofs.Digits.{spelled_append}
 use Rattle.numerals.proofs.Cardinal.{cardinal_2}
-use Rattle.numerals.proofs.NumberWords.{digit_values_below_ten, digit_at}
-use Rattle.numerals.proofs.Picking.{first_digits_digits}
 use Rattle.years.specs.Year.{year_step, year_of, year}
-use Rattle.years.specs.Walk.{PickedFrom, lead_count, lead_words}
-use Rattle.years.specs.declared.Picked.{Picked}
+use Rattle.years.specs.Walk.{lead_count, lead_words}
 
 -- the first digit of a text stands after the bytes at its front that are no digits
 digit_values_some : (s : List ℕ) → span non_digit s < length s → digit_values s ≡ digit_value (get_or s (span non_digit s) 0) ∷ digit_values (drop (span non_digit s + 1) s)
@@ -61,20 +56,17 @@ digit_values_count (b ∷ s) = go (digit b) (digit_values_count s)
     go true e = ap suc e
     go false e = e
 
--- what `pick` answers
-module _ (s : List ℕ) (i v : ℕ) (e : i ≡ span non_digit s) (d : v ≡ digit_value (get_or s i 0)) where
-  -- there is a digit
-  pub picked_some : i < length s → PickedFrom s (record { value = v; next = i + 1 })
-  picked_some h =
-      let l : span non_digit s < length s = omega arith in
-      record { digit = rw (digit_values_some s l, ← e) d; others = rw (digit_values_some s l, ← e); within = omega arith }
-
-  -- there is none
-  pub picked_none : length s ≤ i → PickedFrom s (record { value = v; next = i })
-  unfolding digit_values filter_if
-  picked_none h =
-      let n : digit_values s ≡ [] = digit_values_none s (omega arith) in
-      record { digit = rw n (d ∙ rw (get_or-eq_default s 0 h)); others = rw (n, drop_of_length-le s h); within = omega (arith, span_le non_digit s) }
+-- what `pick` answers: the first digit, and what follows it
+pub picked : (s : List ℕ) {i : ℕ} → i ≡ span non_digit s
+    → (digit_value (get_or s i 0) ≡ get_or (digit_values s) 0 0) × (digit_values (drop (i + 1) s) ≡ drop 1 (digit_values s))
+unfolding digit_values filter_if
+picked s {i} e =
+    ⊎_elim
+    (λ (h : length s ≤ i).
+    let n : digit_values s ≡ [] = digit_values_none s (omega arith) in
+    rw (n, get_or-eq_default s 0 h, drop_of_length-le s (let k : length s ≤ i + 1 = omega arith in k)) (refl, refl))
+    (λ (h : i < length s). let d = digit_values_some s (omega arith) in rw (d, e) (refl, refl))
+    (le_or_lt (length s) i)
 
 year_local : Local year_step
 unfolding year_step
@@ -114,7 +106,7 @@ year_three a b c = year_eq (a ∷ b ∷ c ∷ [])
 
 -- a year of four digits
 pub year_four : (s : List ℕ) → length s ≡ 4 → {b c d : ℕ} → b ≡ get_or s 1 0 → c ≡ get_or s 2 0 → d ≡ get_or s 3 0
-    → year_of s ≡ cond (eqb b 0 && eqb c 0) (short_cardinal s) (short_cardinal (take 2 s) ++ cond (eqb c 0 && eqb d 0) (hundred ∷ []) (year_of (c ∷ d ∷ [])))
+    → year_of s ≡ cond (eqb b 0 && eqb c 0) (short_cardinal s) (short_cardinal (take 2 s) ++ cond (eqb c 0 && eqb d 0) (hundred ∷ []) (year_of (drop 2 s)))
 unfolding year_step cardinal_of
 year_four [] h p q r = absurd (omega arith)
 year_four (a ∷ []) h p q r = absurd (omega arith)
@@ -168,48 +160,34 @@ pub oh_word : word_of others_at ≡ bytes "oh"
 unfolding unfold_vocabulary
 oh_word = refl
 
--- a list of two is its two elements
-pub as_two : (s : List ℕ) → length s ≡ 2 → get_or s 0 0 ∷ get_or s 1 0 ∷ [] ≡ s
-as_two [] h = absurd (omega arith)
-as_two (a ∷ []) h = absurd (omega arith)
-as_two (a ∷ b ∷ []) h = refl
-as_two (a ∷ b ∷ c ∷ s) h = absurd (omega arith)
+-- two digits
+pub two_words : (s : List ℕ) → length s ≡ 2
+    → year_of s ≡ cond (eqb (get_or s 0 0) 0) (cond (eqb (get_or s 1 0) 0) (one 0 ∷ one 0 ∷ []) (other (bytes "oh") ∷ one (get_or s 1 0) ∷ [])) (short_cardinal s)
+two_words [] h = absurd (omega arith)
+two_words (a ∷ []) h = absurd (omega arith)
+two_words (a ∷ b ∷ []) h = rw (cardinal_2 (a ∷ b ∷ []) refl) (year_two a b)
+two_words (a ∷ b ∷ c ∷ s) h = absurd (omega arith)
 
--- a list of three is its three elements
-pub as_three : (s : List ℕ) → length s ≡ 3 → get_or s 0 0 ∷ get_or s 1 0 ∷ get_or s 2 0 ∷ [] ≡ s
-as_three [] h = absurd (omega arith)
-as_three (a ∷ s) h = ap (λ (t : List ℕ). a ∷ t) (as_two s (omega arith))
+-- three digits: the first one, and "hundred" or the others
+pub three_words : (s : List ℕ) → length s ≡ 3
+    → year_of s ≡ one (get_or s 0 0) ∷ cond (not (eqb (get_or s 0 0) 0) && (eqb (get_or s 1 0) 0 && eqb (get_or s 2 0) 0)) (hundred ∷ []) (year_of (drop 1 s))
+three_words [] h = absurd (omega arith)
+three_words (a ∷ []) h = absurd (omega arith)
+three_words (a ∷ b ∷ []) h = absurd (omega arith)
+three_words (a ∷ b ∷ c ∷ []) h = year_three a b c ∙ go (not (eqb a 0) && (eqb b 0 && eqb c 0))
+  where
+    go : (t : Bool) → cond t (one a ∷ hundred ∷ []) (one a ∷ year_of (b ∷ c ∷ [])) ≡ one a ∷ cond t (hundred ∷ []) (year_of (b ∷ c ∷ []))
+    go true = refl
+    go false = refl
+three_words (a ∷ b ∷ c ∷ d ∷ s) h = absurd (omega arith)
 
--- a digit that is picked is below ten
-pub picked_small : (s : List ℕ) (a : Picked) → PickedFrom s a → a.value < 10
-picked_small s a p = digit_at (digit_values s) 0 (digit_values_below_ten s) p.digit
+-- one or two digits are read of those of s; t follows them
+module _ (s t : List ℕ) (left : ℕ) (e : left ≡ length (digit_values s)) (d : digit_values t ≡ drop (lead_count (eqb (left % 2) 1)) (digit_values s)) where
+  -- the count of those that are left
+  pub left_after : left - (2 - left % 2) ≡ length (digit_values t)
+  left_after = rw d (simp length-drop (omega (arith, lead_count_lem left)))
 
--- one digit picked after another
-pub picked_two : (s : List ℕ) (a b : Picked) → PickedFrom s a → PickedFrom (drop a.next s) b
-    → (b.value ≡ get_or (digit_values s) 1 0) × (digit_values (drop (a.next + b.next) s) ≡ drop 2 (digit_values s)) × (a.next + b.next ≤ length s)
-picked_two s a b p q =
-    (q.digit ∙ rw (p.others, get_or-drop), rw (← drop-drop, q.others, p.others, drop-drop), omega (arith, p.within, q.within, length-drop a.next s))
-
--- the loop counts the digits that are left from i on. A step reads the next n bytes, which hold one digit or two
-module _ (s : List ℕ) (i n left : ℕ) (e : left ≡ length (digit_values (drop i s)))
-    (d : digit_values (drop n (drop i s)) ≡ drop (lead_count (eqb (left % 2) 1)) (digit_values (drop i s))) where
-  digit_values_after : digit_values (drop (i + n) s) ≡ drop (lead_count (eqb (left % 2) 1)) (digit_values (drop i s))
-  digit_values_after = ap digit_values (sym (drop-drop n i s)) ∙ d
-
-  -- after the step the count is that of the digits from i + n on
-  pub left_after : left - (2 - left % 2) ≡ length (digit_values (drop (i + n) s))
-  left_after = rw digit_values_after (simp length-drop (omega (arith, lead_count_lem left)))
-
-  -- the words of the step, and those of what is left
-  pub year_at : 4 < left → spelled (year (drop i s)) ≡ spelled (lead_words (eqb (left % 2) 1) (digit_values (drop i s))) ++ spelled (year (drop (i + n) s))
+  -- the words of those that are read, and those of what is left
+  pub year_at : 4 < left → spelled (year s) ≡ spelled (lead_words (eqb (left % 2) 1) (digit_values s)) ++ spelled (year t)
   unfolding year
-  year_at h = ap spelled (year_long (digit_values (drop i s)) left e h) ∙ rw (spelled_append, digit_values_after)
-
--- the last digits, at most four
-pub year_last : (s : List ℕ) (left : ℕ) → left ≡ length (digit_values s) → left ≤ 4 → (f : FirstDigits) → f ≡ first_digits s → {t : List ℕ}
-    → t ≡ take f.count f.values
-    → (length t ≤ 4) × BelowTen t × (year_of t ≡ year s)
-unfolding year
-year_last s left e h f q u =
-    let d = u ∙ first_digits_digits s f q (omega arith) in
-    rw d (omega arith, digit_values_below_ten s, refl)
+  year_at h = ap spelled (year_long (digit_values s) left e h) ∙ rw (spelled_append, d)

@@ -1,164 +1,127 @@
 // Years: pairs of digits, mostly.
 #![tactic(auto)]
 
-ghost use Rattle.std.specs.Prelude.{◌≡◌, ◌∷◌, [], ◌≤◌, length, drop};
-ghost use Rattle.word_writer.specs.Writer.{writer, put_words};
+ghost use Rattle.std.specs.Prelude.{◌≡◌, ◌≤◌, ◌<◌, length, drop, get_or};
+ghost use Rattle.word_writer.specs.Writer.{Says};
 ghost use Rattle.numerals.specs.Words.{spelled};
-ghost use Rattle.numerals.specs.Cardinal.{digit_values, pair_words};
-ghost use Rattle.numerals.specs.Walk.{BelowTen};
+ghost use Rattle.numerals.specs.Cardinal.{digit_values};
 ghost use Rattle.years.specs.Year.{year_of, year};
-ghost use Rattle.years.specs.Walk.{PickedFrom, lead_count, lead_words};
+ghost use Rattle.years.specs.Walk.{lead_count, lead_words};
 
-use lists::{DIGIT, NON_DIGIT, byte_at, count_of, front, span_of, tail};
-use numerals::digit_values::first_digits;
+use lists::{Digit, Not, byte_at, count, span, tail};
+use numerals::digit_values::{DigitValues, FirstDigits};
 use numerals::number::say_short_cardinal;
-use numerals::progress::Progress;
 use numerals::saying::{digit_value, say};
 use vocabulary::{HUNDRED, OH, ONES};
-use word_writer::Cursor;
+use word_writer::Writer;
 
-// The value of a text's first digit, and the place after it.
-#[derive(Clone, Copy)]
-struct Picked {
-    pub value: u8,
-    pub next: usize,
+// Picks the first digit of s: its value, which is 0 if there is none, and what follows it. It is no Option, because no caller asks
+// if there is none.
+fn pick(s: &[u8]) -> (u8, &[u8])
+    ensures digit { result.0 ≡ get_or (digit_values s.now) 0 0 }
+    ensures below_ten { result.0 < 10 }
+    ensures others { digit_values result.1.now ≡ drop 1 (digit_values s.now) }
+{
+    let i = span(s, Not(Digit));
+    (digit_value(byte_at(s, i)), tail(s, i + 1))
 }
 
-// Picks the first digit of s; the value is 0 if there is none.
-fn pick(s: &[u8]) -> Picked
-    ensures { PickedFrom s.now result }
+// Says the first digit of s, or the first two as `cardinal` reads them, and gives what follows them.
+fn say_lead<'a>(lone: bool, s: &'a [u8], out: &mut Writer) -> &'a [u8]
+    ensures words { Says (spelled (lead_words lone (digit_values s.now))) out.old out.new }
+    ensures others { digit_values result.now ≡ drop (lead_count lone) (digit_values s.now) }
 {
-    let i = span_of(NON_DIGIT, 0, s);
-    let value = digit_value(byte_at(s, i));
-    if i < s.len() {
-        return Picked { value, next: i + 1 };
-    }
-    Picked { value, next: i }
-}
-
-// Says two digits as `cardinal` reads them.
-fn say_pair(a: u8, b: u8, store: &mut [u8], table: &mut [u8], cursor: Cursor) -> Cursor
-    requires { BelowTen (a ∷ b ∷ []) }
-    ensures { writer store.new table.new result
-        ≡ put_words (spelled (pair_words a b)) (writer store.old table.old cursor) }
-{
-    let ds = [a, b];
-    say_short_cardinal(&ds, store, table, cursor)
-}
-
-// Says the first digit of s, or the first two as a pair.
-fn say_lead(lone: bool, s: &[u8], store: &mut [u8], table: &mut [u8], cursor: Cursor) -> Progress
-    ensures { (writer store.new table.new result.cursor
-        ≡ put_words (spelled (lead_words lone (digit_values s.now))) (writer store.old table.old cursor))
-        × (digit_values (drop result.next s.now) ≡ drop (lead_count lone) (digit_values s.now))
-        × (result.next ≤ length s.now) }
-{
-    let a = pick(s);
+    let (a, rest) = pick(s);
     if lone {
-        let cursor = say(ONES + a.value as usize, store, table, cursor);
-        return Progress {
-            cursor,
-            next: a.next,
-        };
+        say(ONES + usize::from(a), out);
+        return rest;
     }
-    let b = pick(tail(s, a.next));
-    let cursor = say_pair(a.value, b.value, store, table, cursor);
-    Progress {
-        cursor,
-        next: a.next + b.next,
-    }
+    let (b, rest) = pick(rest);
+    let pair = [a, b];
+    say_short_cardinal(DigitValues { values: &pair }, out);
+    rest
 }
 
 // Says the last two digits of a year.
-fn say_two(a: u8, b: u8, store: &mut [u8], table: &mut [u8], cursor: Cursor) -> Cursor
-    requires { BelowTen (a ∷ b ∷ []) }
-    ensures { writer store.new table.new result
-        ≡ put_words (spelled (year_of (a ∷ b ∷ []))) (writer store.old table.old cursor) }
+fn say_two(ds: DigitValues, out: &mut Writer)
+    requires { length ds.values.now ≡ 2 }
+    ensures { Says (spelled (year_of ds.entry.values.now)) out.old out.new }
 {
-    if a != 0 {
-        return say_pair(a, b, store, table, cursor);
+    match (ds.at(0), ds.at(1)) {
+        (0, 0) => {
+            say(ONES, out);
+            say(ONES, out);
+        }
+        (0, b) => {
+            say(OH, out);
+            say(ONES + usize::from(b), out);
+        }
+        _ => say_short_cardinal(ds, out),
     }
-    if b == 0 {
-        let p = say(ONES, store, table, cursor);
-        return say(ONES, store, table, p);
-    }
-    let p = say(OH, store, table, cursor);
-    say(ONES + b as usize, store, table, p)
 }
 
 // Says the last three digits of a year.
-fn say_three(a: u8, b: u8, c: u8, store: &mut [u8], table: &mut [u8], cursor: Cursor) -> Cursor
-    requires { BelowTen (a ∷ b ∷ c ∷ []) }
-    ensures { writer store.new table.new result
-        ≡ put_words (spelled (year_of (a ∷ b ∷ c ∷ []))) (writer store.old table.old cursor) }
+fn say_three(ds: DigitValues, out: &mut Writer)
+    requires { length ds.values.now ≡ 3 }
+    ensures { Says (spelled (year_of ds.entry.values.now)) out.old out.new }
 {
-    let p = say(ONES + a as usize, store, table, cursor);
+    let a = ds.at(0);
+    let b = ds.at(1);
+    let c = ds.at(2);
+    say(ONES + usize::from(a), out);
     if (a != 0) & ((b == 0) & (c == 0)) {
-        return say(HUNDRED, store, table, p);
+        say(HUNDRED, out);
+    } else {
+        say_two(ds.tail(1), out);
     }
-    say_two(b, c, store, table, p)
 }
 
 // Says the last four digits of a year: "2000" and "2005" as cardinal numbers, "1900" as hundreds.
-fn say_four(ds: &[u8], store: &mut [u8], table: &mut [u8], cursor: Cursor) -> Cursor
-    requires { (length ds.now ≡ 4) × BelowTen ds.now }
-    ensures { writer store.new table.new result
-        ≡ put_words (spelled (year_of ds.now)) (writer store.old table.old cursor) }
+fn say_four(ds: DigitValues, out: &mut Writer)
+    requires { length ds.values.now ≡ 4 }
+    ensures { Says (spelled (year_of ds.entry.values.now)) out.old out.new }
 {
-    let b = byte_at(ds, 1);
-    let c = byte_at(ds, 2);
-    let d = byte_at(ds, 3);
+    let b = ds.at(1);
+    let c = ds.at(2);
+    let d = ds.at(3);
     if (b == 0) & (c == 0) {
-        return say_short_cardinal(ds, store, table, cursor);
+        say_short_cardinal(ds, out);
+        return;
     }
-    let p = say_short_cardinal(front(ds, 2), store, table, cursor);
+    say_short_cardinal(ds.front(2), out);
     if (c == 0) & (d == 0) {
-        return say(HUNDRED, store, table, p);
+        say(HUNDRED, out);
+    } else {
+        say_two(ds.tail(2), out);
     }
-    say_two(c, d, store, table, p)
 }
 
 // Says a year of up to four digits, given by their values.
-fn say_last(ds: &[u8], store: &mut [u8], table: &mut [u8], cursor: Cursor) -> Cursor
-    requires { (length ds.now ≤ 4) × BelowTen ds.now }
-    ensures { writer store.new table.new result
-        ≡ put_words (spelled (year_of ds.now)) (writer store.old table.old cursor) }
+fn say_last(ds: DigitValues, out: &mut Writer)
+    requires { length ds.values.now ≤ 4 }
+    ensures { Says (spelled (year_of ds.entry.values.now)) out.old out.new }
 {
-    let n = ds.len();
-    if n <= 1 {
-        return say_short_cardinal(ds, store, table, cursor);
+    match ds.len() {
+        0 | 1 => say_short_cardinal(ds, out),
+        2 => say_two(ds, out),
+        3 => say_three(ds, out),
+        _ => say_four(ds, out),
     }
-    if n == 2 {
-        return say_two(byte_at(ds, 0), byte_at(ds, 1), store, table, cursor);
-    }
-    if n == 3 {
-        return say_three(
-            byte_at(ds, 0),
-            byte_at(ds, 1),
-            byte_at(ds, 2),
-            store,
-            table,
-            cursor,
-        );
-    }
-    say_four(ds, store, table, cursor)
 }
 
-// Says the year of the digits of s. While more than four are left, it says one digit if their count is odd, else a pair.
-pub fn say_year(s: &[u8], store: &mut [u8], table: &mut [u8], cursor: Cursor) -> Cursor
-    ensures { writer store.new table.new result
-        ≡ put_words (spelled (year s.now)) (writer store.old table.old cursor) }
+// Says the year of the digits of s. While more than four are left, it says one digit if their count is odd, else a pair. It counts
+// by hand, because a step takes one digit or two.
+pub fn say_year(s: &[u8], out: &mut Writer)
+    ensures { Says (spelled (year s.now)) out.old out.new }
 {
-    let mut p = cursor;
-    let mut i = 0;
-    let mut left = count_of(DIGIT, 0, s);
+    let mut rest = s;
+    let mut left = count(s, Digit);
     while 4 < left {
-        let progress = say_lead(left % 2 == 1, tail(s, i), store, table, p);
-        p = progress.cursor;
-        i += progress.next;
+        rest = say_lead(left % 2 == 1, rest, out);
         left -= 2 - left % 2;
     }
-    let digits = first_digits(tail(s, i));
-    let d = digits.values;
-    say_last(front(&d, digits.count), store, table, p)
+    // There are at most four now.
+    if let Some(digits) = FirstDigits::of(rest) {
+        say_last(digits.digits(), out);
+    }
 }

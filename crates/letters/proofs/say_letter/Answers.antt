@@ -1,15 +1,13 @@
-use native.Mathlib.Omega.{arith}
-use Rattle.letters.proofs.LetterLaws.{letter_a, letter_other, letter_whole}
+use Rattle.std.proofs.Common.{arith, rules}
+use Rattle.std.proofs.lemmas.Bool.Decides.{nat_tests}
+use Rattle.letters.proofs.LetterLaws.{says_a, says_byte, says_bytes}
 use Rattle.letters.proofs.say_letter.Goals as goal
 
-pub returns-then-c-ne1 : goal.returns-then-c-ne1
-returns-then-c-ne1 c =
-    rw (letter_whole c.args.c.now c.if-c-ne1.true) c.put_word.ensures
+pub returns-in-97 : goal.returns-in-97
+returns-in-97 c = says_a c.args.c.now (omega arith) (grind (arith, nat_tests)) (search rules)
 
-pub returns-then-lower-eq97 : goal.returns-then-lower-eq97
-returns-then-lower-eq97 c =
-    rw (letter_a c.args.c.now (omega arith) (cc) c.if-lower-eq97.true) c.put_word-then-lower-eq97.ensures
+pub returns-in-len1 : goal.returns-in-len1
+returns-in-len1 c = says_byte c.args.c.now (omega arith) (grind (arith, nat_tests)) (search rules)
 
-pub returns : goal.returns
-returns c =
-    rw (letter_other c.args.c.now (omega arith) (cc) c.if-lower-eq97.false) c.put_word-2.ensures
+pub returns-in_default : goal.returns-in_default
+returns-in_default c = says_bytes c.args.c.now (grind (arith, nat_tests)) (search rules)

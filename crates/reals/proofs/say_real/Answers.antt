@@ -1,41 +1,17 @@
-use native.Mathlib.Omega.{arith}
-use Rattle.word_writer.proofs.Walks.{walk_start, walk_on, walk_end}
-use Rattle.reals.proofs.RealLaws.{part_more, real_at, real_end}
+use Rattle.std.proofs.Common.{arith}
+use Rattle.std.proofs.lemmas.Bool.Decides.{nat_tests}
+use Rattle.word_writer.proofs.Saying.{says_nothing, says_same, leaves_all, leaves_next, leaves_none}
+use Rattle.reals.proofs.RealLaws.{rest_shorter, real_on, real_end}
 use Rattle.reals.proofs.say_real.Goals as goal
 
-pub loop-i-init : goal.loop-i-init
-loop-i-init c = walk_start
+pub loop-rest-init : goal.loop-rest-init
+loop-rest-init c = leaves_all
 
-pub overflow_add-i : goal.overflow_add-i
-overflow_add-i c =
-    omega (
-      arith,
-      part_more c.args.s.now c.loop-i.i c.tail.ensures
-          c.say_part-progress.ensures.1 (omega arith),
-    )
+pub loop-rest-smaller : goal.loop-rest-smaller
+loop-rest-smaller c = rest_shorter c.loop-rest.rest.now (grind (arith, nat_tests)) c.say_part-rest.ensures.rest
 
-pub loop-i-smaller : goal.loop-i-smaller
-loop-i-smaller c =
-    omega (
-      arith,
-      part_more c.args.s.now c.loop-i.i c.tail.ensures
-          c.say_part-progress.ensures.1 (omega arith),
-    )
-
-pub loop-i-preserved : goal.loop-i-preserved
-loop-i-preserved c =
-    let l = c.loop-i in
-    let d = c.say_part-progress in
-    let s = c.args.s.now in
-    let g = c.tail.ensures in
-    walk_on l.invariant _ _ (omega (arith, part_more s l.i g d.ensures.1 (omega arith))) (real_at s l.i g d.ensures.1)
-    d.ensures.0 (omega arith) (omega arith)
-
-pub shape_of-store : goal.shape_of-store
-shape_of-store c = c.loop-i.invariant.store
-
-pub shape_of-table : goal.shape_of-table
-shape_of-table c = c.loop-i.invariant.table
+pub loop-rest-preserved : goal.loop-rest-preserved
+loop-rest-preserved c = leaves_next c.loop-rest.invariant _ _ (real_on c.loop-rest.rest.now c.say_part-rest.ensures.rest) c.say_part-rest.ensures.said
 
 pub returns : goal.returns
-returns c = walk_end c.loop-i.invariant real_end (omega arith)
+returns c = leaves_none c.loop-rest.invariant (says_same (real_end c.loop-rest.rest.now (grind (arith, nat_tests))) says_nothing)

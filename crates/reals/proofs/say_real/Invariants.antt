@@ -1,14 +1,11 @@
-use Prim.Native.Nat.{◌-◌}
-use lib.ListN.{length}
-use Rattle.word_writer.specs.Writer.{writer}
-use Rattle.word_writer.proofs.Walks.{Walk}
+use Rattle.std.proofs.Common.{length}
+use Rattle.word_writer.proofs.Saying.{Leaves}
 use Rattle.numerals.specs.Words.{spelled}
 use Rattle.reals.specs.Real.{real}
 use Rattle.reals.proofs.say_real.Given as goal
 
-abbrev pub invariant-loop-i : goal.invariant-loop-i
-invariant-loop-i l =
-    Walk (λ t. spelled (real t)) l.s (writer l.initial.store l.initial.table l.initial.p) (writer l.store l.table l.p) l.i
+abbrev pub invariant-loop-rest : goal.invariant-loop-rest
+invariant-loop-rest l = Leaves (spelled (real l.s)) (spelled (real l.rest)) l.initial.out l.out
 
-abbrev pub decreases-loop-i : goal.decreases-loop-i
-decreases-loop-i l = length l.s - l.i
+abbrev pub decreases-loop-rest : goal.decreases-loop-rest
+decreases-loop-rest l = length l.rest

@@ -1,25 +1,30 @@
-use mathlib.Core.Path.{◌∙◌}
 use mathlib.Core.List.{[], ◌∷◌}
-use borrow.Author.Tests.{eq-eqb, ne_eqb}
-use native.Mathlib.Omega.{arith}
-use Rattle.numerals.specs.Words.{one, other, spell}
+use Rattle.std.proofs.Common.{◌∙◌, arith}
+use borrow.Author.Tests.{ne_eqb}
 use Rattle.lists.specs.Bytes.{bytes}
+use Rattle.numerals.specs.Words.{one, other, spell}
+use Rattle.numerals.proofs.NumberWords.{digit_at}
 use Rattle.numerals.proofs.Said.{said_word, said_digit, says_more}
-use Rattle.years.proofs.YearLaws.{year_two, oh_word}
+use Rattle.years.proofs.YearLaws.{two_words, oh_word}
 use Rattle.years.proofs.say_two.Goals as goal
 
-pub returns-then-a-ne0 : goal.returns-then-a-ne0
-returns-then-a-ne0 c =
-    rw (year_two c.args.a c.args.b, ne_eqb _ _ c.if-a-ne0.true) c.say_pair.ensures
+pub returns-in-0-eq0 : goal.returns-in-0-eq0
+returns-in-0-eq0 c =
+    let s = c.args.ds.values.now in
+    says_more (one 0 ∷ []) (one 0 ∷ []) (two_words s c.requires ∙ rw (← c.at.ensures, ← c.at-2.ensures, c.in-0-eq0.is-0, c.in-0-eq0.is-1))
+    (said_digit 0 (omega arith) c.say.ensures) (said_digit 0 (omega arith) c.say-in-0-eq0.ensures)
 
-pub returns-then-b-eq0 : goal.returns-then-b-eq0
-returns-then-b-eq0 c =
-    says_more (one 0 ∷ []) (one 0 ∷ []) (year_two c.args.a c.args.b ∙ rw (eq-eqb _ _ c.if-a-ne0.false, eq-eqb _ _ c.if-b-eq0.true))
-    _ (said_digit 0 (omega arith) _ c.say-p.ensures) (said_digit 0 (omega arith) _ c.say.ensures)
-
-pub returns : goal.returns
+pub returns-in-0-default : goal.returns-in-0-default
 unfolding spell
-returns c =
-    says_more (other (bytes "oh") ∷ []) (one c.args.b ∷ [])
-    (year_two c.args.a c.args.b ∙ rw (eq-eqb _ _ c.if-a-ne0.false, ne_eqb _ _ c.if-b-eq0.false))
-    _ (said_word (other (bytes "oh")) _ (rw oh_word at c.say-p-2.ensures)) (said_digit c.args.b c.requires.1.0 _ c.say-2.ensures)
+returns-in-0-default c =
+    let s = c.args.ds.values.now in
+    let b = c.at-2.result in
+    says_more (other (bytes "oh") ∷ []) (one b ∷ [])
+    (two_words s c.requires ∙ rw (← c.at.ensures, ← c.at-2.ensures, c.in-0-default.is-0, ne_eqb b 0 c.in-0-default.is-1.1))
+    (said_word (other (bytes "oh")) (rw oh_word at c.say-in-0-default.ensures))
+    (said_digit b (digit_at s 1 c.args.ds.below_ten c.at-2.ensures) (rw c.from.ensures at c.say-in-0-default-2.ensures))
+
+pub returns-in_default : goal.returns-in_default
+returns-in_default c =
+    let s = c.args.ds.values.now in
+    rw (two_words s c.requires, ← c.at.ensures, ne_eqb c.at.result 0 c.in_default.is-0.1) c.say_short_cardinal.ensures

@@ -1,44 +1,27 @@
-use mathlib.Core.Path.{sym, ap, ◌∙◌}
-use native.Mathlib.Omega.{arith}
-use lib.ListN.{length, length-drop}
-use Rattle.word_writer.proofs.Walks.{walk_start, walk_on}
-use Rattle.years.proofs.YearLaws.{digit_values_count, left_after, year_at, year_last}
+use Rattle.std.proofs.Common.{sym, ◌∙◌}
+use Rattle.numerals.specs.Words.{spelled}
+use Rattle.word_writer.proofs.Saying.{leaves_all, leaves_next, leaves_none}
+use Rattle.numerals.proofs.Picking.{picked_digits}
+use Rattle.years.specs.Year.{year}
+use Rattle.years.proofs.YearLaws.{digit_values_count, left_after, year_at}
 use Rattle.years.proofs.say_year.Goals as goal
 
 pub loop-left-init : goal.loop-left-init
-loop-left-init c = (c.count_of-left.ensures ∙ sym (digit_values_count c.args.s.now), walk_start)
-
-pub overflow_add-i : goal.overflow_add-i
-overflow_add-i c =
-    omega (
-      arith,
-      c.say_lead-progress.ensures.2,
-      ap length c.tail.ensures,
-      length-drop c.loop-left.i c.args.s.now,
-    )
+loop-left-init c = record { count = c.count-left.ensures ∙ sym (digit_values_count c.args.s.now); words = leaves_all }
 
 pub loop-left-preserved : goal.loop-left-preserved
 loop-left-preserved c =
     let l = c.loop-left in
-    let s = c.args.s.now in
-    let e = rw c.tail.ensures at c.say_lead-progress.ensures in (
-      left_after s l.i _ _ l.invariant.0 e.1,
-      walk_on l.invariant.1 _ _ (omega (arith, e.2, length-drop l.i s)) (year_at s l.i _ _ l.invariant.0 e.1 (omega arith)) e.0
-          (omega arith) (omega arith),
-    )
+    let lead = c.say_lead-rest in
+    record {
+      count = left_after l.rest.now lead.result.now l.left l.invariant.count lead.ensures.others;
+      words =
+          leaves_next l.invariant.words _ (spelled (year lead.result.now))
+          (year_at l.rest.now lead.result.now l.left l.invariant.count lead.ensures.others c.loop-left-test.true) lead.ensures.words;
+    }
 
-pub say_last-requires : goal.say_last-requires
-say_last-requires c =
-    let l = c.loop-left in
-    let q =
-    year_last _ l.left l.invariant.0 (omega arith) _ (rw c.tail-2.ensures at c.first_digits-digits.ensures)
-    c.front.ensures in
-    (q.0, q.1)
-
-pub returns : goal.returns
-returns c =
-    let l = c.loop-left in
-    let q =
-    year_last _ l.left l.invariant.0 (omega arith) _ (rw c.tail-2.ensures at c.first_digits-digits.ensures)
-    c.front.ensures in
-    (rw q.2 at c.say_last.ensures) ∙ l.invariant.1.left
+pub returns-in-Some : goal.returns-in-Some
+unfolding year
+returns-in-Some c =
+    let rest = c.loop-left.rest.now in
+    leaves_none c.loop-left.invariant.words (rw (c.digits.ensures, picked_digits rest c.in-Some.ensures) at c.say_last.ensures)

@@ -1,15 +1,16 @@
 use mathlib.Core.Path.{◌≡◌}
-use lib.ListN.{length, drop}
-use Rattle.word_writer.specs.Writer.{writer}
-use Rattle.word_writer.proofs.Walks.{Walk}
+use lib.ListN.{length}
+use Rattle.word_writer.proofs.Saying.{Leaves}
 use Rattle.numerals.specs.Words.{spelled}
 use Rattle.numerals.specs.Cardinal.{digit_values}
 use Rattle.years.specs.Year.{year}
 use Rattle.years.proofs.say_year.Given as goal
 
 abbrev pub invariant-loop-left : goal.invariant-loop-left
-invariant-loop-left l =
-    (l.left ≡ length (digit_values (drop l.i l.s))) × Walk (λ t. spelled (year t)) l.s (writer l.initial.store l.initial.table l.initial.p) (writer l.store l.table l.p) l.i
+invariant-loop-left l = record {
+  count : l.left ≡ length (digit_values l.rest);
+  words : Leaves (spelled (year l.s)) (spelled (year l.rest)) l.initial.out l.out;
+}
 
 abbrev pub decreases-loop-left : goal.decreases-loop-left
 decreases-loop-left l = l.left

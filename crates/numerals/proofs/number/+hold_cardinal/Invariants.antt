@@ -3,4 +3,4 @@ use Rattle.numerals.proofs.number.+hold_cardinal.Given as goal
 
 -- Each call of itself is on fewer digits.
 abbrev pub decreases-hold_cardinal : goal.decreases-hold_cardinal
-decreases-hold_cardinal l = length l.ds.now
+decreases-hold_cardinal l = length l.ds.values.now

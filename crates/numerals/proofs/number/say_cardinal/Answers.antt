@@ -1,27 +1,16 @@
+use Rattle.std.proofs.Common.{length}
 use borrow.Author.Tests.{le-leb, lt-leb}
-use lib.ListN.{length}
 use Rattle.numerals.specs.Cardinal.{digit_values, cardinal, cardinal_of, digits}
-use Rattle.numerals.proofs.NumberWords.{digit_values_below_ten}
-use Rattle.numerals.proofs.Picking.{first_digits_digits, first_digits_more, first_digits_all}
+use Rattle.numerals.proofs.Picking.{picked_digits}
 use Rattle.numerals.proofs.number.say_cardinal.Goals as goal
 
-pub returns-then-digits-gt-MAX_CARDINAL_DIGITS : goal.returns-then-digits-gt-MAX_CARDINAL_DIGITS
-unfolding cardinal cardinal_of digits
-returns-then-digits-gt-MAX_CARDINAL_DIGITS c =
-    let s = c.args.s.now in
-    rw (lt-leb (length (digit_values s)) 12 (first_digits_more s _ c.first_digits-digits.ensures c.if-digits-gt-MAX_CARDINAL_DIGITS.true)) c.say_digits.ensures
-
-pub say_short_cardinal-requires : goal.say_short_cardinal-requires
-say_short_cardinal-requires c =
-    let s = c.args.s.now in
-    let e = c.first_digits-digits.ensures in
-    let n = first_digits_all s _ e c.if-digits-gt-MAX_CARDINAL_DIGITS.false in
-    rw (c.front.ensures, first_digits_digits s _ e n) (n, digit_values_below_ten s)
-
-pub returns : goal.returns
+pub returns-in-Some : goal.returns-in-Some
 unfolding cardinal cardinal_of
-returns c =
+returns-in-Some c =
     let s = c.args.s.now in
-    let e = c.first_digits-digits.ensures in
-    let n = first_digits_all s _ e c.if-digits-gt-MAX_CARDINAL_DIGITS.false in
-    rw (le-leb (length (digit_values s)) 12 n, ← first_digits_digits s _ e n, ← c.front.ensures) c.say_short_cardinal.ensures
+    let d = c.in-Some.ensures in
+    rw (le-leb (length (digit_values s)) 12 d.few, ← picked_digits s d, ← c.digits.ensures) c.say_short_cardinal.ensures
+
+pub returns-in-None : goal.returns-in-None
+unfolding cardinal cardinal_of digits
+returns-in-None c = rw (lt-leb (length (digit_values c.args.s.now)) 12 c.in-None.ensures) c.say_digits.ensures

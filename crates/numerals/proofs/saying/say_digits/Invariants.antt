@@ -1,13 +1,8 @@
-use Prim.Native.Nat.{◌-◌}
-use lib.ListN.{length}
-use Rattle.word_writer.specs.Writer.{writer}
-use Rattle.word_writer.proofs.Walks.{Walk}
+use Rattle.std.proofs.Common.{take}
+use Rattle.word_writer.specs.Writer.{Says}
 use Rattle.numerals.specs.Words.{spelled}
 use Rattle.numerals.specs.Cardinal.{digits}
 use Rattle.numerals.proofs.saying.say_digits.Given as goal
 
-abbrev pub invariant-loop-i : goal.invariant-loop-i
-invariant-loop-i l = Walk (λ t. spelled (digits t)) l.s (writer l.initial.store l.initial.table l.initial.p) (writer l.store l.table l.p) l.i
-
-abbrev pub decreases-loop-i : goal.decreases-loop-i
-decreases-loop-i l = length l.s - l.i
+abbrev pub invariant-loop-b : goal.invariant-loop-b
+invariant-loop-b l = Says (spelled (digits (take l.b-index l.s))) l.initial.out l.out
