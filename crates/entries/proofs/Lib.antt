@@ -1,3 +1,3 @@
-pub mod Loops
+pub mod Found
 pub mod Names
 pub mod Runs

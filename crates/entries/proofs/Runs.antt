@@ -46,36 +46,33 @@ no_long_name =
     rw (tokens_more s e, le-ltb name_limit (length (first_token s).name) h)
     (i (λ j r. f (first_size s + j) (rw (after_run_drop s, drop-drop j (first_size s) s) at r))))
 
--- no long run starts before `at`
-abbrev pub RunsFrom : List ℕ → ℕ → Type 0
-RunsFrom s at = (i : ℕ) → LongRun s i → at ≤ i
+-- no run is long
+abbrev pub NoLongRun : List ℕ → Type 0
+NoLongRun s = (i : ℕ) → LongRun s i → ⊥
 
--- the last whitespace of the 4,097 bytes from `at` ends k bytes after `at`; k is 0 if there is none
-module _ (s : List ℕ) (at : ℕ) {k : ℕ} {l : List ℕ} (q : l ≡ take (at + suc name_limit - at) (drop at s)) (a : k ≡ after_last whitespace l) where
-  last_within : (k ≤ suc name_limit) × (k ≤ length s - at)
-  last_within =
-      let m = last_le whitespace l in
-      let n = ap length q ∙ length-take (at + suc name_limit - at) (drop at s) in
-      (omega arith, omega (arith, length-drop at s))
-
+-- l is the first 4,097 bytes of s, and its last whitespace ends after k bytes; k is 0 if there is none
+module _ (s l : List ℕ) (k : ℕ) (el : l ≡ take (suc name_limit) s) (ek : k ≡ after_last whitespace l) where
   -- that is within the text
-  pub ahead_within : at ≤ length s → at + k ≤ length s
-  ahead_within h = omega (arith, last_within.1)
+  pub end_within : (k ≤ suc name_limit) × (k ≤ length s)
+  end_within = let m = last_le whitespace l in let n = ap length el ∙ length-take (suc name_limit) s in (omega arith, omega arith)
 
-  -- if there is such whitespace, no long run starts before its end
-  pub long_runs_on : (k ≡ 0 → ⊥) → RunsFrom s at → RunsFrom s (at + k)
-  long_runs_on z f i r =
+  -- if there is such whitespace, a long run starts after it
+  pub no_run_before : (k ≡ 0 → ⊥) → NoLongRun (drop k s) → NoLongRun s
+  no_run_before z f i r =
       let w : whitespace (get_or l (k - 1) 0) ≡ true = last_passes whitespace l (k - 1) (omega arith) in
-      let b = last_within in
-      let g = f i r in
-      ⊎_elim (λ (h : at + k ≤ i). h) (λ (h : i < at + k).
-      let j : ℕ = at + k - 1 - i in
+      let b = end_within in
+      ⊎_elim (λ (h : k ≤ i). let e : k + (i - k) ≡ i = omega arith in f (i - k) (rw (drop-drop (i - k) k s, e) r)) (λ (h : i < k).
+      let j : ℕ = k - 1 - i in
       let e : get_or l (k - 1) 0 ≡ get_or (drop i s) j 0 =
-      ap (λ (x : List ℕ). get_or x (k - 1) 0) q ∙ get_or-take (at + suc name_limit - at) (drop at s) (k - 1) 0 (omega (arith, b.0))
-      ∙ get_or-drop at s (k - 1) 0 ∙ ap (λ (m : ℕ). get_or s m 0) (omega arith) ∙ sym (get_or-drop i s j 0) in
+      ap (λ (x : List ℕ). get_or x (k - 1) 0) el ∙ get_or-take (suc name_limit) s (k - 1) 0 (omega (arith, b.0))
+      ∙ ap (λ (m : ℕ). get_or s m 0) (omega arith) ∙ sym (get_or-drop i s j 0) in
       let n = span_stops non_whitespace (drop i s) j (omega (arith, length-drop i s, b.1)) (ap non_whitespace (sym e) ∙ ap not w) in
-      absurd (omega (arith, b.0))) (le_or_lt (at + k) i)
+      omega (arith, b.0)) (le_or_lt k i)
 
--- if too few bytes are left for a long run, no name is long
-pub long_runs_end : (s : List ℕ) {at : ℕ} → length s - at ≤ name_limit → RunsFrom s at → any_long (entries s) ≡ false
-long_runs_end s h f = sym (long_names_lem s) ∙ no_long_name s (λ i r. omega (arith, f i r, span_le non_whitespace (drop i s), length-drop i s))
+-- a text too short for a long run has none
+pub no_run_short : (s : List ℕ) → length s ≤ name_limit → NoLongRun s
+no_run_short s h i r = omega (arith, span_le non_whitespace (drop i s), length-drop i s)
+
+-- if no run is long, no name is
+pub no_long_entry : (s : List ℕ) → NoLongRun s → any_long (entries s) ≡ false
+no_long_entry s f = sym (long_names_lem s) ∙ no_long_name s f

@@ -1,9 +1,9 @@
 -- An entry that is looked for in its sheet. Definitions only; no public promise is made of them.
-use Rattle.std.specs.Prelude.{Bool, false, List, ℕ, ◌-◌, ltb, length, take, drop}
+use Rattle.std.specs.Prelude.{Bool, true, false, List, ℕ, ltb, length, Option, Some, None}
 use Rattle.tokens.specs.Tokens.{tokens}
-use Rattle.call_spec.specs.Sheet.{SheetEntry}
+use Rattle.sentences.specs.declared.SheetEntry.{SheetEntry as Given}
+use Rattle.call_spec.specs.Sheet.{SheetEntry, no_entry}
 use Rattle.call_spec.specs.Calls.{entry_at}
-use Rattle.entries.specs.declared.Found.{Found}
 
 -- the entry of this name, which starts a sentence or not
 abbrev pub entry_named : Bool → List ℕ → SheetEntry
@@ -18,10 +18,11 @@ pub record FoundEntry : Type 0 where
 abbrev pub found_entry : List ℕ → ℕ → FoundEntry
 found_entry s k = record { found = ltb k (length (tokens s)); entry = entry_at s k }
 
--- an answer, with its name's bytes from the sheet
-abbrev pub as_found_entry : List ℕ → Found → FoundEntry
-as_found_entry s r = record { found = r.found; entry = entry_named r.starts (take (r.end - r.name) (drop r.name s)) }
+-- an answer
+abbrev pub as_found_entry : Option Given → FoundEntry
+as_found_entry None = record { found = false; entry = no_entry }
+as_found_entry (Some e) = record { found = true; entry = entry_named e.starts e.name.now }
 
--- the answer if there is no such entry
-abbrev pub not_found : Found
-not_found = record { found = false; starts = false; name = 0; end = 0 }
+-- an entry of a sheet, from the pair that the iterator of crate sentences gives
+abbrev pub sheet_entry : Bool × List ℕ → SheetEntry
+sheet_entry e = entry_named e.0 e.1

@@ -1,5 +1,6 @@
 pub mod Kept
-pub mod SmallerRefusal
+pub mod StepTexts
 pub mod Steps
 pub mod Marking
 pub mod Starts
+pub mod After

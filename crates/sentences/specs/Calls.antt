@@ -1,6 +1,7 @@
 -- What the calls of the whole-text form and the step form answer. Definitions only.
-use Rattle.std.specs.Prelude.{Bool, false, cond, List, [], ◌∷◌, ℕ, leb, eqb}
-use Rattle.admit.specs.Refusals.{Test, first_refusal, text_limit, text_tests, Call, call}
+use Rattle.std.specs.Prelude.{Bool, false, List, [], ◌∷◌, ℕ, Result}
+use Rattle.admit.specs.Refusals.{Test, first_refusal, text_limit, text_tests, Call, call, answered}
+use Rattle.admit.specs.declared.Refusal.{Refusal}
 use Rattle.tokens.specs.Tokens.{tokens}
 use Rattle.sentences.specs.Sentences.{sentence_starts, flag, kept, breaks}
 use Rattle.sentences.specs.declared.State.{State}
@@ -30,11 +31,6 @@ step_call s whitespace name punctuation =
     (first_refusal (step_tests whitespace name punctuation))
     (record { breaks = breaks s whitespace name; state = kept name punctuation })
 
-abbrev pub as_step : Step → Call StepResult
-as_step r = record { refusal = r.refusal; value = record { breaks = r.breaks; state = r.state } }
-
--- ---- no public promise is made of this
-
--- of two refusal numbers, the one that is tested first; 0 means no refusal
-abbrev pub smaller_refusal : ℕ → ℕ → ℕ
-smaller_refusal a b = cond (eqb a 0) b (cond (eqb b 0) a (cond (leb a b) a b))
+-- the answer of a step from the state s
+abbrev pub as_step : State → Result Step Refusal → Call StepResult
+as_step s r = answered (record { breaks = false; state = s }) (λ t. record { breaks = t.breaks; state = t.state }) r

@@ -1,3 +1,4 @@
 pub mod Sentences
 pub mod Calls
 pub mod Steps
+pub mod Left

@@ -1,21 +1,25 @@
 // Where sentences start: `sentences` of text.rs for a whole text, and `SentenceBuilder::push` token by token.
 #![tactic(auto)]
 
-ghost use Rattle.std.specs.Prelude.{◌≡◌, ◌||◌, ◌≤◌, length};
+ghost use Rattle.std.specs.Prelude.{◌≡◌, ◌||◌, ◌≤◌, length, drop};
+ghost use Rattle.std.specs.Iterator.{YieldsFirstBy, item_count};
 ghost use Rattle.std.proofs.lemmas.List.Edits.{sets};
-ghost use Rattle.lists.specs.Bytes.{elem, uppercase, lowercase};
-ghost use Rattle.admit.specs.Refusals.{first_refusal};
+ghost use Rattle.lists.specs.Bytes.{elem};
+ghost use Rattle.admit.specs.Refusals.{first_refusal, answer_number};
 ghost use Rattle.tokens.specs.Tokens.{tokens};
 ghost use Rattle.tokens.specs.Table.{tokens_call, as_tokens};
-ghost use Rattle.sentences.specs.Sentences.{break_after, is_set, flag, fresh, head_of, kept, state_context, breaks};
-ghost use Rattle.sentences.specs.Calls.{start_bytes, step_tests, step_call, as_step, smaller_refusal};
+ghost use Rattle.sentences.specs.Sentences.{break_after, is_set, flag, fresh, head_of, kept, state_context};
+ghost use Rattle.sentences.specs.Calls.{start_bytes, step_tests, step_call, as_step};
+ghost use Rattle.sentences.specs.Left.{entry_of, entries_left, entries_after};
 
-use admit::{Refusal, refusal_of};
-use lists::{LOWERED, NOT, ONLY, byte_at, count_of, part, same, saturating_sub, span_of};
-use tokens::{Tokens, has_more_tokens, token_at};
+use admit::{Refusal, TEXT_LIMIT, admit_text};
+use lists::{Byte, byte_at, count, equal_lowered};
+use std::array;
+use tokens::{Tokens, has_more_tokens};
 
 // What is kept of the last token: its name's length, first five bytes (0 past its end) and last byte (0 if it is empty), and
-// whether its punctuation has each of . : ? and !. A flag is 0 for no and any other byte for yes.
+// whether its punctuation has each of . : ? and !. A flag is 0 for no and any other byte for yes. It is no `bool`, because C
+// keeps a state and hands it back with whatever bytes it has then.
 #[repr(C)]
 #[derive(Clone, Copy)]
 pub struct State {
@@ -30,25 +34,25 @@ pub struct State {
     pub fresh: u8,
 }
 
-// A step's answer: the refusal's number or 0, whether a sentence ends before the token, and the state after it.
-#[repr(C)]
+// A step's answer: whether a sentence ends before the token, and the state after it.
 #[derive(Clone, Copy)]
 pub struct Step {
-    pub refusal: u8,
     pub breaks: bool,
     pub state: State,
 }
 
-fn is_uppercase(b: u8) -> bool
-    ensures { result ≡ uppercase b }
-{
-    (b'A' <= b) & (b <= b'Z')
+// An entry of a text: a token's name, and whether the token starts a sentence.
+#[derive(Clone, Copy)]
+pub struct SheetEntry<'a> {
+    pub starts: bool,
+    pub name: &'a [u8],
 }
 
-fn is_lowercase(b: u8) -> bool
-    ensures { result ≡ lowercase b }
-{
-    (b'a' <= b) & (b <= b'z')
+// The entries of a text, one after the other: the tokens that are left, and the state that was fed those before them.
+#[derive(Drop)]
+pub struct Entries<'a> {
+    tokens: Tokens<'a>,
+    state: State,
 }
 
 fn is_set(b: u8) -> bool
@@ -57,41 +61,17 @@ fn is_set(b: u8) -> bool
     b != 0
 }
 
-fn flag(yes: bool) -> u8
-    ensures { result ≡ flag yes }
-{
-    if yes { 1 } else { 0 }
-}
-
 // Whether the byte c stands in s, as a flag.
 fn contains_flag(s: &[u8], c: u8) -> u8
     ensures { result ≡ flag (elem c s.now) }
 {
-    flag(span_of(NOT, c, s) < s.len())
+    u8::from(s.contains(&c))
 }
 
 fn head_of(s: &[u8]) -> [u8; 5]
     ensures { result ≡ head_of s.now }
 {
-    let a = byte_at(s, 0);
-    let b = byte_at(s, 1);
-    let c = byte_at(s, 2);
-    let d = byte_at(s, 3);
-    let e = byte_at(s, 4);
-    [a, b, c, d, e]
-}
-
-// Of two refusal numbers, the one that is tested first. 0 means no refusal.
-fn smaller_refusal(a: u8, b: u8) -> u8
-    ensures { result ≡ smaller_refusal a b }
-{
-    if a == 0 {
-        return b;
-    }
-    if b == 0 {
-        return a;
-    }
-    if a <= b { a } else { b }
+    array::from_fn(|i| byte_at(s, i))
 }
 
 impl State {
@@ -110,35 +90,26 @@ impl State {
         }
     }
 
-    // One step. The token is given as whitespace, name and punctuation.
-    pub fn push(self, whitespace: &[u8], name: &[u8], punctuation: &[u8]) -> Step
-        ensures { as_step result ≡ step_call self whitespace.now name.now punctuation.now }
+    // One step. The token is given as whitespace, name and punctuation. If the step is refused, the state stays the caller's.
+    #[tactic(auto, unfolding(crate::specs::Calls::step_call))]
+    pub fn push(self, whitespace: &[u8], name: &[u8], punctuation: &[u8]) -> Result<Step, Refusal>
+        ensures { as_step self result ≡ step_call self whitespace.now name.now punctuation.now }
     {
-        let refusal = refusal_of_step(whitespace, name, punctuation);
-        if refusal != 0 {
-            return Step {
-                refusal,
-                breaks: false,
-                state: self,
-            };
-        }
-        let breaks = !is_set(self.fresh) & is_sentence_break(self, whitespace, name);
-        Step {
-            refusal: 0,
-            breaks,
+        admit_step(whitespace, name, punctuation)?;
+        Ok(Step {
+            breaks: !is_set(self.fresh) & is_sentence_break(self, whitespace, name),
             state: State::kept(name, punctuation),
-        }
+        })
     }
 
     // The state after a token.
     pub fn kept(name: &[u8], punctuation: &[u8]) -> Self
         ensures { result ≡ kept name.now punctuation.now }
     {
-        let head = head_of(name);
         State {
             len: name.len(),
-            head,
-            last: byte_at(name, saturating_sub(name.len(), 1)),
+            head: head_of(name),
+            last: name.last().copied().unwrap_or(0),
             point: contains_flag(punctuation, b'.'),
             colon: contains_flag(punctuation, b':'),
             question: contains_flag(punctuation, b'?'),
@@ -150,28 +121,29 @@ impl State {
     fn is_yahoo(self) -> bool
         ensures { result ≡ (state_context self).yahoo }
     {
-        (self.len == 5) & same(LOWERED, &self.head, b"yahoo")
+        (self.len == 5) & equal_lowered(&self.head, b"yahoo")
     }
 
     fn looks_like_abbreviation(self) -> bool
         ensures { result ≡ (state_context self).abbreviation }
     {
         let first = self.head[0];
-        is_uppercase(self.last) | ((self.len < 4) & is_uppercase(first))
+        self.last.is_ascii_uppercase() | ((self.len < 4) & first.is_ascii_uppercase())
     }
 }
 
 // Whether a sentence ends between the token that the state keeps and the next.
+#[tactic(auto, unfolding(crate::specs::Sentences::break_after))]
 fn is_sentence_break(state: State, whitespace: &[u8], name: &[u8]) -> bool
     ensures { result ≡ break_after (state_context state) whitespace.now name.now }
 {
     // A blank line decides by itself.
-    if 1 < count_of(ONLY, b'\n', whitespace) {
+    if 1 < count(whitespace, Byte(b'\n')) {
         return true;
     }
     let first = byte_at(name, 0);
     // After this one name, an exclamation mark does not end the sentence if a small letter follows.
-    if state.is_yahoo() & is_set(state.exclamation) & is_lowercase(first) {
+    if state.is_yahoo() & is_set(state.exclamation) & first.is_ascii_lowercase() {
         return false;
     }
     if is_set(state.colon) | is_set(state.question) | is_set(state.exclamation) {
@@ -180,7 +152,7 @@ fn is_sentence_break(state: State, whitespace: &[u8], name: &[u8]) -> bool
     if !is_set(state.point) {
         return false;
     }
-    if !is_uppercase(first) {
+    if !first.is_ascii_uppercase() {
         return false;
     }
     // After a point, more than one byte of whitespace ends the sentence, even if the name before it looks like an abbreviation.
@@ -190,12 +162,16 @@ fn is_sentence_break(state: State, whitespace: &[u8], name: &[u8]) -> bool
     !state.looks_like_abbreviation()
 }
 
-// The number of the first refusal that any of the three texts of a step gets, or 0.
-fn refusal_of_step(whitespace: &[u8], name: &[u8], punctuation: &[u8]) -> u8
-    ensures { result ≡ first_refusal (step_tests whitespace.now name.now punctuation.now) }
+// The tests of the three texts of a step. Of several texts the first test in the order wins, so all lengths are tested first.
+fn admit_step(whitespace: &[u8], name: &[u8], punctuation: &[u8]) -> Result<(), Refusal>
+    ensures { answer_number result ≡ first_refusal (step_tests whitespace.now name.now punctuation.now) }
 {
-    let two = smaller_refusal(refusal_of(whitespace), refusal_of(name));
-    smaller_refusal(two, refusal_of(punctuation))
+    if TEXT_LIMIT < whitespace.len().max(name.len()).max(punctuation.len()) {
+        return Err(Refusal::TextTooLong);
+    }
+    admit_text(whitespace)?;
+    admit_text(name)?;
+    admit_text(punctuation)
 }
 
 // Whether a token starts a sentence, after the tokens that the state was fed.
@@ -205,11 +181,53 @@ pub fn starts_sentence(state: State, whitespace: &[u8], name: &[u8]) -> bool
     is_set(state.fresh) | is_sentence_break(state, whitespace, name)
 }
 
-// The same as a flag.
-fn start_flag(state: State, whitespace: &[u8], name: &[u8]) -> u8
-    ensures { result ≡ flag (is_set state.fresh || break_after (state_context state) whitespace.now name.now) }
-{
-    flag(starts_sentence(state, whitespace, name))
+impl<'a> Entries<'a> {
+    pub fn new(s: &'a [u8]) -> Self
+        ensures { entries_left result ≡ entries_after fresh (tokens s.now) }
+    {
+        Entries {
+            tokens: Tokens::new(s),
+            state: State::fresh(),
+        }
+    }
+
+    // The entries after the first n. Of the tokens before them only the last one is tested, so the others are passed over.
+    pub fn after(s: &'a [u8], n: usize) -> Self
+        ensures { entries_left result ≡ drop n (entries_after fresh (tokens s.now)) }
+    {
+        if n == 0 {
+            return Entries::new(s);
+        }
+        let mut tokens = Tokens::new(s);
+        match tokens.nth(n - 1) {
+            Some(last) => Entries {
+                tokens,
+                state: State::kept(last.name, last.punctuation),
+            },
+            None => Entries {
+                tokens,
+                state: State::fresh(),
+            },
+        }
+    }
+}
+
+impl<'a> Iterator for Entries<'a> {
+    type Item = SheetEntry<'a>;
+
+    ghost next_gives = { YieldsFirstBy entry_of entries_left };
+
+    ghost remaining = { item_count entries_left };
+
+    fn next(&mut self) -> Option<SheetEntry<'a>> {
+        let token = self.tokens.next()?;
+        let starts = starts_sentence(self.state, token.whitespace, token.name);
+        self.state = State::kept(token.name, token.punctuation);
+        Some(SheetEntry {
+            starts,
+            name: token.name,
+        })
+    }
 }
 
 // Writes a flag for each token, whether it starts a sentence, and answers how many tokens there are.
@@ -217,39 +235,22 @@ fn write_starts(s: &[u8], starts: &mut [u8]) -> usize
     requires { length (tokens s.now) ≤ length starts.old }
     ensures { (result ≡ length (tokens s.now)) × (starts.new ≡ sets starts.old 0 (start_bytes s.now)) }
 {
-    let mut state = State::fresh();
+    // Each flag is stored by its index: no contract says what a chain over `iter_mut` leaves in the buffer.
     let mut n = 0;
-    let mut at = 0;
-    while at < s.len() {
-        let t = token_at(s, at);
-        if t.none_left(s.len()) {
-            return n;
-        }
-        let name = part(s, t.name, t.punctuation);
-        starts[n] = start_flag(state, part(s, at, t.prepunctuation), name);
-        state = State::kept(name, part(s, t.punctuation, t.end));
+    for entry in Entries::new(s) {
+        starts[n] = u8::from(entry.starts);
         n += 1;
-        at = t.end;
     }
     n
 }
 
-// Writes for each token of s whether it starts a sentence.
-pub fn sentences(s: &[u8], starts: &mut [u8]) -> Tokens
+// Writes for each token of s whether it starts a sentence, and answers how many tokens there are.
+pub fn sentences(s: &[u8], starts: &mut [u8]) -> Result<usize, Refusal>
     ensures { as_tokens result starts.new ≡ tokens_call s.now (start_bytes s.now) starts.old }
 {
-    let refusal = refusal_of(s);
-    if refusal != 0 {
-        return Tokens { refusal, tokens: 0 };
-    }
+    admit_text(s)?;
     if has_more_tokens(s, starts.len()) {
-        return Tokens {
-            refusal: Refusal::BufferTooShort.number(),
-            tokens: 0,
-        };
+        return Err(Refusal::BufferTooShort);
     }
-    Tokens {
-        refusal: 0,
-        tokens: write_starts(s, starts),
-    }
+    Ok(write_starts(s, starts))
 }

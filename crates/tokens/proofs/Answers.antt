@@ -9,11 +9,13 @@ use lib.Dec.{ltb}
 use lib.ListN.{length}
 use lib.Seq.{sets}
 use borrow.Author.Tests.{lt-ltb, le-ltb, ltb-false}
+use Rattle.std.specs.Prelude.{Result, Ok, Err, IsErrAnd}
 use Rattle.lists.proofs.Sets.{sets_front, le_or_lt}
 use Rattle.lists.specs.Bytes.{overwrite}
-use Rattle.admit.specs.Refusals.{Test, ◌when◌, text_limit, text_tests, text_refusal, in_order, first_refusal, call}
+use Rattle.admit.specs.Refusals.{Test, ◌when◌, text_limit, text_tests, text_refusal, in_order, first_refusal, call, answer_number}
+use Rattle.admit.specs.declared.Refusal.{Refusal}
 use Rattle.admit.specs.declared.Refusal.TheVariants.{BufferTooShort}
-use Rattle.admit.proofs.Calls.{refused_first, passed_first, both_passed}
+use Rattle.admit.proofs.Calls.{both_passed, leaves_first, decides_next}
 use Rattle.tokens.specs.Tokens.{tokens}
 use Rattle.tokens.specs.Table.{record_size, records, tokens_call, as_tokens, tokens_tests}
 use Rattle.tokens.proofs.Records.{records_length}
@@ -46,8 +48,8 @@ tokens_call_accepted s result old h =
     let k = accepted_given _ _ (first_refusal (tokens_tests s result old)) h in
     ((both_passed (text_tests text_limit (s ∷ [])) _ k.0).0, k.1)
 
--- `result` is what is written for the text s, whose refusal n is tested first; `old` is the lent buffer
-module _ (s result old : List ℕ) (n : ℕ) (refusal_eq : n ≡ text_refusal text_limit s) where
+-- `result` is what is written for the text s, over the buffer `old`
+module _ (s result old : List ℕ) where
   abbrev is_short : Bool
   is_short = ltb (length old) (length result)
 
@@ -57,20 +59,23 @@ module _ (s result old : List ℕ) (n : ℕ) (refusal_eq : n ≡ text_refusal te
   abbrev room : List Test
   room = BufferTooShort when is_short ∷ []
 
-  -- the text is refused
-  pub fill_refused : (n ≡ 0 → ⊥) → as_tokens (record { refusal = n; tokens = 0 }) old ≡ tokens_call s result old
-  unfolding tokens_call
-  fill_refused z = refused_first text room refusal_eq _ _ z
+  -- `admitted` is what the tests of the text answer
+  module _ {admitted : Result (Unit {0}) Refusal} (admitted_eq : answer_number admitted ≡ text_refusal text_limit s) where
+    -- the text is refused, and `?` leaves
+    pub fill_refused : (answer : Result ℕ Refusal) {r : Refusal} → admitted ≡ Err r → IsErrAnd answer (λ e. e ≡ r)
+        → as_tokens answer old ≡ tokens_call s result old
+    unfolding tokens_call
+    fill_refused = leaves_first text room admitted_eq _ _ _
 
-  -- the buffer is too short
-  pub fill_short : n ≡ 0 → is_short ≡ true → as_tokens (record { refusal = 5; tokens = 0 }) old ≡ tokens_call s result old
-  unfolding tokens_call
-  fill_short z t = rw (passed_first text room refusal_eq z, t)
+    -- the buffer is too short
+    pub fill_short : admitted ≡ Ok tt → is_short ≡ true → as_tokens (Err BufferTooShort) old ≡ tokens_call s result old
+    unfolding tokens_call
+    fill_short o t = rw (decides_next text room admitted_eq o, t)
 
-  -- the result is written
-  pub fill_done : n ≡ 0 → is_short ≡ false → {k : ℕ} {new : List ℕ} → k ≡ length (tokens s) → new ≡ sets old 0 result
-      → as_tokens (record { refusal = 0; tokens = k }) new ≡ tokens_call s result old
-  unfolding tokens_call
-  fill_done z f {k} {new} e d =
-      let w : new ≡ overwrite result old = d ∙ sets_front old result (ltb-false _ _ f) in
-      rw (passed_first text room refusal_eq z, f) (λ j. record { refusal = 0; value = record { tokens = e j; buffer = w j } })
+    -- the result is written
+    pub fill_done : admitted ≡ Ok tt → is_short ≡ false → {k : ℕ} {new : List ℕ} → k ≡ length (tokens s) → new ≡ sets old 0 result
+        → as_tokens (Ok k) new ≡ tokens_call s result old
+    unfolding tokens_call
+    fill_done o f {k} {new} e d =
+        let w : new ≡ overwrite result old = d ∙ sets_front old result (ltb-false _ _ f) in
+        rw (decides_next text room admitted_eq o, f) (λ j. record { refusal = 0; value = record { tokens = e j; buffer = w j } })

@@ -8,6 +8,7 @@ use native.Mathlib.Numerals.{add-one}
 use native.Mathlib.Omega.{arith}
 use lib.ListN.{length, drop, get_or, drop_of_length-le}
 use lib.Seq.{drop-cons, drop-length}
+use Rattle.std.specs.Int.{from_bool}
 use Rattle.lists.specs.Bytes.{all, span, drop_while}
 use Rattle.lists.specs.Classes.{whitespace, non_whitespace}
 use Rattle.lists.proofs.Scan.{all_span, span_short, span_fails}
@@ -17,7 +18,7 @@ use Rattle.tokens.proofs.Forward.{tokens_none, tokens_more, tokens_induct}
 -- how many runs start in a text; `white` says that whitespace or nothing stands before it
 unfoldable pub run_starts : Bool → List ℕ → ℕ
 run_starts white [] = 0
-run_starts white (b ∷ s) = cond (white && not (whitespace b)) 1 0 + run_starts (whitespace b) s
+run_starts white (b ∷ s) = from_bool (white && not (whitespace b)) + run_starts (whitespace b) s
 
 runs_white : (s : List ℕ) → run_starts true s ≡ run_starts true (after_whitespace s)
 unfolding run_starts span
@@ -64,9 +65,14 @@ runs_tokens =
 
 -- one step of the loop: n is the count so far
 pub runs_on : (white : Bool) (s : List ℕ) (i n : ℕ) → i < length s
-    → n + run_starts white (drop i s) ≡ (n + cond (white && not (whitespace (get_or s i 0))) 1 0) + run_starts (whitespace (get_or s i 0)) (drop (i + 1) s)
+    → n + run_starts white (drop i s) ≡ (n + from_bool (white && not (whitespace (get_or s i 0)))) + run_starts (whitespace (get_or s i 0)) (drop (i + 1) s)
 unfolding run_starts
 runs_on white s i n h = rw (add-one, drop-cons s i 0) (omega arith)
+
+-- at most one more is counted
+pub one_more : (b : Bool) → from_bool b ≤ 1
+one_more true = omega arith
+one_more false = omega arith
 
 -- at the end nothing more is counted
 pub runs_end : (white : Bool) (s : List ℕ) (i n : ℕ) → length s ≤ i → n + run_starts white (drop i s) ≡ n
@@ -80,7 +86,7 @@ runs_bound [] = (omega arith, omega arith)
 runs_bound (b ∷ s) = go (whitespace b) (runs_bound s)
   where
     go : (t : Bool) → (2 * run_starts true s ≤ length s + 1) × (2 * run_starts false s ≤ length s)
-        → (2 * (cond (true && not t) 1 0 + run_starts t s) ≤ suc (length s) + 1) × (2 * (cond (false && not t) 1 0 + run_starts t s) ≤ suc (length s))
+        → (2 * (from_bool (true && not t) + run_starts t s) ≤ suc (length s) + 1) × (2 * (from_bool (false && not t) + run_starts t s) ≤ suc (length s))
     go true i = (omega arith, omega arith)
     go false i = (omega arith, omega arith)
 

@@ -1,10 +1,10 @@
 pub mod Forward
 pub mod Count
 pub mod Texts
-pub mod Cutting
 pub mod Records
-pub mod Walks
-pub mod Answers
 pub mod Joined
 pub mod Glue
 pub mod Peeled
+pub mod Walks
+pub mod Cutting
+pub mod Answers

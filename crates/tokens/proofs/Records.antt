@@ -1,7 +1,7 @@
 -- The records of a table, one after the other. Assumes nothing.
-use mathlib.Core.Path.{◌≡◌, refl, sym, ap, ap₂, ◌∙◌}
-use mathlib.Core.List.{List, [], ◌∷◌, ◌++◌, append-nil}
-use Prim.Native.Nat.{ℕ, ◌+◌, ◌-◌, ◌*◌}
+use mathlib.Core.Path.{◌≡◌, refl, sym, ap, ◌∙◌}
+use mathlib.Core.List.{List, [], ◌∷◌, ◌++◌, append-nil, flatten}
+use Prim.Native.Nat.{ℕ, ◌+◌, ◌*◌, ◌≤◌}
 use native.Mathlib.Omega.{arith}
 use lib.ListN.{length, length-append}
 use lib.Seq.{sets}
@@ -9,10 +9,9 @@ use Rattle.lists.specs.LittleEndian.{le_bytes}
 use Rattle.lists.proofs.Sets.{sets_append}
 use Rattle.word_writer.specs.Writer.{pair_of}
 use Rattle.word_writer.specs.Words.{table_of}
-use Rattle.tokens.specs.Tokens.{Token}
-use Rattle.tokens.specs.Table.{record_of, record_size, records, places_of, record_at, token_size}
-use Rattle.tokens.specs.declared.Places.{Places}
-use Rattle.tokens.proofs.Forward.{size_parts}
+use Rattle.tokens.specs.Tokens.{Token, after_run, first_token, tokens, token_parts}
+use Rattle.tokens.specs.Table.{record_of, record_size, records, token_size, token_end}
+use Rattle.tokens.proofs.Forward.{tokens_none, tokens_more, tokens_induct, first_joined, size_parts}
 
 -- four pairs stored one after the other are stored as one run
 pub four_pairs : (l : List ℕ) (i a1 b1 a2 b2 a3 b3 a4 b4 : ℕ)
@@ -31,22 +30,23 @@ four_pairs l i a1 b1 a2 b2 a3 b3 a4 b4 =
     sym (sets_append l i x1 (x2 ++ (x3 ++ x4)) ∙ sets_append l1 (i + 8) x2 (x3 ++ x4) ∙ ap (λ (k : ℕ). sets l2 k (x3 ++ x4)) e2
     ∙ sets_append l2 (i + 16) x3 x4 ∙ ap (λ (k : ℕ). sets (sets l2 (i + 16) x3) k x4) e3)
 
--- a sum less its first number is the second
-add_sub : (a b : ℕ) → (a + b) - a ≡ b
-add_sub a b = omega arith
-
--- the record of a token is that of its places
-pub record_at_lem : (at : ℕ) (t : Token) → record_at (places_of at t) ≡ record_of at t
+-- the four pairs of a token are its record
+pub record_stored : (l : List ℕ) (i at : ℕ) (t : Token)
+    → sets (sets (sets (sets l i (pair_of at (length t.whitespace)))
+    (i + 8) (pair_of (at + length t.whitespace) (length t.prepunctuation)))
+    (i + 16) (pair_of (at + length t.whitespace + length t.prepunctuation) (length t.name)))
+    (i + 24) (pair_of (at + length t.whitespace + length t.prepunctuation + length t.name) (length t.punctuation))
+    ≡ sets l i (record_of at t)
 unfolding record_of table_of
-record_at_lem at t =
-    let a : ℕ = at + length t.whitespace in
-    let b : ℕ = a + length t.prepunctuation in
-    let c : ℕ = b + length t.name in
-    rw (add_sub at (length t.whitespace), add_sub a (length t.prepunctuation), add_sub b (length t.name), add_sub c (length t.punctuation), append-nil)
+record_stored l i at t = rw append-nil (four_pairs l i _ _ _ _ _ _ _ _)
 
 record_length : (at : ℕ) (t : Token) → length (record_of at t) ≡ record_size
 unfolding record_of table_of pair_of le_bytes
 record_length at t = refl
+
+-- a token ends where its parts do
+pub token_end_lem : (at : ℕ) (t : Token) → token_end at t ≡ at + token_size t
+token_end_lem at t = omega (arith, size_parts t)
 
 -- the records have 32 bytes per token
 pub records_length : (at : ℕ) (ts : List Token) → length (records at ts) ≡ record_size * length ts
@@ -55,15 +55,13 @@ records_length at [] = refl
 records_length at (t ∷ ts) = length-append (record_of at t) (records (at + token_size t) ts) ∙ omega (arith, record_length at t, records_length (at + token_size t) ts)
 
 -- an iteration of the loop: the record of the first token is stored, those of the others are left
-pub records_step : (l : List ℕ) (n at : ℕ) (t : Token) (ts us : List Token) (p : Places) → p ≡ places_of at t → us ≡ t ∷ ts
-    → {z : List ℕ} → sets l (record_size * n) (records at us) ≡ z → sets (sets l (record_size * n) (record_at p)) (record_size * (n + 1)) (records p.end ts) ≡ z
+pub records_step : (l : List ℕ) (n at : ℕ) (t : Token) (ts us : List Token) → us ≡ t ∷ ts
+    → {z : List ℕ} → sets l (record_size * n) (records at us) ≡ z
+    → sets (sets l (record_size * n) (record_of at t)) (record_size * (n + 1)) (records (at + token_size t) ts) ≡ z
 unfolding records
-records_step l n at t ts us p e u k =
-    let f : p.end ≡ at + token_size t = ap (λ (q : Places). q.end) e ∙ omega (arith, size_parts t) in
-    let g : record_at p ≡ record_of at t = ap record_at e ∙ record_at_lem at t in
+records_step l n at t ts us u k =
     let h : record_size * n + length (record_of at t) ≡ record_size * (n + 1) = omega (arith, record_length at t) in
-    ap₂ (λ (r : List ℕ) (i : ℕ). sets (sets l (record_size * n) r) (record_size * (n + 1)) (records i ts)) g f
-    ∙ ap (λ (i : ℕ). sets (sets l (record_size * n) (record_of at t)) i (records (at + token_size t) ts)) (sym h)
+    ap (λ (i : ℕ). sets (sets l (record_size * n) (record_of at t)) i (records (at + token_size t) ts)) (sym h)
     ∙ sym (sets_append l (record_size * n) (record_of at t) (records (at + token_size t) ts))
     ∙ ap (λ (vs : List Token). sets l (record_size * n) (records at vs)) (sym u) ∙ k
 
@@ -71,3 +69,19 @@ records_step l n at t ts us p e u k =
 pub records_end : (l : List ℕ) (n at : ℕ) (us : List Token) → us ≡ [] → {z : List ℕ} → sets l (record_size * n) (records at us) ≡ z → l ≡ z
 unfolding records
 records_end l n at us u k = ap (λ (vs : List Token). sets l (record_size * n) (records at vs)) (sym u) ∙ k
+
+-- ---- how many bytes all tokens take
+
+abbrev pub total_size : List Token → ℕ
+total_size [] = 0
+total_size (t ∷ ts) = token_size t + total_size ts
+
+-- no more than their text has
+pub total_within : (s : List ℕ) → total_size (tokens s) ≤ length s
+total_within =
+    tokens_induct (λ (s : List ℕ). total_size (tokens s) ≤ length s)
+    (λ s e. rw (tokens_none s e) (omega arith))
+    (λ s e i.
+    let f = ap length (first_joined s) in
+    let l = length-append (flatten (token_parts (first_token s))) (after_run s) in
+    rw (tokens_more s e) (omega arith))

@@ -1,3 +1,4 @@
 pub mod Tokens
 pub mod Table
 pub mod Peeled
+pub mod Left

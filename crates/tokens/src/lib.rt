@@ -1,111 +1,112 @@
 // Tokens of a text, as `tokenize` of text.rs gives them: where each one's parts are, how many there are, and their table.
 #![tactic(auto)]
 
-ghost use Rattle.std.specs.Prelude.{◌≡◌, ◌+◌, ◌*◌, ◌≤◌, ltb, length, drop};
+ghost use Rattle.std.specs.Prelude.{◌≡◌, ◌+◌, ◌*◌, ◌^◌, ◌<◌, ◌≤◌, ltb, length};
+ghost use Rattle.std.specs.Iterator.{YieldsFirstBy, item_count};
 ghost use Rattle.std.proofs.lemmas.List.Edits.{sets};
 ghost use Rattle.lists.specs.Bytes.{span};
 ghost use Rattle.lists.specs.Classes.{prepunctuation_mark};
-ghost use Rattle.tokens.specs.Tokens.{tokens, first_token};
-ghost use Rattle.tokens.specs.Table.{record_size, records, tokens_call, as_tokens, places_of, none_left, record_at, CutAt};
+ghost use Rattle.tokens.specs.Tokens.{name_size, cut, tokens};
+ghost use Rattle.tokens.specs.Table.{record_of, records, tokens_call, as_tokens, record_size, token_end};
+ghost use Rattle.tokens.specs.Left.{parts_of, tokens_left};
 
-use admit::{Refusal, refusal_of};
-use lists::{
-    NON_POSTPUNCTUATION, NON_WHITESPACE, PREPUNCTUATION, WHITESPACE, after_last, in_class, one_if,
-    part, saturating_sub, span_of, tail,
-};
+use admit::{Refusal, admit_text};
+use lists::{ByteClass, Not, Postpunctuation, Prepunctuation, Whitespace, last_end, span, tail};
 use word_writer::{PAIR_SIZE, put_pair_at};
 
 // The bytes of a token's record in the table.
 const RECORD_SIZE: usize = 32;
 
-// Where each part of a token starts, and where the last one ends.
+// A token: its four parts, which follow each other in the text.
 #[derive(Clone, Copy)]
-pub struct Places {
-    pub whitespace: usize,
-    pub prepunctuation: usize,
-    pub name: usize,
-    pub punctuation: usize,
-    pub end: usize,
+pub struct Token<'a> {
+    pub whitespace: &'a [u8],
+    pub prepunctuation: &'a [u8],
+    pub name: &'a [u8],
+    pub punctuation: &'a [u8],
 }
 
-impl Places {
-    // Whether no token is left in a text of `len` bytes: the whitespace goes up to the text's end.
-    pub fn none_left(self, len: usize) -> bool
-        ensures { result ≡ none_left self len }
+// The tokens of a text, one after the other. `rest` is what follows those that were given.
+#[derive(Drop)]
+pub struct Tokens<'a> {
+    rest: &'a [u8],
+}
+
+impl<'a> Tokens<'a> {
+    pub fn new(s: &'a [u8]) -> Self
+        ensures { tokens_left result ≡ tokens s.now }
     {
-        self.prepunctuation == len
+        Tokens { rest: s }
     }
 }
 
-// Where the name and the punctuation of a run start in it.
-#[derive(Clone, Copy)]
-struct Cut {
-    name: usize,
-    punctuation: usize,
+impl<'a> Iterator for Tokens<'a> {
+    type Item = Token<'a>;
+
+    ghost next_gives = { YieldsFirstBy parts_of tokens_left };
+
+    ghost remaining = { item_count tokens_left };
+
+    fn next(&mut self) -> Option<Token<'a>> {
+        let s = self.rest;
+        let (whitespace, text) = s.split_at(span(s, Whitespace));
+        if text.is_empty() {
+            return None;
+        }
+        // The marks are no whitespace, so the run goes on after them.
+        let marks = span(text, Prepunctuation);
+        let more = span(tail(text, marks), Not(Whitespace));
+        let (run, rest) = text.split_at(marks + more);
+        self.rest = rest;
+        Some(cut_run(whitespace, run, marks, rest.is_empty()))
+    }
 }
 
-// A call's answer: the refusal's number or 0, and the count of tokens.
-#[repr(C)]
-#[derive(Clone, Copy)]
-pub struct Tokens {
-    pub refusal: u8,
-    pub tokens: usize,
+// How much of what follows the leading marks is the name.
+#[tactic(auto, using(lists::proofs::Scan::last_le))]
+fn name_size(s: &[u8]) -> usize
+    ensures { (result ≡ name_size s.now) × (result ≤ length s.now) }
+{
+    match s.split_first() {
+        None => 0,
+        Some((_, others)) => 1 + last_end(others, Not(Postpunctuation)),
+    }
 }
 
 // Cuts a run into its parts. The run starts with `marks` leading marks; `ends` says that the text ends with it.
-fn cut_run(run: &[u8], marks: usize, ends: bool) -> Cut
+fn cut_run<'a>(whitespace: &'a [u8], run: &'a [u8], marks: usize, ends: bool) -> Token<'a>
     requires { marks ≡ span prepunctuation_mark run.now }
-    ensures { CutAt run.now ends result.name result.punctuation }
+    ensures { parts_of result ≡ cut whitespace.now run.now ends }
 {
-    if marks == run.len() {
-        if ends {
-            return Cut {
-                name: 0,
-                punctuation: marks,
-            };
-        }
-        return Cut {
-            name: marks,
-            punctuation: marks,
+    let (prepunctuation, named) = run.split_at(marks);
+    if ends & named.is_empty() {
+        return Token {
+            whitespace,
+            prepunctuation: named,
+            name: run,
+            punctuation: named,
         };
     }
-    let name = marks + 1;
-    Cut {
-        name: marks,
-        punctuation: name + after_last(NON_POSTPUNCTUATION, 0, tail(run, name)),
-    }
-}
-
-// The first token of what follows the first `at` bytes. If only whitespace is left, every part after it is empty.
-pub fn token_at(s: &[u8], at: usize) -> Places
-    ensures { result ≡ places_of at (first_token (drop at s.now)) }
-{
-    let start = at + span_of(WHITESPACE, 0, tail(s, at));
-    let marks = span_of(PREPUNCTUATION, 0, tail(s, start));
-    let first = start + marks;
-    let end = first + span_of(NON_WHITESPACE, 0, tail(s, first));
-    let run = cut_run(part(s, start, end), marks, s.len() <= end);
-    Places {
-        whitespace: at,
-        prepunctuation: start,
-        name: start + run.name,
-        punctuation: start + run.punctuation,
-        end,
+    let (name, punctuation) = named.split_at(name_size(named));
+    Token {
+        whitespace,
+        prepunctuation,
+        name,
+        punctuation,
     }
 }
 
 // How many tokens s has. A byte that is no whitespace starts one if it is the first byte or follows whitespace.
+#[tactic(auto, using(crate::proofs::Count::runs_tokens))]
 fn count_tokens(s: &[u8]) -> usize
     ensures { result ≡ length (tokens s.now) }
 {
     let mut n = 0;
     let mut white = true;
-    let mut i = 0;
-    while i < s.len() {
-        let next = in_class(WHITESPACE, 0, s[i]);
-        n += one_if(white & !next);
+    for b in s {
+        let next = Whitespace.contains(*b);
+        n += usize::from(white & !next);
         white = next;
-        i += 1;
     }
     n
 }
@@ -120,35 +121,31 @@ pub fn has_more_tokens(s: &[u8], n: usize) -> bool
     n < count_tokens(s)
 }
 
-// Stores a token's record from index `place` on.
-fn put_record(table: &mut [u8], place: usize, t: Places)
-    requires { place + record_size ≤ length table.old }
-    ensures { table.new ≡ sets table.old place (record_at t) }
+// Stores the record of a token from index `place` on. The token starts at the offset `at`; the result is where it ends.
+fn put_record(table: &mut [u8], place: usize, at: usize, t: Token) -> usize
+    requires room { place + record_size ≤ length table.old }
+    requires fits { token_end at (parts_of t) < 2 ^ 64 }
+    ensures end { result ≡ token_end at (parts_of t.entry) }
+    ensures stored { table.new ≡ sets table.old place (record_of at (parts_of t.entry)) }
 {
-    put_pair_at(
-        table,
-        place,
-        t.whitespace,
-        saturating_sub(t.prepunctuation, t.whitespace),
-    );
+    let prepunctuation = at + t.whitespace.len();
+    let name = prepunctuation + t.prepunctuation.len();
+    let punctuation = name + t.name.len();
+    put_pair_at(table, place, at, t.whitespace.len());
     put_pair_at(
         table,
         place + PAIR_SIZE,
-        t.prepunctuation,
-        saturating_sub(t.name, t.prepunctuation),
+        prepunctuation,
+        t.prepunctuation.len(),
     );
-    put_pair_at(
-        table,
-        place + 2 * PAIR_SIZE,
-        t.name,
-        saturating_sub(t.punctuation, t.name),
-    );
+    put_pair_at(table, place + 2 * PAIR_SIZE, name, t.name.len());
     put_pair_at(
         table,
         place + 3 * PAIR_SIZE,
-        t.punctuation,
-        saturating_sub(t.end, t.punctuation),
+        punctuation,
+        t.punctuation.len(),
     );
+    punctuation + t.punctuation.len()
 }
 
 // Writes the records of all tokens, and answers how many there are.
@@ -156,36 +153,23 @@ fn write_records(s: &[u8], table: &mut [u8]) -> usize
     requires { record_size * length (tokens s.now) ≤ length table.old }
     ensures { (result ≡ length (tokens s.now)) × (table.new ≡ sets table.old 0 (records 0 (tokens s.now))) }
 {
+    // Each record is stored by its index: no contract says what a chain over `chunks_exact_mut` leaves in the table.
     let mut n = 0;
     let mut at = 0;
-    while at < s.len() {
-        let t = token_at(s, at);
-        if t.none_left(s.len()) {
-            return n;
-        }
-        put_record(table, RECORD_SIZE * n, t);
+    for token in Tokens::new(s) {
+        at = put_record(table, RECORD_SIZE * n, at, token);
         n += 1;
-        at = t.end;
     }
     n
 }
 
-// The table of the tokens of s.
-pub fn tokenize(s: &[u8], table: &mut [u8]) -> Tokens
+// The table of the tokens of s, and how many there are.
+pub fn tokenize(s: &[u8], table: &mut [u8]) -> Result<usize, Refusal>
     ensures { as_tokens result table.new ≡ tokens_call s.now (records 0 (tokens s.now)) table.old }
 {
-    let refusal = refusal_of(s);
-    if refusal != 0 {
-        return Tokens { refusal, tokens: 0 };
-    }
+    admit_text(s)?;
     if has_more_tokens(s, table.len() / RECORD_SIZE) {
-        return Tokens {
-            refusal: Refusal::BufferTooShort.number(),
-            tokens: 0,
-        };
+        return Err(Refusal::BufferTooShort);
     }
-    Tokens {
-        refusal: 0,
-        tokens: write_records(s, table),
-    }
+    Ok(write_records(s, table))
 }

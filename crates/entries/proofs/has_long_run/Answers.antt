@@ -1,36 +1,18 @@
-use mathlib.Core.Bool.{false≢true}
-use Rattle.entries.proofs.Runs.{ahead_within, long_runs_on, long_runs_end}
-use mathlib.Core.Path.{sym}
-use native.Mathlib.Omega.{arith}
+use Rattle.std.proofs.Common.{◌≡◌, take, length, length-drop, ap, arith, ◌∙◌}
+use Rattle.entries.proofs.Runs.{NoLongRun, no_run_before, no_run_short, no_long_entry}
 use Rattle.entries.proofs.has_long_run.Goals as goal
 
-pub loop-at-init : goal.loop-at-init
-loop-at-init c = (omega arith, λ i r. omega arith)
+pub loop-ahead-smaller : goal.loop-ahead-smaller
+loop-ahead-smaller c =
+    let e = ap length c.tail-rest.ensures ∙ length-drop c.last_end-end.result c.loop-ahead.rest.now in
+    omega (arith, e, c.in-Some.ensures.lookup)
 
-pub returns-then-ahead-eq0 : goal.returns-then-ahead-eq0
-returns-then-ahead-eq0 c = λ e. absurd (false≢true (sym e))
-
-pub overflow_add-at-in-loop-at : goal.overflow_add-at-in-loop-at
-overflow_add-at-in-loop-at c =
-    let w =
-    ahead_within c.args.s.now c.loop-at.at c.part.ensures
-    c.after_last-ahead.ensures c.loop-at.invariant.0 in
-    omega arith
-
-pub loop-at-smaller : goal.loop-at-smaller
-loop-at-smaller c =
-    let w =
-    ahead_within c.args.s.now c.loop-at.at c.part.ensures
-    c.after_last-ahead.ensures c.loop-at.invariant.0 in
-    omega arith
-
-pub loop-at-preserved : goal.loop-at-preserved
-loop-at-preserved c = (
-  ahead_within c.args.s.now c.loop-at.at c.part.ensures c.after_last-ahead.ensures
-      c.loop-at.invariant.0,
-  long_runs_on c.args.s.now c.loop-at.at c.part.ensures c.after_last-ahead.ensures
-      c.if-ahead-eq0.false c.loop-at.invariant.1,
-)
+pub loop-ahead-preserved : goal.loop-ahead-preserved
+loop-ahead-preserved c =
+    let e : c.in-Some.ahead.now ≡ take 4097 c.loop-ahead.rest.now = c.in-Some.ensures.lookup.0.2 in
+    λ (f : NoLongRun c.tail-rest.result.now).
+    c.loop-ahead.invariant (no_run_before c.loop-ahead.rest.now _ _ e c.last_end-end.ensures c.if-end-eq0.false (rw c.tail-rest.ensures at f))
 
 pub returns : goal.returns
-returns c = λ e. long_runs_end c.args.s.now (omega arith) c.loop-at.invariant.1
+returns c = λ e.
+    no_long_entry c.args.s.now (c.loop-ahead.invariant (no_run_short c.loop-ahead.rest.now (omega (arith, c.in_default.ensures.lookup))))

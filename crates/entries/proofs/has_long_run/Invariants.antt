@@ -1,10 +1,9 @@
-use Rattle.entries.proofs.Runs.{RunsFrom}
-use Prim.Native.Nat.{◌-◌, ◌≤◌}
-use lib.ListN.{length}
+use Rattle.std.proofs.Common.{length}
+use Rattle.entries.proofs.Runs.{NoLongRun}
 use Rattle.entries.proofs.has_long_run.Given as goal
 
-abbrev pub invariant-loop-at : goal.invariant-loop-at
-invariant-loop-at l = (l.at ≤ length l.s) × RunsFrom l.s l.at
+abbrev pub invariant-loop-ahead : goal.invariant-loop-ahead
+invariant-loop-ahead l = NoLongRun l.rest → NoLongRun l.s
 
-abbrev pub decreases-loop-at : goal.decreases-loop-at
-decreases-loop-at l = length l.s - l.at
+abbrev pub decreases-loop-ahead : goal.decreases-loop-ahead
+decreases-loop-ahead l = length l.rest

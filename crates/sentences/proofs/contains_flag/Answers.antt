@@ -1,8 +1,7 @@
-use mathlib.Core.Path.{sym, ap}
-use Rattle.lists.proofs.Parts.{elem_span}
+use Rattle.std.proofs.Common.{ap, ◌∙◌}
 use Rattle.sentences.specs.Sentences.{flag}
+use Rattle.sentences.proofs.Marking.{flag_byte, contains_is}
 use Rattle.sentences.proofs.contains_flag.Goals as goal
 
 pub returns : goal.returns
-returns c =
-    rw (c.flag.ensures, c.span_of.ensures) (ap flag (sym (elem_span c.args.c c.args.s.now)))
+returns c = c.from.ensures ∙ flag_byte _ ∙ ap flag (c.contains.ensures.value ∙ contains_is _ _)

@@ -1,17 +1,13 @@
-use mathlib.Core.Path.{◌≡◌}
-use Prim.Native.Nat.{◌-◌}
-use lib.ListN.{length, drop}
-use lib.Seq.{sets}
+use Rattle.std.proofs.Common.{◌≡◌, ◌+◌, length}
+use Rattle.std.proofs.lemmas.List.Edits.{sets}
 use Rattle.tokens.specs.Tokens.{tokens}
-use Rattle.tokens.proofs.Walks.{Left}
 use Rattle.sentences.specs.Calls.{flags, start_bytes}
-use Rattle.sentences.proofs.Kept.{sentence_starts_from}
+use Rattle.sentences.specs.Left.{entries_left}
+use Rattle.sentences.proofs.Marking.{starts_of}
 use Rattle.sentences.proofs.write_starts.Given as goal
 
-abbrev pub invariant-loop-at : goal.invariant-loop-at
-invariant-loop-at l =
-    Left l.s l.n l.at × (length l.starts ≡ length l.initial.starts)
-    × (sets l.starts l.n (flags (sentence_starts_from l.state (tokens (drop l.at l.s)))) ≡ sets l.initial.starts 0 (start_bytes l.s))
-
-abbrev pub decreases-loop-at : goal.decreases-loop-at
-decreases-loop-at l = length l.s - l.at
+abbrev pub invariant-loop-entry : goal.invariant-loop-entry
+invariant-loop-entry l = record {
+  count : l.n + length (entries_left l.entry-iterator) ≡ length (tokens l.s);
+  starts : sets l.starts l.n (flags (starts_of (entries_left l.entry-iterator))) ≡ sets l.initial.starts 0 (start_bytes l.s);
+}

@@ -1,25 +1,16 @@
-use mathlib.Core.Path.{sym, ◌∙◌}
-use native.Mathlib.Nat.{zero-add}
-use native.Mathlib.Omega.{arith}
-use Rattle.tokens.proofs.Count.{runs_tokens, runs_on, runs_end}
+use Rattle.std.proofs.Common.{sym, ◌∙◌, arith}
+use Rattle.tokens.proofs.Count.{runs_on, one_more, runs_end}
 use Rattle.tokens.proofs.count_tokens.Goals as goal
 
-pub loop-i-init : goal.loop-i-init
-loop-i-init c = (omega arith, omega arith, zero-add _ ∙ runs_tokens c.args.s.now)
-
 pub overflow_add-n : goal.overflow_add-n
-overflow_add-n c = let t = c.one_if-n.ensures.1 in omega arith
+overflow_add-n c = omega (arith, c.from-n.ensures, one_more)
 
-pub loop-i-preserved : goal.loop-i-preserved
-loop-i-preserved c =
-    let t = c.one_if-n.ensures.1 in (
-      omega arith,
-      omega arith,
-      rw (c.one_if-n.ensures.0, c.in_class-next.ensures)
-          (sym (runs_on c.loop-i.white c.args.s.now c.loop-i.i c.loop-i.n (omega arith))
-          ∙ c.loop-i.invariant.2),
-    )
+pub loop-b-preserved : goal.loop-b-preserved
+loop-b-preserved c = (
+  omega (arith, c.from-n.ensures, one_more),
+  rw (c.from-n.ensures, c.contains-next.ensures)
+      (sym (runs_on c.loop-b.white c.args.s.now c.loop-b.b-index c.loop-b.n (omega arith)) ∙ c.loop-b.invariant.1),
+)
 
 pub returns : goal.returns
-returns c =
-    sym (runs_end c.loop-i.white c.args.s.now c.loop-i.i c.loop-i.n (omega arith)) ∙ c.loop-i.invariant.2
+returns c = sym (runs_end c.loop-b.white c.args.s.now c.loop-b.b-index c.loop-b.n (omega arith)) ∙ c.loop-b.invariant.1

@@ -1,33 +1,17 @@
-use mathlib.Core.Path.{◌≡◌}
-use native.Mathlib.Omega.{arith}
-use Rattle.lists.specs.Bytes.{span}
+use Rattle.std.proofs.Common.{rules}
 use Rattle.lists.specs.Classes.{prepunctuation_mark}
 use Rattle.lists.proofs.Scan.{span_le}
-use Rattle.tokens.proofs.Cutting.{cut_marks, cut_named}
+use Rattle.tokens.proofs.Cutting.{cut_marks, cut_peeled}
 use Rattle.tokens.proofs.cut_run.Goals as goal
 
-pub returns-then-ends : goal.returns-then-ends
-returns-then-ends c =
-    rw c.if-ends.true (cut_marks c.args.run.now c.args.marks c.requires c.if-marks-run.true).0
+pub split_at-requires : goal.split_at-requires
+split_at-requires c = rw c.requires (span_le prepunctuation_mark c.args.run.now)
 
-pub returns-then-marks-run : goal.returns-then-marks-run
-returns-then-marks-run c =
-    rw c.if-ends.false (cut_marks c.args.run.now c.args.marks c.requires c.if-marks-run.true).1
-
-pub overflow_add-name : goal.overflow_add-name
-overflow_add-name c =
-    let l = span_le prepunctuation_mark c.args.run.now in
-    let e : c.args.marks ≡ span prepunctuation_mark c.args.run.now = c.requires in
-    omega arith
-
-pub overflow_add-result : goal.overflow_add-result
-overflow_add-result c =
-    let w =
-    (cut_named c.args.run.now c.args.ends c.args.marks _ c.requires c.if-marks-run.false
-    (rw c.tail.ensures at c.after_last.ensures)).within in
-    omega arith
+pub returns-then-ends-is_empty : goal.returns-then-ends-is_empty
+returns-then-ends-is_empty c =
+    cut_marks c.args.whitespace.now _ _ c.args.ends _ c.requires c.split_at.ensures.back (rw c.is_empty.ensures at c.if-ends-is_empty.true) (search rules)
 
 pub returns : goal.returns
 returns c =
-    cut_named c.args.run.now c.args.ends c.args.marks _ c.requires c.if-marks-run.false
-    (rw c.tail.ensures at c.after_last.ensures)
+    let e = cut_peeled c.args.whitespace.now _ _ c.args.ends _ c.requires c.split_at.ensures.back (rw c.is_empty.ensures at c.if-ends-is_empty.false) in
+    rw (c.split_at-2.ensures.front, c.split_at-2.ensures.back, c.name_size.ensures.0, c.split_at.ensures.front) e

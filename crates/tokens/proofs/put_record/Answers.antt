@@ -1,17 +1,8 @@
-use mathlib.Core.Path.{◌∙◌}
-use Rattle.tokens.proofs.Records.{four_pairs}
+use Rattle.tokens.specs.Left.{parts_of}
+use Rattle.tokens.proofs.Records.{record_stored}
 use Rattle.tokens.proofs.put_record.Goals as goal
 
-pub returns : goal.returns
-returns c =
-    c.put_pair_at-4.ensures
-    ∙ rw (
-      c.put_pair_at-3.ensures,
-      c.put_pair_at-2.ensures,
-      c.put_pair_at.ensures,
-      c.saturating_sub.ensures,
-      c.saturating_sub-2.ensures,
-      c.saturating_sub-3.ensures,
-      c.saturating_sub-4.ensures,
-    )
-    (four_pairs _ _ _ _ _ _ _ _ _ _)
+pub returns-clause-stored : goal.returns-clause-stored
+returns-clause-stored c =
+    rw (c.put_pair_at-4.ensures, c.put_pair_at-3.ensures, c.put_pair_at-2.ensures, c.put_pair_at.ensures)
+    (record_stored c.args.table.now c.args.place c.args.at (parts_of c.args.t))

@@ -1,51 +1,34 @@
-use mathlib.Core.Path.{refl}
-use native.Mathlib.Omega.{arith}
-use Rattle.tokens.proofs.Records.{records_step, records_end}
-use Rattle.tokens.proofs.Walks.{left_all, left_none, left_next, left_on, left_past}
-use borrow.Author.Rules.{rules}
+use Rattle.std.proofs.Common.{◌≡◌, ap, ◌∙◌, arith, refl, length, zero-add}
+use Rattle.tokens.specs.Tokens.{tokens}
+use Rattle.tokens.specs.Left.{parts_of, tokens_left}
+use Rattle.tokens.proofs.Records.{total_size, total_within, token_end_lem, records_step, records_end}
 use Rattle.tokens.proofs.write_records.Goals as goal
 
-pub loop-at-init : goal.loop-at-init
-loop-at-init c = (left_all, refl, refl)
+pub loop-token-init : goal.loop-token-init
+loop-token-init c =
+    let all : tokens_left c.into_iter-token-iterator.result ≡ tokens c.args.s.now =
+    ap tokens_left c.into_iter-token-iterator.ensures.into_iter_gives ∙ c.new-token-items.ensures in
+    rw all (record { count = zero-add _; within = omega (arith, total_within c.args.s.now); table = refl })
 
-pub returns-then-none_left : goal.returns-then-none_left
-returns-then-none_left c =
-    let d = left_none c.loop-at.invariant.0 c.token_at-t.ensures c.none_left.ensures c.if-none_left.true in
-    (d.all, records_end _ _ _ _ d.none c.loop-at.invariant.2)
+pub put_record-at-requires-clause-fits : goal.put_record-at-requires-clause-fits
+put_record-at-requires-clause-fits c =
+    let size = ap total_size c.in-Some.ensures.steps in
+    omega (arith, c.loop-token.invariant, token_end_lem c.loop-token.at (parts_of c.in-Some.token))
 
-pub overflow_mul-n : goal.overflow_mul-n
-overflow_mul-n c =
-    let next = left_next c.loop-at.invariant.0 c.token_at-t.ensures c.none_left.ensures c.if-none_left.false in
-    let p = c.requires in
-    let on = (left_on c.loop-at.invariant.0 next).count in
-    let l = c.loop-at.invariant.1 in
-    omega arith
-
-pub put_record-requires : goal.put_record-requires
-put_record-requires c =
-    let next = left_next c.loop-at.invariant.0 c.token_at-t.ensures c.none_left.ensures c.if-none_left.false in
-    let p = c.requires in
-    let on = (left_on c.loop-at.invariant.0 next).count in
-    let l = c.loop-at.invariant.1 in
-    omega arith
-
-pub loop-at-smaller : goal.loop-at-smaller
-loop-at-smaller c =
-    let next =
-    left_next c.loop-at.invariant.0 c.token_at-t.ensures
-    c.none_left.ensures c.if-none_left.false in
-    omega arith
-
-pub loop-at-preserved : goal.loop-at-preserved
-loop-at-preserved c =
-    let next = left_next c.loop-at.invariant.0 c.token_at-t.ensures c.none_left.ensures c.if-none_left.false in (
-      left_on c.loop-at.invariant.0 next,
-      search rules,
-      rw c.put_record.ensures
-          (records_step _ _ _ _ _ _ _ next.places next.token c.loop-at.invariant.2),
-    )
+pub loop-token-preserved : goal.loop-token-preserved
+loop-token-preserved c =
+    let next = c.in-Some.ensures.steps in
+    let size = ap total_size next in
+    let count = ap length next in
+    let end = c.put_record-at.ensures.end ∙ token_end_lem c.loop-token.at (parts_of c.in-Some.token) in
+    record {
+      count = omega (arith, c.loop-token.invariant);
+      within = omega (arith, c.loop-token.invariant, end);
+      table = rw (c.put_record-at.ensures.stored, end) (records_step _ _ _ _ _ _ next c.loop-token.invariant.table);
+    }
 
 pub returns : goal.returns
 returns c =
-    let d = left_past c.loop-at.invariant.0 (omega arith) in
-    (d.all, records_end _ _ _ _ d.none c.loop-at.invariant.2)
+    let none = c.in-None.ensures.steps.0 in
+    let count = ap length none in
+    (omega (arith, c.loop-token.invariant), records_end _ _ _ _ none c.loop-token.invariant.table)
