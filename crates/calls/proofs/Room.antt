@@ -8,6 +8,7 @@ use Prim.Native.Char.{code}
 use native.Mathlib.Nat.{add-zero}
 use native.Mathlib.Omega.{arith}
 use lib.Dec.{ltb, eqb}
+use Rattle.std.specs.Prelude.{Result, Err}
 use lib.ListN.{length, take, drop, get_or, length-append, length-take, length-drop, length-map}
 use lib.Seq.{get_or-drop}
 use borrow.Author.Tests.{not-false, le-ltb, ltb-true}
@@ -18,7 +19,8 @@ use Rattle.lists.proofs.Scan.{filter_if_le, span_some, span_fails}
 use Rattle.lists.proofs.Sets.{le_or_lt}
 use Rattle.admit.specs.Utf8.{utf8}
 use Rattle.admit.specs.Refusals.{refusal_number, first_refusal, text_limit, text_tests, Call}
-use Rattle.admit.specs.declared.Refusal.TheVariants.{NotUtf8}
+use Rattle.admit.specs.declared.Refusal.{Refusal}
+use Rattle.admit.specs.declared.Refusal.TheVariants.{TextTooLong, NotUtf8, NoSuchEntry, NameTooLong, BufferTooShort}
 use Rattle.admit.proofs.Calls.{call_number}
 use Rattle.vocabulary.proofs.Laws.{word_short}
 use Rattle.units.specs.Units.{unit_abbreviations, abbreviations, unit_words, index_of, unit_index, unit_word, word_numbers}
@@ -37,8 +39,7 @@ use Rattle.years.specs.Year.{year}
 use Rattle.years.proofs.Room.{year_room}
 use Rattle.reals.proofs.Room.{real_room}
 use Rattle.letters.proofs.Room.{letters_room}
-use Rattle.rows.specs.Rows.{Reading, by, per_cent, clock, hour_of, minute_of, clock_letters, read_step, read_with, read}
-use Rattle.rows.specs.declared.Row.TheVariants.{NoRow}
+use Rattle.rows.specs.Rows.{Reading, no_reading, per_cent, clock, hour_of, minute_of, clock_letters, read_step, read_with, read}
 use Rattle.rows.proofs.Laws.{ends_some, shorter}
 use Rattle.call_spec.specs.Sheet.{SheetEntry, entries_of, words_of, spaced_words, line_of, call_sheet}
 use Rattle.call_spec.specs.Calls.{name_limit, any_long, sheet_tests, SheetResult, sheet_call}
@@ -105,7 +106,7 @@ meridiem_room s e =
 -- the words of a name have room, if the word of row 12 is no longer than its name
 read_room : (word : List ℕ → List ℕ) → ((s : List ℕ) → length (word s) ≤ length s) → (s : List ℕ) → RoomFor (length s) (read_with word s).words
 unfolding read_with read_step spell
-read_room word short = recur_induct (λ s g. RoomFor (length s) g.words) (by NoRow []) (read_step word) step
+read_room word short = recur_induct (λ s g. RoomFor (length s) g.words) no_reading (read_step word) step
   where
     step : (f : List ℕ → Reading) (s : List ℕ) → ((t : List ℕ) → length t < length s → RoomFor (length t) (f t).words)
         → RoomFor (length s) (read_step word f s).words
@@ -188,22 +189,29 @@ names_not_long (b ∷ bs) (t ∷ ts) h = rw (le-ltb name_limit (length t.name) (
 
 -- a sheet of n bytes that is no longer than a name may be, in a buffer of at least 11 * (n + 1) bytes: it is refused only if it
 -- isn't UTF-8
-pub only_not_utf8 : (s old new : List ℕ) {r : CalledSheet} → as_sheet r new ≡ sheet_call s old → length s ≤ name_limit → 11 * (length s + 1) ≤ length old
-    → (r.refusal ≡ 0 → ⊥) → r.refusal ≡ refusal_number NotUtf8
+pub only_not_utf8 : (s old new : List ℕ) {r : Result CalledSheet Refusal} → as_sheet r new ≡ sheet_call s old → length s ≤ name_limit
+    → 11 * (length s + 1) ≤ length old → {e : Refusal} → r ≡ Err e → e ≡ NotUtf8
 unfolding sheet_call text_tests any
-only_not_utf8 s old new {r} e h k z =
-    let refusal_eq : r.refusal ≡ first_refusal (sheet_tests s (ltb (length old) (length (call_sheet s)))) =
-    ap (λ (c : Call SheetResult). c.refusal) e ∙ call_number _ _ _ in
-    go (utf8 s)
+only_not_utf8 s old new {r} c h k {e} q =
+    let refusal_eq : refusal_number e ≡ first_refusal (sheet_tests s (ltb (length old) (length (call_sheet s)))) =
+    ap (λ (x : Call SheetResult). x.refusal) (rw q at c) ∙ call_number _ _ _ in
+    go e (utf8 s)
     (rw (
       le-ltb text_limit (length s) (omega arith),
       names_not_long (sentence_starts (tokens s)) (tokens s) (omega (arith, (names_room s).0)),
       le-ltb (length old) (length (call_sheet s)) (omega (arith, sheet_room s)),
     ) at refusal_eq)
   where
-    go : (u : Bool) → r.refusal ≡ cond (not u || false) 2 0 → r.refusal ≡ 2
-    go true q = absurd (z q)
-    go false q = q
+    go : (e : Refusal) (u : Bool) → refusal_number e ≡ cond (not u || false) 2 0 → e ≡ NotUtf8
+    go NotUtf8 u q = refl
+    go TextTooLong true q = absurd (omega arith)
+    go TextTooLong false q = absurd (omega arith)
+    go NoSuchEntry true q = absurd (omega arith)
+    go NoSuchEntry false q = absurd (omega arith)
+    go NameTooLong true q = absurd (omega arith)
+    go NameTooLong false q = absurd (omega arith)
+    go BufferTooShort true q = absurd (omega arith)
+    go BufferTooShort false q = absurd (omega arith)
 
 -- if the room passes the test that the code makes first, it is large enough
 pub room_suffices : (n m room : ℕ) → n ≤ 11 * (m + 1) → m < room / 11 → false ≡ ltb room n

@@ -4,34 +4,31 @@ use Prim.Native.Char.{code}
 use Rattle.lists.specs.Bytes.{overwrite}
 use Rattle.admit.specs.Refusals.{◌when◌, first_refusal, Call, call}
 use Rattle.admit.specs.declared.Refusal.TheVariants.{NameTooLong, BufferTooShort}
-use Rattle.word_writer.specs.Writer.{Writer, put_byte, put_words}
+use Rattle.word_writer.specs.Writer.{written, SameBuffers, Written, put_byte, put_words}
+use Rattle.word_writer.specs.declared.Writer.{Writer}
 use Rattle.rows.specs.Rows.{row_number, row_sign, read}
 use Rattle.rows.specs.declared.Row.{Row}
-use Rattle.rows.specs.declared.Row.TheVariants.{NoRow}
 use Rattle.call_spec.specs.Sheet.{SheetEntry, words_of, mark, line_of}
 use Rattle.call_spec.specs.Calls.{is_long, EntryResult}
-use Rattle.calls.specs.declared.CalledSheet.{CalledSheet}
-use Rattle.calls.specs.declared.CalledEntry.{CalledEntry}
 
--- what a refused call answers
-abbrev pub refused_sheet : ℕ → CalledSheet
-refused_sheet n = record { refusal = n; tokens = 0; words = 0; bytes = 0 }
-
-abbrev pub refused_entry : ℕ → CalledEntry
-refused_entry n = record { refusal = n; entry = record { row = NoRow }; words = 0; bytes = 0 }
-
--- an entry's line, and the lines of several, as a spaced cursor writes them
-unfoldable pub line_to : SheetEntry → Writer → Writer
+-- an entry's line, and the lines of several, as a spaced writer writes them
+unfoldable pub line_to : SheetEntry → Written → Written
 line_to e s = put_byte (code "\n") (put_words (words_of e) (put_byte (mark e.starts) s))
 
-unfoldable pub lines_to : List SheetEntry → Writer → Writer
+unfoldable pub lines_to : List SheetEntry → Written → Written
 lines_to [] s = s
 lines_to (e ∷ es) s = lines_to es (line_to e s)
 
--- an entry's line is written from σ to τ, and its row is answered
-pub record SaysLine (e : SheetEntry) (σ τ : Writer) (r : Row) : Type 0 where
+-- the writer p wrote an entry's line, and is q after that; the entry's row is answered
+pub record SaysLine (e : SheetEntry) (p : Writer) (q : Writer) (r : Row) : Type 0 where
   pub row : r ≡ (read e.name).row
-  pub said : τ ≡ line_to e σ
+  pub buffers : SameBuffers p q
+  pub line : written q ≡ line_to e (written p)
+
+-- it wrote the lines of several
+pub record SaysLines (es : List SheetEntry) (p : Writer) (q : Writer) : Type 0 where
+  pub buffers : SameBuffers p q
+  pub lines : written q ≡ lines_to es (written p)
 
 -- the call of an entry that is there, in a sheet whose text is not refused
 unfoldable pub name_call : SheetEntry → List ℕ → Call EntryResult

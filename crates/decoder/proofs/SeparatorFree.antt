@@ -30,8 +30,7 @@ use Rattle.years.specs.Year.{zero_at, year_step, year_of, year}
 use Rattle.reals.specs.Real.{point_at, e_at, pointed, real_step, real}
 use Rattle.letters.specs.Letters.{chars, letter_word, letters}
 use Rattle.letters.proofs.LetterLaws.{chars_join}
-use Rattle.rows.specs.Rows.{Reading, by, per_cent, clock, hour_of, minute_of, clock_letters, read_step, read_with}
-use Rattle.rows.specs.declared.Row.TheVariants.{NoRow}
+use Rattle.rows.specs.Rows.{no_reading, Reading, per_cent, clock, hour_of, minute_of, clock_letters, read_step, read_with}
 use Rattle.rows.proofs.Laws.{ends_some, shorter}
 use Rattle.decoder.proofs.Decoded.{separator_free}
 
@@ -218,7 +217,7 @@ pub read_separator_free : (word : List ℕ → List ℕ) → ((s : List ℕ) →
 unfolding read_with read_step spell spelled all
 read_separator_free word k s h =
     every_map SeparatorFreeWord SeparatorFree spell (λ w e. e) (read_with word s).words
-    (recur_induct (λ s g. SeparatorFree s → Every SeparatorFreeWord g.words) (by NoRow []) (read_step word) step s h)
+    (recur_induct (λ s g. SeparatorFree s → Every SeparatorFreeWord g.words) no_reading (read_step word) step s h)
   where
     step : (f : List ℕ → Reading) (s : List ℕ) → ((t : List ℕ) → length t < length s → SeparatorFree t → Every SeparatorFreeWord (f t).words) → SeparatorFree s
         → Every SeparatorFreeWord (read_step word f s).words

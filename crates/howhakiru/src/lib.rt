@@ -20,18 +20,25 @@ ghost use Rattle.sentences.specs.Calls.{start_bytes, step_call, as_step};
 ghost use Rattle.call_spec.specs.Calls.{sheet_call, entry_call};
 ghost use Rattle.calls.specs.Answers.{as_sheet, as_entry};
 ghost use Rattle.clear.specs.Test.{is_clear};
-ghost use Rattle.howhakiru.specs.AtC.{time_at_c, as_time_at_c, as_entry_at_c};
+ghost use Rattle.admit.specs.Refusals.{answer_number};
+ghost use Rattle.howhakiru.specs.AtC.{as_verdict_at_c, as_unit_at_c, as_unit_word_at_c, time_at_c, as_time_at_c, as_words_at_c, as_number_at_c, as_tokens_at_c, as_step_at_c, as_entry_at_c, as_sheet_at_c};
 
+use admit::Refusal;
 use calls::{CalledEntry, CalledSheet};
-use lists::saturating_sub;
-use numbers::RomanValue;
-use patterns::{SplitTime, SplitUnit, UnitWord, Verdict};
+use patterns::UnitPart;
 use sentences::{State, Step};
 use shapes::TimeSplit;
-use tokens::Tokens;
 use word_writer::WordCounts;
 
-// The answer of split_time_meridiem for C, which takes no enum: each part by its offset and its length.
+// A shape's verdict for C, which takes no enum: the refusal's number or 0, and the verdict, which is no if the call is refused.
+#[repr(C)]
+#[derive(Clone, Copy)]
+pub struct HwkVerdict {
+    pub refusal: u8,
+    pub yes: bool,
+}
+
+// The answer of split_time_meridiem: each part by its offset and its length.
 #[repr(C)]
 #[derive(Clone, Copy)]
 pub struct HwkTime {
@@ -45,7 +52,60 @@ pub struct HwkTime {
     pub meridiem_len: usize,
 }
 
-// One entry's answer for C, which takes no enum: its row's number and its sign's value.
+// A unit's place in the name; no, 0 and 0 if there is none.
+#[repr(C)]
+#[derive(Clone, Copy)]
+pub struct HwkPart {
+    pub refusal: u8,
+    pub yes: bool,
+    pub offset: usize,
+    pub len: usize,
+}
+
+// Whether there is a word, and its length in the store.
+#[repr(C)]
+#[derive(Clone, Copy)]
+pub struct HwkWord {
+    pub refusal: u8,
+    pub yes: bool,
+    pub len: usize,
+}
+
+// How many words there are, and how many bytes they have.
+#[repr(C)]
+#[derive(Clone, Copy)]
+pub struct HwkWords {
+    pub refusal: u8,
+    pub words: usize,
+    pub bytes: usize,
+}
+
+// The value of a roman numeral, 0 if the call is refused.
+#[repr(C)]
+#[derive(Clone, Copy)]
+pub struct HwkNumber {
+    pub refusal: u8,
+    pub value: u32,
+}
+
+// How many tokens there are.
+#[repr(C)]
+#[derive(Clone, Copy)]
+pub struct HwkTokens {
+    pub refusal: u8,
+    pub tokens: usize,
+}
+
+// Whether a sentence ends before the token, and the state after it.
+#[repr(C)]
+#[derive(Clone, Copy)]
+pub struct HwkStep {
+    pub refusal: u8,
+    pub breaks: bool,
+    pub state: State,
+}
+
+// One entry's answer: its row's number and its sign's value.
 #[repr(C)]
 #[derive(Clone, Copy)]
 pub struct HwkEntry {
@@ -56,150 +116,304 @@ pub struct HwkEntry {
     pub bytes: usize,
 }
 
-fn entry_at_c(e: CalledEntry) -> HwkEntry
-    ensures { (buffer : List ℕ) → as_entry_at_c result buffer ≡ as_entry e buffer }
+// A sheet's answer.
+#[repr(C)]
+#[derive(Clone, Copy)]
+pub struct HwkSheet {
+    pub refusal: u8,
+    pub tokens: usize,
+    pub words: usize,
+    pub bytes: usize,
+}
+
+// The number of the refusal, 0 if the call is accepted.
+fn refusal_at_c<A: Copy>(answer: Result<A, Refusal>) -> u8
+    ensures { result ≡ answer_number answer }
 {
-    let entry = e.entry;
-    let row = entry.row;
-    HwkEntry {
-        refusal: e.refusal,
-        row: row.number(),
-        sign: row.sign(),
-        words: e.words,
-        bytes: e.bytes,
+    match answer {
+        Ok(_) => 0,
+        Err(refusal) => u8::from(refusal),
     }
 }
 
-// The parts of a time in a text of n bytes.
-fn time_at_c(t: SplitTime, n: usize) -> HwkTime
-    ensures { result ≡ time_at_c n (as_offsets t) }
-{
-    let split = t.split;
-    let TimeSplit::At {
-        hour,
-        minute,
-        meridiem,
-    } = split
-    else {
-        return HwkTime {
-            refusal: t.refusal,
-            yes: false,
-            hour_at: 0,
-            hour_len: 0,
-            minute_at: 0,
-            minute_len: 0,
-            meridiem_at: 0,
-            meridiem_len: 0,
+impl From<Result<bool, Refusal>> for HwkVerdict {
+    ghost from_gives = { λ answer verdict. as_verdict_at_c verdict ≡ as_verdict answer };
+
+    fn from(answer: Result<bool, Refusal>) -> HwkVerdict {
+        HwkVerdict {
+            refusal: refusal_at_c(answer),
+            yes: answer.unwrap_or(false),
+        }
+    }
+}
+
+impl From<Result<Option<UnitPart>, Refusal>> for HwkPart {
+    ghost from_gives = { λ answer unit. as_unit_at_c unit ≡ as_unit answer };
+
+    fn from(answer: Result<Option<UnitPart>, Refusal>) -> HwkPart {
+        let part = answer.ok().flatten();
+        let UnitPart { offset, len } = part.unwrap_or(UnitPart { offset: 0, len: 0 });
+        HwkPart {
+            refusal: refusal_at_c(answer),
+            yes: part.is_some(),
+            offset,
+            len,
+        }
+    }
+}
+
+impl From<Result<Option<usize>, Refusal>> for HwkWord {
+    ghost from_gives = { λ answer word. (store : List ℕ) → as_unit_word_at_c word store ≡ as_unit_word answer store };
+
+    fn from(answer: Result<Option<usize>, Refusal>) -> HwkWord {
+        let len = answer.ok().flatten();
+        HwkWord {
+            refusal: refusal_at_c(answer),
+            yes: len.is_some(),
+            len: len.unwrap_or(0),
+        }
+    }
+}
+
+impl From<Result<WordCounts, Refusal>> for HwkWords {
+    ghost from_gives = { λ answer words. (store table : List ℕ) → as_words_at_c words store table ≡ as_words answer store table };
+
+    fn from(answer: Result<WordCounts, Refusal>) -> HwkWords {
+        let WordCounts { words, bytes } = answer.unwrap_or(WordCounts { words: 0, bytes: 0 });
+        HwkWords {
+            refusal: refusal_at_c(answer),
+            words,
+            bytes,
+        }
+    }
+}
+
+impl From<Result<u32, Refusal>> for HwkNumber {
+    ghost from_gives = { λ answer number. as_number_at_c number ≡ as_roman_value answer };
+
+    fn from(answer: Result<u32, Refusal>) -> HwkNumber {
+        HwkNumber {
+            refusal: refusal_at_c(answer),
+            value: answer.unwrap_or(0),
+        }
+    }
+}
+
+impl From<Result<usize, Refusal>> for HwkTokens {
+    ghost from_gives = { λ answer tokens. (buffer : List ℕ) → as_tokens_at_c tokens buffer ≡ as_tokens answer buffer };
+
+    fn from(answer: Result<usize, Refusal>) -> HwkTokens {
+        HwkTokens {
+            refusal: refusal_at_c(answer),
+            tokens: answer.unwrap_or(0),
+        }
+    }
+}
+
+impl From<Result<CalledEntry, Refusal>> for HwkEntry {
+    ghost from_gives = { λ answer entry. (buffer : List ℕ) → as_entry_at_c entry buffer ≡ as_entry answer buffer };
+
+    fn from(answer: Result<CalledEntry, Refusal>) -> HwkEntry {
+        match answer {
+            Ok(
+                CalledEntry {
+                    entry,
+                    words,
+                    bytes,
+                },
+            ) => {
+                let row = entry.row;
+                HwkEntry {
+                    refusal: 0,
+                    row: u8::from(row),
+                    sign: row.sign().map_or(0, u8::from),
+                    words,
+                    bytes,
+                }
+            }
+            Err(refusal) => HwkEntry {
+                refusal: u8::from(refusal),
+                row: 0,
+                sign: 0,
+                words: 0,
+                bytes: 0,
+            },
+        }
+    }
+}
+
+impl From<Result<CalledSheet, Refusal>> for HwkSheet {
+    ghost from_gives = { λ answer sheet. (buffer : List ℕ) → as_sheet_at_c sheet buffer ≡ as_sheet answer buffer };
+
+    fn from(answer: Result<CalledSheet, Refusal>) -> HwkSheet {
+        let none = CalledSheet {
+            tokens: 0,
+            words: 0,
+            bytes: 0,
         };
+        let CalledSheet {
+            tokens,
+            words,
+            bytes,
+        } = answer.unwrap_or(none);
+        HwkSheet {
+            refusal: refusal_at_c(answer),
+            tokens,
+            words,
+            bytes,
+        }
+    }
+}
+
+// The answer of a step from the state `given`, which a refused step hands back.
+fn step_at_c(answer: Result<Step, Refusal>, given: State) -> HwkStep
+    ensures { as_step_at_c result ≡ as_step given answer }
+{
+    let none = Step {
+        breaks: false,
+        state: given,
+    };
+    let Step { breaks, state } = answer.unwrap_or(none);
+    HwkStep {
+        refusal: refusal_at_c(answer),
+        breaks,
+        state,
+    }
+}
+
+// The parts of a time in a text of n bytes. Each is of 0 bytes at 0 if there is no time.
+fn time_at_c(answer: Result<Option<TimeSplit>, Refusal>, n: usize) -> HwkTime
+    ensures { result ≡ time_at_c n (as_offsets answer) }
+{
+    let none = HwkTime {
+        refusal: refusal_at_c(answer),
+        yes: false,
+        hour_at: 0,
+        hour_len: 0,
+        minute_at: 0,
+        minute_len: 0,
+        meridiem_at: 0,
+        meridiem_len: 0,
+    };
+    let Ok(
+        Some(
+            TimeSplit {
+                hour,
+                minute,
+                meridiem,
+            },
+        ),
+    ) = answer
+    else {
+        return none;
     };
     HwkTime {
-        refusal: t.refusal,
         yes: true,
-        hour_at: 0,
         hour_len: hour,
         minute_at: minute,
-        minute_len: saturating_sub(meridiem, minute),
+        minute_len: meridiem.saturating_sub(minute),
         meridiem_at: meridiem,
-        meridiem_len: saturating_sub(n, meridiem),
+        meridiem_len: n.saturating_sub(meridiem),
+        ..none
     }
 }
 
 #[unsafe(no_mangle)]
-pub extern "C" fn hwk_is_digits(s: &[u8]) -> Verdict
-    ensures { as_verdict result ≡ verdict_call s.now (is_digits s.now) }
+pub extern "C" fn hwk_is_digits(s: &[u8]) -> HwkVerdict
+    ensures { as_verdict_at_c result ≡ verdict_call s.now (is_digits s.now) }
 {
-    patterns::is_digits(s)
+    HwkVerdict::from(patterns::is_digits(s))
 }
 
 #[unsafe(no_mangle)]
-pub extern "C" fn hwk_is_alpha(s: &[u8]) -> Verdict
-    ensures { as_verdict result ≡ verdict_call s.now (is_alpha s.now) }
+pub extern "C" fn hwk_is_alpha(s: &[u8]) -> HwkVerdict
+    ensures { as_verdict_at_c result ≡ verdict_call s.now (is_alpha s.now) }
 {
-    patterns::is_alpha(s)
+    HwkVerdict::from(patterns::is_alpha(s))
 }
 
 #[unsafe(no_mangle)]
-pub extern "C" fn hwk_is_double(s: &[u8]) -> Verdict
-    ensures { as_verdict result ≡ verdict_call s.now (is_double s.now) }
+pub extern "C" fn hwk_is_double(s: &[u8]) -> HwkVerdict
+    ensures { as_verdict_at_c result ≡ verdict_call s.now (is_double s.now) }
 {
-    patterns::is_double(s)
+    HwkVerdict::from(patterns::is_double(s))
 }
 
 #[unsafe(no_mangle)]
-pub extern "C" fn hwk_is_comma_int(s: &[u8]) -> Verdict
-    ensures { as_verdict result ≡ verdict_call s.now (is_comma_int s.now) }
+pub extern "C" fn hwk_is_comma_int(s: &[u8]) -> HwkVerdict
+    ensures { as_verdict_at_c result ≡ verdict_call s.now (is_comma_int s.now) }
 {
-    patterns::is_comma_int(s)
+    HwkVerdict::from(patterns::is_comma_int(s))
 }
 
 #[unsafe(no_mangle)]
-pub extern "C" fn hwk_is_ordinal(s: &[u8]) -> Verdict
-    ensures { as_verdict result ≡ verdict_call s.now (is_ordinal s.now) }
+pub extern "C" fn hwk_is_ordinal(s: &[u8]) -> HwkVerdict
+    ensures { as_verdict_at_c result ≡ verdict_call s.now (is_ordinal s.now) }
 {
-    patterns::is_ordinal(s)
+    HwkVerdict::from(patterns::is_ordinal(s))
 }
 
 #[unsafe(no_mangle)]
-pub extern "C" fn hwk_is_us_money(s: &[u8]) -> Verdict
-    ensures { as_verdict result ≡ verdict_call s.now (is_us_money s.now) }
+pub extern "C" fn hwk_is_us_money(s: &[u8]) -> HwkVerdict
+    ensures { as_verdict_at_c result ≡ verdict_call s.now (is_us_money s.now) }
 {
-    patterns::is_us_money(s)
+    HwkVerdict::from(patterns::is_us_money(s))
 }
 
 #[unsafe(no_mangle)]
-pub extern "C" fn hwk_is_illion(s: &[u8]) -> Verdict
-    ensures { as_verdict result ≡ verdict_call s.now (is_illion s.now) }
+pub extern "C" fn hwk_is_illion(s: &[u8]) -> HwkVerdict
+    ensures { as_verdict_at_c result ≡ verdict_call s.now (is_illion s.now) }
 {
-    patterns::is_illion(s)
+    HwkVerdict::from(patterns::is_illion(s))
 }
 
 #[unsafe(no_mangle)]
-pub extern "C" fn hwk_is_roman(s: &[u8]) -> Verdict
-    ensures { as_verdict result ≡ verdict_call s.now (is_roman s.now) }
+pub extern "C" fn hwk_is_roman(s: &[u8]) -> HwkVerdict
+    ensures { as_verdict_at_c result ≡ verdict_call s.now (is_roman s.now) }
 {
-    patterns::is_roman(s)
+    HwkVerdict::from(patterns::is_roman(s))
 }
 
 #[unsafe(no_mangle)]
-pub extern "C" fn hwk_is_dr_or_st(s: &[u8]) -> Verdict
-    ensures { as_verdict result ≡ verdict_call s.now (is_dr_or_st s.now) }
+pub extern "C" fn hwk_is_dr_or_st(s: &[u8]) -> HwkVerdict
+    ensures { as_verdict_at_c result ≡ verdict_call s.now (is_dr_or_st s.now) }
 {
-    patterns::is_dr_or_st(s)
+    HwkVerdict::from(patterns::is_dr_or_st(s))
 }
 
 #[unsafe(no_mangle)]
-pub extern "C" fn hwk_is_number_s(s: &[u8]) -> Verdict
-    ensures { as_verdict result ≡ verdict_call s.now (is_number_s s.now) }
+pub extern "C" fn hwk_is_number_s(s: &[u8]) -> HwkVerdict
+    ensures { as_verdict_at_c result ≡ verdict_call s.now (is_number_s s.now) }
 {
-    patterns::is_number_s(s)
+    HwkVerdict::from(patterns::is_number_s(s))
 }
 
 #[unsafe(no_mangle)]
-pub extern "C" fn hwk_is_leading_zero_digits(s: &[u8]) -> Verdict
-    ensures { as_verdict result ≡ verdict_call s.now (is_leading_zero_digits s.now) }
+pub extern "C" fn hwk_is_leading_zero_digits(s: &[u8]) -> HwkVerdict
+    ensures { as_verdict_at_c result ≡ verdict_call s.now (is_leading_zero_digits s.now) }
 {
-    patterns::is_leading_zero_digits(s)
+    HwkVerdict::from(patterns::is_leading_zero_digits(s))
 }
 
 #[unsafe(no_mangle)]
-pub extern "C" fn hwk_is_seven_digit_phone(s: &[u8]) -> Verdict
-    ensures { as_verdict result ≡ verdict_call s.now (is_seven_digit_phone s.now) }
+pub extern "C" fn hwk_is_seven_digit_phone(s: &[u8]) -> HwkVerdict
+    ensures { as_verdict_at_c result ≡ verdict_call s.now (is_seven_digit_phone s.now) }
 {
-    patterns::is_seven_digit_phone(s)
+    HwkVerdict::from(patterns::is_seven_digit_phone(s))
 }
 
 #[unsafe(no_mangle)]
-pub extern "C" fn hwk_is_n_digits(s: &[u8], n: usize) -> Verdict
-    ensures { as_verdict result ≡ verdict_call s.now (is_n_digits n s.now) }
+pub extern "C" fn hwk_is_n_digits(s: &[u8], n: usize) -> HwkVerdict
+    ensures { as_verdict_at_c result ≡ verdict_call s.now (is_n_digits n s.now) }
 {
-    patterns::is_n_digits(s, n)
+    HwkVerdict::from(patterns::is_n_digits(s, n))
 }
 
 #[unsafe(no_mangle)]
-pub extern "C" fn hwk_is_time(s: &[u8]) -> Verdict
-    ensures { as_verdict result ≡ verdict_call s.now (is_time s.now) }
+pub extern "C" fn hwk_is_time(s: &[u8]) -> HwkVerdict
+    ensures { as_verdict_at_c result ≡ verdict_call s.now (is_time s.now) }
 {
-    patterns::is_time(s)
+    HwkVerdict::from(patterns::is_time(s))
 }
 
 #[unsafe(no_mangle)]
@@ -210,107 +424,107 @@ pub extern "C" fn hwk_split_time_meridiem(s: &[u8]) -> HwkTime
 }
 
 #[unsafe(no_mangle)]
-pub extern "C" fn hwk_is_dotted_abbrev(s: &[u8]) -> Verdict
-    ensures { as_verdict result ≡ verdict_call s.now (is_dotted_abbrev s.now) }
+pub extern "C" fn hwk_is_dotted_abbrev(s: &[u8]) -> HwkVerdict
+    ensures { as_verdict_at_c result ≡ verdict_call s.now (is_dotted_abbrev s.now) }
 {
-    patterns::is_dotted_abbrev(s)
+    HwkVerdict::from(patterns::is_dotted_abbrev(s))
 }
 
 #[unsafe(no_mangle)]
-pub extern "C" fn hwk_is_digits_slash_digits(s: &[u8]) -> Verdict
-    ensures { as_verdict result ≡ verdict_call s.now (is_digits_slash_digits s.now) }
+pub extern "C" fn hwk_is_digits_slash_digits(s: &[u8]) -> HwkVerdict
+    ensures { as_verdict_at_c result ≡ verdict_call s.now (is_digits_slash_digits s.now) }
 {
-    patterns::is_digits_slash_digits(s)
+    HwkVerdict::from(patterns::is_digits_slash_digits(s))
 }
 
 #[unsafe(no_mangle)]
-pub extern "C" fn hwk_is_digits_dash_digits(s: &[u8]) -> Verdict
-    ensures { as_verdict result ≡ verdict_call s.now (is_digits_dash_digits s.now) }
+pub extern "C" fn hwk_is_digits_dash_digits(s: &[u8]) -> HwkVerdict
+    ensures { as_verdict_at_c result ≡ verdict_call s.now (is_digits_dash_digits s.now) }
 {
-    patterns::is_digits_dash_digits(s)
+    HwkVerdict::from(patterns::is_digits_dash_digits(s))
 }
 
 #[unsafe(no_mangle)]
-pub extern "C" fn hwk_split_unit(s: &[u8]) -> SplitUnit
-    ensures { as_unit result ≡ unit_call s.now }
+pub extern "C" fn hwk_split_unit(s: &[u8]) -> HwkPart
+    ensures { as_unit_at_c result ≡ unit_call s.now }
 {
-    patterns::split_unit(s)
+    HwkPart::from(patterns::split_unit(s))
 }
 
 #[unsafe(no_mangle)]
-pub extern "C" fn hwk_unit_word(unit: &[u8], store: &mut [u8]) -> UnitWord
-    ensures { as_unit_word result store.new ≡ unit_word_call unit.now store.old }
+pub extern "C" fn hwk_unit_word(unit: &[u8], store: &mut [u8]) -> HwkWord
+    ensures { as_unit_word_at_c result store.new ≡ unit_word_call unit.now store.old }
 {
-    patterns::unit_word(unit, store)
+    HwkWord::from(patterns::unit_word(unit, store))
 }
 
 #[unsafe(no_mangle)]
-pub extern "C" fn hwk_cardinal(s: &[u8], store: &mut [u8], table: &mut [u8]) -> WordCounts
-    ensures { as_words result store.new table.new
+pub extern "C" fn hwk_cardinal(s: &[u8], store: &mut [u8], table: &mut [u8]) -> HwkWords
+    ensures { as_words_at_c result store.new table.new
         ≡ words_call s.now (spelled (cardinal s.now)) store.old table.old }
 {
-    numbers::cardinal(s, store, table)
+    HwkWords::from(numbers::cardinal(s, store, table))
 }
 
 #[unsafe(no_mangle)]
-pub extern "C" fn hwk_ordinal(s: &[u8], store: &mut [u8], table: &mut [u8]) -> WordCounts
-    ensures { as_words result store.new table.new
+pub extern "C" fn hwk_ordinal(s: &[u8], store: &mut [u8], table: &mut [u8]) -> HwkWords
+    ensures { as_words_at_c result store.new table.new
         ≡ words_call s.now (spelled (ordinal s.now)) store.old table.old }
 {
-    numbers::ordinal(s, store, table)
+    HwkWords::from(numbers::ordinal(s, store, table))
 }
 
 #[unsafe(no_mangle)]
-pub extern "C" fn hwk_year(s: &[u8], store: &mut [u8], table: &mut [u8]) -> WordCounts
-    ensures { as_words result store.new table.new
+pub extern "C" fn hwk_year(s: &[u8], store: &mut [u8], table: &mut [u8]) -> HwkWords
+    ensures { as_words_at_c result store.new table.new
         ≡ words_call s.now (spelled (year s.now)) store.old table.old }
 {
-    numbers::year(s, store, table)
+    HwkWords::from(numbers::year(s, store, table))
 }
 
 #[unsafe(no_mangle)]
-pub extern "C" fn hwk_digits(s: &[u8], store: &mut [u8], table: &mut [u8]) -> WordCounts
-    ensures { as_words result store.new table.new
+pub extern "C" fn hwk_digits(s: &[u8], store: &mut [u8], table: &mut [u8]) -> HwkWords
+    ensures { as_words_at_c result store.new table.new
         ≡ words_call s.now (spelled (digits s.now)) store.old table.old }
 {
-    numbers::digits(s, store, table)
+    HwkWords::from(numbers::digits(s, store, table))
 }
 
 #[unsafe(no_mangle)]
-pub extern "C" fn hwk_real(s: &[u8], store: &mut [u8], table: &mut [u8]) -> WordCounts
-    ensures { as_words result store.new table.new
+pub extern "C" fn hwk_real(s: &[u8], store: &mut [u8], table: &mut [u8]) -> HwkWords
+    ensures { as_words_at_c result store.new table.new
         ≡ words_call s.now (spelled (real s.now)) store.old table.old }
 {
-    numbers::real(s, store, table)
+    HwkWords::from(numbers::real(s, store, table))
 }
 
 #[unsafe(no_mangle)]
-pub extern "C" fn hwk_letters(s: &[u8], store: &mut [u8], table: &mut [u8]) -> WordCounts
-    ensures { as_words result store.new table.new
+pub extern "C" fn hwk_letters(s: &[u8], store: &mut [u8], table: &mut [u8]) -> HwkWords
+    ensures { as_words_at_c result store.new table.new
         ≡ words_call s.now (spelled (letters s.now)) store.old table.old }
 {
-    numbers::letters(s, store, table)
+    HwkWords::from(numbers::letters(s, store, table))
 }
 
 #[unsafe(no_mangle)]
-pub extern "C" fn hwk_roman_value(s: &[u8]) -> RomanValue
-    ensures { as_roman_value result ≡ roman_call s.now }
+pub extern "C" fn hwk_roman_value(s: &[u8]) -> HwkNumber
+    ensures { as_number_at_c result ≡ roman_call s.now }
 {
-    numbers::roman_value(s)
+    HwkNumber::from(numbers::roman_value(s))
 }
 
 #[unsafe(no_mangle)]
-pub extern "C" fn hwk_tokenize(s: &[u8], table: &mut [u8]) -> Tokens
-    ensures { as_tokens result table.new ≡ tokens_call s.now (records 0 (tokens s.now)) table.old }
+pub extern "C" fn hwk_tokenize(s: &[u8], table: &mut [u8]) -> HwkTokens
+    ensures { as_tokens_at_c result table.new ≡ tokens_call s.now (records 0 (tokens s.now)) table.old }
 {
-    tokens::tokenize(s, table)
+    HwkTokens::from(tokens::tokenize(s, table))
 }
 
 #[unsafe(no_mangle)]
-pub extern "C" fn hwk_sentences(s: &[u8], starts: &mut [u8]) -> Tokens
-    ensures { as_tokens result starts.new ≡ tokens_call s.now (start_bytes s.now) starts.old }
+pub extern "C" fn hwk_sentences(s: &[u8], starts: &mut [u8]) -> HwkTokens
+    ensures { as_tokens_at_c result starts.new ≡ tokens_call s.now (start_bytes s.now) starts.old }
 {
-    sentences::sentences(s, starts)
+    HwkTokens::from(sentences::sentences(s, starts))
 }
 
 #[unsafe(no_mangle)]
@@ -321,29 +535,34 @@ pub extern "C" fn hwk_fresh() -> State
 }
 
 #[unsafe(no_mangle)]
-pub extern "C" fn hwk_push(state: State, whitespace: &[u8], name: &[u8], punctuation: &[u8]) -> Step
-    ensures { as_step result ≡ step_call state whitespace.now name.now punctuation.now }
+pub extern "C" fn hwk_push(
+    state: State,
+    whitespace: &[u8],
+    name: &[u8],
+    punctuation: &[u8],
+) -> HwkStep
+    ensures { as_step_at_c result ≡ step_call state whitespace.now name.now punctuation.now }
 {
-    state.push(whitespace, name, punctuation)
+    step_at_c(state.push(whitespace, name, punctuation), state)
 }
 
 #[unsafe(no_mangle)]
 pub extern "C" fn hwk_call_entry(s: &[u8], number: usize, out: &mut [u8]) -> HwkEntry
     ensures { as_entry_at_c result out.new ≡ entry_call s.now number out.old }
 {
-    entry_at_c(calls::call_entry(s, number, out))
+    HwkEntry::from(calls::call_entry(s, number, out))
 }
 
 #[unsafe(no_mangle)]
-pub extern "C" fn hwk_call_sheet(s: &[u8], out: &mut [u8]) -> CalledSheet
-    ensures { as_sheet result out.new ≡ sheet_call s.now out.old }
+pub extern "C" fn hwk_call_sheet(s: &[u8], out: &mut [u8]) -> HwkSheet
+    ensures { as_sheet_at_c result out.new ≡ sheet_call s.now out.old }
 {
-    calls::call_sheet(s, out)
+    HwkSheet::from(calls::call_sheet(s, out))
 }
 
 #[unsafe(no_mangle)]
-pub extern "C" fn hwk_is_clear(s: &[u8]) -> Verdict
-    ensures { as_verdict result ≡ verdict_call s.now (is_clear s.now) }
+pub extern "C" fn hwk_is_clear(s: &[u8]) -> HwkVerdict
+    ensures { as_verdict_at_c result ≡ verdict_call s.now (is_clear s.now) }
 {
-    clear::is_clear(s)
+    HwkVerdict::from(clear::is_clear(s))
 }

@@ -1,100 +1,138 @@
 -- What the readers of rows answer. Assumes nothing.
 use mathlib.Core.Path.{◌≡◌, refl, sym, ap, ◌∙◌}
-use mathlib.Core.Bool.{Bool, true, false, cond, not, ◌&&◌, and-eq-true_iff, or-false}
-use mathlib.Core.List.{List, [], ◌∷◌, map-append}
-use Prim.Native.Nat.{ℕ, ◌+◌, ◌-◌, ◌<◌}
+use mathlib.Core.Bool.{Bool, true, false, not, ◌&&◌, and-eq-true_iff, or-false, true≢false, cond}
+use mathlib.Core.List.{List, [], ◌∷◌, ◌++◌, map, map-append}
+use Prim.Native.Nat.{ℕ, ◌-◌, ◌<◌}
 use Prim.Native.Char.{code}
 use lib.Dec.{eqb}
-use lib.ListN.{length, take, drop, get_or}
-use borrow.Author.Tests.{ltb-true, eq-eqb, ne_eqb, not-true}
-use Rattle.lists.specs.Bytes.{filter_if, all}
+use lib.ListN.{take, drop, get_or, length}
+use borrow.Author.Tests.{eq-eqb, ne_eqb, not-true, ltb-true}
+use Rattle.std.specs.Prelude.{Option, Some, None}
+use Rattle.lists.specs.Bytes.{bytes, filter_if, all, to_lower, same}
 use Rattle.lists.specs.Classes.{except, letter, digit_or_comma}
-use Rattle.units.specs.Units.{unit_index, is_unit, unit_word, word_numbers}
 use Rattle.lists.proofs.Recursion.{cond_elim}
 use Rattle.lists.proofs.Scan.{ByParts, filter_if_append}
-use Rattle.units.proofs.Laws.{unit_word_number, unit_in_table}
-use Rattle.shapes.specs.Shapes.{has_unit, unit_at, unit_part, is_dotted_abbrev}
-use Rattle.shapes.specs.Times.{parts_of_time, time_of, separator_at, is_meridiem_time, time_parts, time_split, time_parts_at}
+use Rattle.units.specs.Units.{is_unit, unit_row, unit_word, word_numbers, unit_index}
+use Rattle.units.proofs.Laws.{empty_none, row_word, row_none, unit_word_number, unit_in_table}
+use Rattle.shapes.specs.Shapes.{has_unit, unit_at, unit_part, split_unit, is_dotted_abbrev}
+use Rattle.shapes.proofs.Laws.{split_unit_some}
+use Rattle.shapes.specs.Times.{parts_of_time, is_meridiem_time, time_parts, time_split, time_parts_at, SplitsTime}
 use Rattle.shapes.specs.declared.TimeSplit.{TimeSplit}
-use Rattle.shapes.specs.declared.TimeSplit.TheVariants.{At, Nothing}
-use Rattle.shapes.proofs.Laws.{unit_some}
 use Rattle.vocabulary.specs.Vocabulary.{word_of}
-use Rattle.word_writer.specs.Writer.{Writer, put_words}
-use Rattle.numerals.specs.Words.{Word, other, spelled}
+use Rattle.numerals.specs.Words.{Word, other, spell, spelled}
+use Rattle.numerals.specs.Cardinal.{cardinal}
 use Rattle.numerals.proofs.Digits.{spelled_append}
+use Rattle.numerals.proofs.Said.{said_word, says_more}
+use Rattle.years.specs.Year.{year}
 use Rattle.letters.specs.Letters.{letter_word, letters}
-use Rattle.rows.proofs.Dotted.{letter_chars}
-use Rattle.rows.proofs.Taken.{untaken, dotted_byte, dotted_bytes}
-use Rattle.rows.specs.Rows.{Reading, by}
-use Rattle.row_readers.specs.Walk.{Says, initials}
+use Rattle.word_writer.specs.Writer.{Says}
+use Rattle.word_writer.specs.declared.Writer.{Writer}
+use Rattle.word_writer.proofs.Saying.{says_nothing, says_same}
+use Rattle.rows.specs.Rows.{Reading, by, clock, clock_letters, is_percent, read_step, read}
 use Rattle.rows.specs.declared.Row.{Row}
+use Rattle.rows.specs.declared.Row.TheVariants.{Meridiem, Unit, OneWord}
+use Rattle.rows.proofs.Laws.{read_eq}
+use Rattle.rows.proofs.Dotted.{letter_chars}
+use Rattle.rows.proofs.Taken.{dotted_byte, dotted_bytes}
+use Rattle.row_readers.specs.Walk.{Reads, initials, word_of_unit, rows_after}
 
--- a reading is said if an equal one is
-pub says_same : (g h : Reading) → g ≡ h → (σ : Writer) {τ : Writer} {q : Row} → Says h σ τ q → Says g σ τ q
-says_same g h e σ k =
+-- no word is said
+pub none_said : {p : Writer} → Says (spelled []) p p
+unfolding spelled
+none_said = says_nothing
+
+-- a word that no table of numbers has is said
+pub other_said : (w : List ℕ) {p q : Writer} → Says (w ∷ []) p q → Says (spelled (other w ∷ [])) p q
+unfolding spell
+other_said w a = said_word (other w) a
+
+-- an equal reading is read
+pub reads_same : {g h : Reading} → g ≡ h → {p q : Writer} {r : Row} → Reads h p q r → Reads g p q r
+reads_same {g} {h} e {p} {q} a =
     record {
-      row = k.row ∙ sym (ap (λ (r : Reading). r.row) e);
-      said = k.said ∙ sym (ap (λ (r : Reading). put_words (spelled r.words) σ) e);
+      row = a.row ∙ sym (ap (λ (x : Reading). x.row) e);
+      words = says_same (sym (ap (λ (x : Reading). spelled x.words) e)) a.words;
     }
 
--- a reading is said if its words are written and its row is answered
-pub says_row : (g : Reading) (row : Row) (ws : List Word) → g ≡ by row ws → (σ : Writer) {τ : Writer} {q : Row} → q ≡ row
-    → τ ≡ put_words (spelled ws) σ → Says g σ τ q
-says_row g row ws e σ p d = says_same g (by row ws) e σ (record { row = p; said = d })
+-- a reading is read if its words are said and its row is answered
+pub reads_by : {g : Reading} {row : Row} {ws : List Word} → g ≡ by row ws → {p q : Writer} → Says (spelled ws) p q → Reads g p q row
+reads_by e a = reads_same e (record { row = refl; words = a })
 
--- ---- a unit
-
--- if the unit that was split off is not empty, the name has a unit
-pub unit_there : (s : List ℕ) {u : List ℕ} → u ≡ unit_part s → (length u ≡ 0 → ⊥) → has_unit s ≡ true
-unit_there s e n = go (has_unit s) refl (rw e at n)
-  where
-    go : (b : Bool) → has_unit s ≡ b → (length (unit_part s) ≡ 0 → ⊥) → has_unit s ≡ true
-    go true e n = e
-    go false e n = absurd (n (rw e))
-
--- if it is empty, the name has none
-pub unit_missing : (s : List ℕ) {u : List ℕ} → u ≡ unit_part s → length u ≡ 0 → has_unit s ≡ false
-unit_missing s e n = untaken (has_unit s) (λ k. unit_some s k (rw (e, k) at n))
-
-unit_listed : (s : List ℕ) → has_unit s ≡ true → is_unit (unit_part s) ≡ true
-unit_listed s e = rw e (unfold has_unit in ((and-eq-true_iff (not (eqb (unit_at s) 0) && all digit_or_comma (take (unit_at s) s)) (is_unit (drop (unit_at s) s))).0 e).1)
-
--- the word that the vocabulary has for a unit is the unit's word
-pub unit_word_lem : (s : List ℕ) {u : List ℕ} {i k : ℕ} → u ≡ unit_part s → (length u ≡ 0 → ⊥) → i ≡ unit_index u → k ≡ get_or word_numbers i 0
-    → word_of k ≡ unit_word (unit_part s)
-unit_word_lem s e n p q =
-    let h : unit_index (unit_part s) < 22 = ltb-true (unit_index (unit_part s)) 22 (sym (unit_in_table (unit_part s)) ∙ unit_listed s (unit_there s e n)) in
-    rw (q, p, e) (unit_word_number (unit_index (unit_part s)) h)
+-- a name that row 10 does not take is read by the others
+pub once_read : (s : List ℕ) → is_percent s ≡ false → read s ≡ rows_after 0 s
+unfolding read_step rows_after
+once_read s e = read_eq s ∙ rw e
 
 -- ---- hour, minute and meridiem
 
-is_at : TimeSplit → Bool
-is_at (At h m x) = true
-is_at Nothing = false
+-- the minute is said if it is not "00"
+pub clock_said : (hour minute : List ℕ) → same minute (bytes "00") ≡ false → {p q r : Writer}
+    → Says (spelled (cardinal hour)) p q → Says (spelled (year minute)) q r → Says (spelled (clock hour minute)) p r
+unfolding clock
+clock_said hour minute e a b = says_more (cardinal hour) (year minute) (rw e) a b
 
-tested : (b : Bool) (h m x : ℕ) → is_at (cond b (At h m x) Nothing) ≡ b
-unfolding is_at
-tested true h m x = refl
-tested false h m x = refl
+-- if the split finds nothing, row 5 does not take the name
+pub no_time : (s : List ℕ) {r : Option TimeSplit} → SplitsTime s r → r ≡ None → rows_after 4 s ≡ rows_after 5 s
+unfolding rows_after time_split
+no_time s {r} h e = go (is_meridiem_time s) refl
+  where
+    go : (b : Bool) → is_meridiem_time s ≡ b → rows_after 4 s ≡ rows_after 5 s
+    go true t = let k = rw t at (sym e ∙ h.offsets) in cc
+    go false t = rw t
 
-split_test : (s : List ℕ) → is_at (time_split s) ≡ is_meridiem_time s
-unfolding time_split is_at
-split_test s = tested (is_meridiem_time s) (separator_at (time_of s)) (separator_at (time_of s) + 1) (length s - 2)
+-- if it finds offsets, the parts that they stand for are read
+pub time_at : (s : List ℕ) {r : Option TimeSplit} → SplitsTime s r → {t : TimeSplit} → r ≡ Some t
+    → rows_after 4 s ≡ by Meridiem (clock (take t.hour s) (take (t.meridiem - t.minute) (drop t.minute s)) ++ letters (drop t.meridiem s))
+unfolding rows_after time_split clock_letters
+time_at s {r} h {t} e = go (is_meridiem_time s) refl
+  where
+    parts : time_parts s ≡ parts_of_time (take t.hour s) (take (t.meridiem - t.minute) (drop t.minute s)) (drop t.meridiem s)
+    parts = sym h.parts_named ∙ ap (λ (x : Option TimeSplit). time_parts_at x s) e
 
--- if the split finds nothing, the name is no time with am or pm
-pub time_split_none : (s : List ℕ) {r : TimeSplit} → r ≡ time_split s → r ≡ Nothing → is_meridiem_time s ≡ false
-unfolding is_at
-time_split_none s e n = sym (split_test s) ∙ ap is_at (sym e ∙ n)
+    go : (b : Bool) → is_meridiem_time s ≡ b
+        → rows_after 4 s ≡ by Meridiem (clock (take t.hour s) (take (t.meridiem - t.minute) (drop t.minute s)) ++ letters (drop t.meridiem s))
+    go true b = rw (b, parts)
+    go false b = let k = rw b at (sym e ∙ h.offsets) in cc
 
--- if the split finds offsets, the name is such a time
-pub time_split_some : (s : List ℕ) {r : TimeSplit} → r ≡ time_split s → {h m x : ℕ} → r ≡ At h m x → is_meridiem_time s ≡ true
-unfolding is_at
-time_split_some s e n = sym (split_test s) ∙ ap is_at (sym e ∙ n)
+-- ---- a unit
 
--- the parts of such a time stand at these offsets
-pub time_parts_at_lem : (s : List ℕ) {r : TimeSplit} → time_parts_at r s ≡ time_parts s → {h m x : ℕ} → r ≡ At h m x
-    → time_parts s ≡ parts_of_time (take h s) (take (x - m) (drop m s)) (drop x s)
-time_parts_at_lem s e n = sym e ∙ ap (λ (r : TimeSplit). time_parts_at r s) n
+-- the unit that is split off is in the table exactly if the name has a unit
+unit_listed : (s : List ℕ) → is_unit (unit_part s) ≡ has_unit s
+unit_listed s = go (has_unit s) refl
+  where
+    go : (b : Bool) → has_unit s ≡ b → is_unit (unit_part s) ≡ has_unit s
+    go true e = rw e (unfold has_unit in ((and-eq-true_iff (not (eqb (unit_at s) 0) && all digit_or_comma (take (unit_at s) s)) (is_unit (drop (unit_at s) s))).0 e).1)
+    go false e = rw e empty_none
+
+-- the unit u that is split off, in row k of the table, has its word in the vocabulary
+pub unit_said : (s : List ℕ) {u : List ℕ} → Some u ≡ split_unit s → (k : ℕ) → Some k ≡ unit_row u → Some (word_of (get_or word_numbers k 0)) ≡ word_of_unit s
+unit_said s {u} e k f = let y = split_unit_some s e in rw (row_word u k f, y.1, y.0)
+
+-- a unit that is split off has a row in the table
+pub unit_in_row : (s : List ℕ) {u : List ℕ} → Some u ≡ split_unit s → None ≡ unit_row u → ⊥
+unit_in_row s {u} e f =
+    let y = split_unit_some s e in
+    let listed : is_unit u ≡ true = rw y.1 (unit_listed s ∙ y.0) in
+    true≢false (sym listed ∙ row_none u f)
+
+-- if there is no word, row 12 takes the name
+pub no_unit : (s : List ℕ) → None ≡ word_of_unit s → rows_after 9 s ≡ by OneWord (other (map to_lower s) ∷ [])
+unfolding rows_after
+no_unit s e = go (has_unit s) refl e
+  where
+    go : (b : Bool) → has_unit s ≡ b → None ≡ cond b (Some (unit_word (unit_part s))) None → rows_after 9 s ≡ by OneWord (other (map to_lower s) ∷ [])
+    go true h e = cc
+    go false h e = rw h
+
+-- if there is one, row 11 takes it
+pub unit_read : (s : List ℕ) {w : List ℕ} → Some w ≡ word_of_unit s → rows_after 9 s ≡ by Unit (cardinal (take (unit_at s) s) ++ other w ∷ [])
+unfolding rows_after
+unit_read s {w} e = go (has_unit s) refl e
+  where
+    go : (b : Bool) → has_unit s ≡ b → Some w ≡ cond b (Some (unit_word (unit_part s))) None
+        → rows_after 9 s ≡ by Unit (cardinal (take (unit_at s) s) ++ other w ∷ [])
+    go true h e = let k : w ≡ unit_word (unit_part s) = cc in rw (k, h)
+    go false h e = cc
 
 -- ---- initials
 
@@ -104,8 +142,8 @@ unfolding initials
 initials_append s t = rw (filter_if_append (except (code ".")) s t, map-append) (spelled_append _ _)
 
 -- an empty text has no words
-pub no_initials : spelled (initials []) ≡ []
-unfolding initials filter_if spelled
+pub no_initials : initials [] ≡ []
+unfolding initials filter_if
 no_initials = refl
 
 -- a point has no word
@@ -133,3 +171,25 @@ kept_letters (b ∷ s) h =
 pub dotted_initials : (s : List ℕ) → is_dotted_abbrev s ≡ true → letters (filter_if (except (code ".")) s) ≡ initials s
 unfolding initials
 dotted_initials s e = letter_chars (filter_if (except (code ".")) s) (kept_letters s (dotted_bytes s e))
+
+-- ---- what names hold that are taken
+
+-- a part of the name that is not empty is its unit
+unit_there : (s : List ℕ) {u : List ℕ} → u ≡ unit_part s → (length u ≡ 0 → ⊥) → has_unit s ≡ true
+unit_there s e n = go (has_unit s) refl (rw e at n)
+  where
+    go : (b : Bool) → has_unit s ≡ b → (length (unit_part s) ≡ 0 → ⊥) → has_unit s ≡ true
+    go true e n = e
+    go false e n = absurd (n (rw e))
+
+-- the word that the vocabulary has for a unit is the unit's word
+pub unit_word_lem : (s : List ℕ) {u : List ℕ} {i k : ℕ} → u ≡ unit_part s → (length u ≡ 0 → ⊥) → i ≡ unit_index u → k ≡ get_or word_numbers i 0
+    → word_of k ≡ unit_word (unit_part s)
+unit_word_lem s e n p q =
+    let h : unit_index (unit_part s) < 22 = ltb-true (unit_index (unit_part s)) 22 (sym (unit_in_table (unit_part s)) ∙ unit_listed s ∙ unit_there s e n) in
+    rw (q, p, e) (unit_word_number (unit_index (unit_part s)) h)
+
+-- the parts of a time with a meridiem stand at these offsets
+pub time_parts_at_lem : (s : List ℕ) {r : Option TimeSplit} → time_parts_at r s ≡ time_parts s → {t : TimeSplit} → r ≡ Some t
+    → time_parts s ≡ parts_of_time (take t.hour s) (take (t.meridiem - t.minute) (drop t.minute s)) (drop t.meridiem s)
+time_parts_at_lem s e n = sym e ∙ ap (λ (r : Option TimeSplit). time_parts_at r s) n

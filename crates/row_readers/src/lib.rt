@@ -1,185 +1,154 @@
 // The rows that read a name once: all but row 10.
 #![tactic(auto)]
 
-ghost use Rattle.std.specs.Prelude.{◌≡◌, false, ◌∷◌, []};
-ghost use Rattle.word_writer.specs.Writer.{writer, put_words};
+ghost use Rattle.std.specs.Prelude.{◌≡◌, ◌∷◌, [], option_copied};
+ghost use Rattle.word_writer.specs.Writer.{Says};
 ghost use Rattle.numerals.specs.Words.{spelled};
-ghost use Rattle.rows.specs.Rows.{sign_of, clock, is_percent, read};
-ghost use Rattle.row_readers.specs.Walk.{Says, initials, rows_after};
+ghost use Rattle.rows.specs.Rows.{sign_of, clock};
+ghost use Rattle.row_readers.specs.Walk.{Reads, initials, word_of_unit, rows_after};
 
 use letters::{say_letter, say_letters};
 use lists::{
-    DIGIT, EXACT, NOT, after_last, front, part, same, span_of, starts_with, tail, without_back,
+    Byte, Digit, Not, equal, front, last_end, part, span, starts_with, tail, without_back,
 };
 use numerals::number::{say_cardinal, say_ordinal};
-use numerals::saying::{say, say_digits};
+use numerals::saying::say_digits;
 use reals::say_real;
-use rows::{Entry, Row, Sign};
+use rows::{Row, Sign};
 use shapes::{
     TimeSplit, is_comma_int, is_digits, is_dotted_abbrev, is_double, is_leading_zero_digits,
     is_ordinal, is_time, split_time_meridiem, split_unit,
 };
 use units::{unit_index, word_number};
-use word_writer::{Cursor, put_word_lowered};
+use vocabulary::word;
+use word_writer::Writer;
 use years::say_year;
-
-// An entry's record, and where the cursor stands after its words.
-#[derive(Clone, Copy)]
-pub struct ReadOutcome {
-    pub entry: Entry,
-    pub cursor: Cursor,
-}
-
-pub fn outcome(row: Row, cursor: Cursor) -> ReadOutcome
-    ensures { (result.entry.row ≡ row) × (result.cursor ≡ cursor) }
-{
-    ReadOutcome {
-        entry: Entry { row },
-        cursor,
-    }
-}
 
 fn sign_of(name: &[u8]) -> Sign
     ensures { result ≡ sign_of name.now }
 {
     if starts_with(name, b'-') {
-        return Sign::Minus;
+        Sign::Minus
+    } else {
+        Sign::Plus
     }
-    Sign::Plus
 }
 
 // Says the hour, and the minute unless it is "00".
-fn say_clock(
-    hour: &[u8],
-    minute: &[u8],
-    store: &mut [u8],
-    table: &mut [u8],
-    cursor: Cursor,
-) -> Cursor
-    ensures { writer store.new table.new result
-        ≡ put_words (spelled (clock hour.now minute.now)) (writer store.old table.old cursor) }
+#[tactic(auto, unfolding(rows::specs::Rows::clock))]
+fn say_clock(hour: &[u8], minute: &[u8], out: &mut Writer)
+    ensures { Says (spelled (clock hour.now minute.now)) out.old out.new }
 {
-    let p = say_cardinal(hour, store, table, cursor);
-    if same(EXACT, minute, b"00") {
-        return p;
+    say_cardinal(hour, out);
+    if !equal(minute, b"00") {
+        say_year(minute, out);
     }
-    say_year(minute, store, table, p)
 }
 
 // Says the letter b. If b is a point, nothing is said.
-fn say_initial(b: u8, store: &mut [u8], table: &mut [u8], cursor: Cursor) -> Cursor
-    ensures { writer store.new table.new result
-        ≡ put_words (spelled (initials (b ∷ []))) (writer store.old table.old cursor) }
+#[tactic(auto, using(crate::proofs::Laws::point_initial, crate::proofs::Laws::none_said))]
+fn say_initial(b: u8, out: &mut Writer)
+    ensures { Says (spelled (initials (b ∷ []))) out.old out.new }
 {
-    if b == b'.' {
-        return cursor;
+    if b != b'.' {
+        say_letter(&[b], out);
     }
-    let c = [b];
-    say_letter(&c, store, table, cursor)
 }
 
 // Says one word for each byte that is no point.
-fn say_initials(name: &[u8], store: &mut [u8], table: &mut [u8], cursor: Cursor) -> Cursor
-    ensures { writer store.new table.new result
-        ≡ put_words (spelled (initials name.now)) (writer store.old table.old cursor) }
+#[tactic(auto, using(crate::proofs::Laws::no_initials, crate::proofs::Laws::none_said))]
+fn say_initials(name: &[u8], out: &mut Writer)
+    ensures { Says (spelled (initials name.now)) out.old out.new }
 {
-    let mut p = cursor;
-    let mut i = 0;
-    while i < name.len() {
-        p = say_initial(name[i], store, table, p);
-        i += 1;
+    for &b in name {
+        say_initial(b, out);
     }
-    p
+}
+
+// The word of a name's unit, if the name has one.
+fn unit_word(name: &[u8]) -> Option<&'static [u8]>
+    ensures { option_copied result ≡ word_of_unit name.now }
+{
+    let k = unit_index(split_unit(name)?)?;
+    Some(word(word_number(k)))
 }
 
 // Rows 11 and 12.
-fn from_unit(name: &[u8], store: &mut [u8], table: &mut [u8], cursor: Cursor) -> ReadOutcome
-    ensures { Says (rows_after 10 name.now)
-        (writer store.old table.old cursor)
-        (writer store.new table.new result.cursor) result.entry.row }
+fn from_unit(name: &[u8], out: &mut Writer) -> Row
+    ensures { Reads (rows_after 9 name.now) out.old out.new result }
 {
-    let unit = split_unit(name);
-    if unit.len() == 0 {
-        return outcome(Row::OneWord, put_word_lowered(store, table, cursor, name));
-    }
-    let number = front(name, after_last(DIGIT, 0, name));
-    let p = say_cardinal(number, store, table, cursor);
-    let word = word_number(unit_index(unit)) as usize;
-    outcome(Row::Unit, say(word, store, table, p))
+    let Some(word) = unit_word(name) else {
+        out.put_word_lowered(name);
+        return Row::OneWord;
+    };
+    say_cardinal(front(name, last_end(name, Digit)), out);
+    out.put_word(word);
+    Row::Unit
 }
 
-// Reads a name that row 10 does not take, by the rows from 6 on.
-fn from_leading_zero(name: &[u8], store: &mut [u8], table: &mut [u8], cursor: Cursor) -> ReadOutcome
-    requires { is_percent name.now ≡ false }
-    ensures { Says (rows_after 5 name.now)
-        (writer store.old table.old cursor)
-        (writer store.new table.new result.cursor) result.entry.row }
+// The rows from 6 on.
+#[tactic(auto, unfolding(crate::specs::Walk::rows_after))]
+fn from_leading_zero(name: &[u8], out: &mut Writer) -> Row
+    ensures { Reads (rows_after 5 name.now) out.old out.new result }
 {
     if is_leading_zero_digits(name) {
-        return outcome(Row::LeadingZero, say_digits(name, store, table, cursor));
+        say_digits(name, out);
+        return Row::LeadingZero;
     }
     if is_digits(name) {
-        return outcome(Row::Digits, say_cardinal(name, store, table, cursor));
+        say_cardinal(name, out);
+        return Row::Digits;
     }
     if is_double(name) {
-        let p = say_real(name, store, table, cursor);
-        return outcome(Row::Figure(sign_of(name)), p);
+        say_real(name, out);
+        return Row::Figure(sign_of(name));
     }
     if is_ordinal(name) {
-        let number = without_back(name, 2);
-        return outcome(Row::Ordinal, say_ordinal(number, store, table, cursor));
+        say_ordinal(without_back(name, 2), out);
+        return Row::Ordinal;
     }
-    from_unit(name, store, table, cursor)
+    from_unit(name, out)
 }
 
-// Reads such a name by the rows from 5 on.
-fn from_meridiem(name: &[u8], store: &mut [u8], table: &mut [u8], cursor: Cursor) -> ReadOutcome
-    requires { is_percent name.now ≡ false }
-    ensures { Says (rows_after 4 name.now)
-        (writer store.old table.old cursor)
-        (writer store.new table.new result.cursor) result.entry.row }
+// The rows from 5 on.
+fn from_meridiem(name: &[u8], out: &mut Writer) -> Row
+    ensures { Reads (rows_after 4 name.now) out.old out.new result }
 {
-    let split = split_time_meridiem(name);
-    let TimeSplit::At {
-        hour,
-        minute,
-        meridiem,
-    } = split
+    let Some(
+        TimeSplit {
+            hour,
+            minute,
+            meridiem,
+        },
+    ) = split_time_meridiem(name)
     else {
-        return from_leading_zero(name, store, table, cursor);
+        return from_leading_zero(name, out);
     };
-    let p = say_clock(
-        front(name, hour),
-        part(name, minute, meridiem),
-        store,
-        table,
-        cursor,
-    );
-    let q = say_letters(tail(name, meridiem), store, table, p);
-    outcome(Row::Meridiem, q)
+    say_clock(front(name, hour), part(name, minute, meridiem), out);
+    say_letters(tail(name, meridiem), out);
+    Row::Meridiem
 }
 
-// Reads such a name by all rows.
-pub fn read_by_row(name: &[u8], store: &mut [u8], table: &mut [u8], cursor: Cursor) -> ReadOutcome
-    requires { is_percent name.now ≡ false }
-    ensures { Says (read name.now)
-        (writer store.old table.old cursor)
-        (writer store.new table.new result.cursor) result.entry.row }
+// All rows but row 10: says the words of a name, and answers the first row that takes it.
+#[tactic(auto, using(crate::proofs::Laws::dotted_initials, crate::proofs::Laws::none_said), unfolding(crate::specs::Walk::rows_after))]
+pub fn read_by_row(name: &[u8], out: &mut Writer) -> Row
+    ensures { Reads (rows_after 0 name.now) out.old out.new result }
 {
-    if name.len() == 0 {
-        return outcome(Row::Empty, cursor);
+    if name.is_empty() {
+        return Row::Empty;
     }
     if is_dotted_abbrev(name) {
-        return outcome(Row::Dotted, say_initials(name, store, table, cursor));
+        say_initials(name, out);
+        return Row::Dotted;
     }
     if is_comma_int(name) {
-        return outcome(Row::CommaInt, say_cardinal(name, store, table, cursor));
+        say_cardinal(name, out);
+        return Row::CommaInt;
     }
     if is_time(name) {
-        let at = span_of(NOT, b':', name);
-        let hour = front(name, at);
-        let minute = tail(name, at + 1);
-        return outcome(Row::Time, say_clock(hour, minute, store, table, cursor));
+        let at = span(name, Not(Byte(b':')));
+        say_clock(front(name, at), tail(tail(name, at), 1), out);
+        return Row::Time;
     }
-    from_meridiem(name, store, table, cursor)
+    from_meridiem(name, out)
 }

@@ -9,8 +9,7 @@ use lib.ListN.{length, take}
 use lib.Seq.{length-take-le}
 use Rattle.lists.specs.Bytes.{ends_with, to_lower}
 use Rattle.lists.proofs.Recursion.{Local, recur_eq}
-use Rattle.rows.specs.Rows.{Rule, ◌reads◌, Reading, by, row_number, rows, read_step, read_with, read}
-use Rattle.rows.specs.declared.Row.TheVariants.{NoRow}
+use Rattle.rows.specs.Rows.{Rule, ◌reads◌, Reading, no_reading, row_number, rows, read_step, read_with, read}
 
 -- a text that ends in a byte is not empty
 pub ends_some : (c : ℕ) (s : List ℕ) → ends_with c s ≡ true → 1 ≤ length s
@@ -32,7 +31,7 @@ read_local word f g s h = go (ends_with (code "%") s) refl
 -- to read a name is one step, in which shorter names are read the same way
 pub step_eq : (word : List ℕ → List ℕ) (s : List ℕ) → read_with word s ≡ read_step word (read_with word) s
 unfolding read_with
-step_eq word s = recur_eq (by NoRow []) (read_step word) (read_local word) s
+step_eq word s = recur_eq no_reading (read_step word) (read_local word) s
 
 -- the same for `read`, whose row 12 lowers the name
 pub read_eq : (s : List ℕ) → read s ≡ read_step (map to_lower) read s

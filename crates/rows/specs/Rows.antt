@@ -1,5 +1,5 @@
 -- Document 01, "Call sheet": the twelve rows. Definitions only.
-use Rattle.std.specs.Prelude.{Bool, true, cond, List, [], ◌∷◌, ◌++◌, map, ℕ, ◌-◌, eqb, length, take, drop}
+use Rattle.std.specs.Prelude.{Bool, true, cond, List, [], ◌∷◌, ◌++◌, map, ℕ, ◌-◌, eqb, length, take, drop, Option, Some, None}
 use Prim.Native.Char.{code}
 use Rattle.lists.specs.Bytes.{bytes, filter_if, to_lower, take_while, drop_while, same, starts_with, ends_with}
 use Rattle.lists.specs.Classes.{except}
@@ -16,11 +16,10 @@ use Rattle.letters.specs.Letters.{letters}
 use Rattle.rows.specs.declared.Sign.{Sign}
 use Rattle.rows.specs.declared.Sign.TheVariants.{Plus, Minus}
 use Rattle.rows.specs.declared.Row.{Row}
-use Rattle.rows.specs.declared.Row.TheVariants.{NoRow, Empty, Dotted, CommaInt, Time, Meridiem, LeadingZero, Digits, Figure, Ordinal, Percent, Unit, OneWord}
+use Rattle.rows.specs.declared.Row.TheVariants.{Empty, Dotted, CommaInt, Time, Meridiem, LeadingZero, Digits, Figure, Ordinal, Percent, Unit, OneWord}
 
--- the number of each row; "a refused call's record has row 0"
+-- the number of each row
 abbrev pub row_number : Row → ℕ
-row_number NoRow = 0
 row_number Empty = 1
 row_number Dotted = 2
 row_number CommaInt = 3
@@ -39,8 +38,11 @@ abbrev pub sign_number : Sign → ℕ
 sign_number Plus = 1
 sign_number Minus = 2
 
+abbrev pub sign_value : Option Sign → ℕ
+sign_value None = 0
+sign_value (Some g) = sign_number g
+
 abbrev pub row_sign : Row → ℕ
-row_sign NoRow = 0
 row_sign Empty = 0
 row_sign Dotted = 0
 row_sign CommaInt = 0
@@ -89,6 +91,10 @@ pub record Reading : Type 0 where
 abbrev pub by : Row → List Word → Reading
 by r ws = record { row = r; words = ws }
 
+-- what stands in for a reading if no row takes the name; row 12 takes every name
+abbrev pub no_reading : Reading
+no_reading = by OneWord []
+
 -- a row as a rule for one name: whether it takes the name, and how it reads it
 infix 70 ◌reads◌
 pub data Rule : Type 0 where
@@ -96,7 +102,7 @@ pub data Rule : Type 0 where
 
 -- "The name goes to the first row that takes it"
 abbrev pub first_taking : List Rule → Reading
-first_taking [] = by NoRow []
+first_taking [] = no_reading
 first_taking (takes reads reading ∷ rules) = cond takes reading (first_taking rules)
 
 -- the rows in their order; `again` reads a shorter name from row 1, and `word` is what the last row says
@@ -120,7 +126,7 @@ unfoldable pub read_step : (List ℕ → List ℕ) → (List ℕ → Reading) �
 read_step word again s = first_taking (rows word again s)
 
 unfoldable pub read_with : (List ℕ → List ℕ) → List ℕ → Reading
-read_with word = recur (by NoRow []) (read_step word)
+read_with word = recur no_reading (read_step word)
 
 -- "the name, A to Z lowered, as one word"
 abbrev pub read : List ℕ → Reading

@@ -2,19 +2,18 @@
 #![tactic(auto)]
 
 ghost use Rattle.std.specs.Prelude.{◌≡◌};
-ghost use Rattle.rows.specs.Rows.{sign_number, row_number, row_sign};
+ghost use Rattle.rows.specs.Rows.{sign_number, sign_value, row_number, row_sign};
 
-// The sign of a number.
-#[derive(Clone, Copy)]
+// The sign of a number, and its value.
+#[derive(Clone, Copy, Debug, PartialEq, Eq)]
 pub enum Sign {
-    Plus,
-    Minus,
+    Plus = 1,
+    Minus = 2,
 }
 
-// The rows, in their order. NoRow stands in the record of a refused call.
-#[derive(Clone, Copy)]
+// The rows, in their order.
+#[derive(Clone, Copy, Debug, PartialEq, Eq)]
 pub enum Row {
-    NoRow,
     Empty,
     Dotted,
     CommaInt,
@@ -30,30 +29,24 @@ pub enum Row {
 }
 
 // An entry's record.
-#[derive(Clone, Copy)]
+#[derive(Clone, Copy, Debug, PartialEq, Eq)]
 pub struct Entry {
     pub row: Row,
 }
 
-impl Sign {
-    // The sign's value.
-    pub fn number(self) -> u8
-        ensures { result ≡ sign_number self }
-    {
-        match self {
-            Sign::Plus => 1,
-            Sign::Minus => 2,
-        }
+impl From<Sign> for u8 {
+    ghost from_gives = { λ sign n. n ≡ sign_number sign };
+
+    fn from(sign: Sign) -> u8 {
+        sign as u8
     }
 }
 
-impl Row {
-    // The row's number, 0 if there is none.
-    pub fn number(self) -> u8
-        ensures { result ≡ row_number self }
-    {
-        match self {
-            Row::NoRow => 0,
+impl From<Row> for u8 {
+    ghost from_gives = { λ row n. n ≡ row_number row };
+
+    fn from(row: Row) -> u8 {
+        match row {
             Row::Empty => 1,
             Row::Dotted => 2,
             Row::CommaInt => 3,
@@ -68,25 +61,16 @@ impl Row {
             Row::OneWord => 12,
         }
     }
+}
 
-    // The value of the row's sign, 0 if it has none.
-    pub fn sign(self) -> u8
-        ensures { result ≡ row_sign self }
+impl Row {
+    // The sign of the row: only row 8 has one.
+    pub fn sign(self) -> Option<Sign>
+        ensures { sign_value result ≡ row_sign self }
     {
         match self {
-            Row::Figure(sign) => sign.number(),
-            Row::NoRow => 0,
-            Row::Empty => 0,
-            Row::Dotted => 0,
-            Row::CommaInt => 0,
-            Row::Time => 0,
-            Row::Meridiem => 0,
-            Row::LeadingZero => 0,
-            Row::Digits => 0,
-            Row::Ordinal => 0,
-            Row::Percent => 0,
-            Row::Unit => 0,
-            Row::OneWord => 0,
+            Row::Figure(sign) => Some(sign),
+            _ => None,
         }
     }
 }

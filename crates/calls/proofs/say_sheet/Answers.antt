@@ -1,54 +1,40 @@
-use mathlib.Core.Path.{refl, ap₂}
-use mathlib.Core.List.{List}
-use native.Mathlib.Omega.{arith}
-use Rattle.word_writer.specs.Writer.{writer}
-use Rattle.word_writer.specs.declared.Cursor.{Cursor}
-use Rattle.tokens.proofs.Walks.{left_all, left_none, left_next, left_on, left_past}
-use Rattle.call_spec.specs.Sheet.{SheetEntry}
-use Rattle.entries.proofs.Loops.{from_fresh, from_none, entry_next}
-use Rattle.calls.specs.Walk.{lines_to}
+use Rattle.std.proofs.Common.{◌≡◌, refl, ap, ◌∙◌, arith, length, zero-add}
+use Rattle.word_writer.proofs.Saying.{same_buffers_on}
+use Rattle.tokens.specs.Tokens.{tokens}
+use Rattle.tokens.proofs.Count.{tokens_bound}
+use Rattle.sentences.specs.Sentences.{fresh}
+use Rattle.sentences.specs.Left.{entries_left, entries_after}
+use Rattle.sentences.proofs.Marking.{entries_length}
+use Rattle.entries.proofs.Found.{sheet_entries_all}
 use Rattle.calls.proofs.Lines.{lines_on, lines_done}
 use Rattle.calls.proofs.say_sheet.Goals as goal
 
-pub loop-at-init : goal.loop-at-init
-loop-at-init c = (
-  left_all,
-  refl,
-  refl,
-  ap₂ (λ (es : List SheetEntry) (p : Cursor). lines_to es (writer c.args.out.now c.args.table.now p))
-      (from_fresh c.args.s.now c.fresh-state.ensures) c.spaced-cursor.ensures,
-)
-
-pub returns-then-none_left : goal.returns-then-none_left
-returns-then-none_left c =
-    let d = left_none c.loop-at.invariant.0 c.token_at-t.ensures c.none_left.ensures c.if-none_left.true in
-    (d.all, lines_done _ (from_none c.loop-at.state d.none) c.loop-at.invariant.3)
+pub loop-entry-init : goal.loop-entry-init
+loop-entry-init c =
+    let all : entries_left c.into_iter-entry-iterator.result ≡ entries_after fresh (tokens c.args.s.now) =
+    ap entries_left c.into_iter-entry-iterator.ensures.into_iter_gives ∙ c.new-entry-items.ensures in
+    rw (all, sheet_entries_all, entries_length) (record { count = zero-add _; buffers = record { store = refl; table = refl }; lines = refl })
 
 pub overflow_add-tokens : goal.overflow_add-tokens
 overflow_add-tokens c =
-    let f = c.loop-at.invariant.0.bounded in
-    omega arith
+    let count = ap length c.in-Some.ensures.steps in
+    omega (arith, c.loop-entry.invariant, tokens_bound c.args.s.now)
 
-pub loop-at-smaller : goal.loop-at-smaller
-loop-at-smaller c =
-    let next =
-    left_next c.loop-at.invariant.0 c.token_at-t.ensures
-    c.none_left.ensures c.if-none_left.false in
-    omega arith
-
-pub loop-at-preserved : goal.loop-at-preserved
-loop-at-preserved c =
-    let next = left_next c.loop-at.invariant.0 c.token_at-t.ensures c.none_left.ensures c.if-none_left.false in
-    let entry =
-    entry_next next c.loop-at.state c.part.ensures c.part-name.ensures c.part-in-loop-at.ensures
-    c.starts_sentence-starts.ensures c.kept-state.ensures in (
-      left_on c.loop-at.invariant.0 next,
-      omega arith,
-      omega arith,
-      lines_on (writer c.loop-at.out c.loop-at.table c.loop-at.cursor) entry c.say_line-read.ensures.said c.loop-at.invariant.3,
-    )
+pub loop-entry-preserved : goal.loop-entry-preserved
+loop-entry-preserved c =
+    let next = c.in-Some.ensures.steps in
+    let count = ap length next in
+    record {
+      count = omega (arith, c.loop-entry.invariant);
+      buffers = same_buffers_on c.loop-entry.invariant.buffers c.say_line.ensures.buffers;
+      lines = lines_on _ next c.say_line.ensures.line c.loop-entry.invariant.lines;
+    }
 
 pub returns : goal.returns
 returns c =
-    let d = left_past c.loop-at.invariant.0 (omega arith) in
-    (d.all, lines_done _ (from_none c.loop-at.state d.none) c.loop-at.invariant.3)
+    let none = c.in-None.ensures.steps.0 in
+    let count = ap length none in
+    record {
+      tokens = omega (arith, c.loop-entry.invariant);
+      lines = record { buffers = c.loop-entry.invariant.buffers; lines = lines_done _ none c.loop-entry.invariant.lines };
+    }

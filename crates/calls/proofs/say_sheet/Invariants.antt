@@ -1,19 +1,15 @@
-use mathlib.Core.Path.{◌≡◌}
-use Prim.Native.Nat.{◌-◌}
-use lib.ListN.{length, drop}
-use Rattle.word_writer.specs.Writer.{writer}
-use Rattle.word_writer.specs.Words.{spaced_cursor}
+use Rattle.std.proofs.Common.{◌≡◌, ◌+◌, length, map}
+use Rattle.word_writer.specs.Writer.{written, SameBuffers}
 use Rattle.tokens.specs.Tokens.{tokens}
-use Rattle.tokens.proofs.Walks.{Left}
+use Rattle.sentences.specs.Left.{entries_left}
 use Rattle.call_spec.specs.Sheet.{entries}
-use Rattle.entries.proofs.Loops.{entries_from}
+use Rattle.entries.specs.Find.{sheet_entry}
 use Rattle.calls.specs.Walk.{lines_to}
 use Rattle.calls.proofs.say_sheet.Given as goal
 
-abbrev pub invariant-loop-at : goal.invariant-loop-at
-invariant-loop-at l =
-    Left l.s l.tokens l.at × (length l.out ≡ length l.initial.out) × (length l.table ≡ length l.initial.table)
-    × (lines_to (entries_from l.state (tokens (drop l.at l.s))) (writer l.out l.table l.cursor) ≡ lines_to (entries l.s) (writer l.initial.out l.initial.table spaced_cursor))
-
-abbrev pub decreases-loop-at : goal.decreases-loop-at
-decreases-loop-at l = length l.s - l.at
+abbrev pub invariant-loop-entry : goal.invariant-loop-entry
+invariant-loop-entry l = record {
+  count : l.tokens + length (entries_left l.entry-iterator) ≡ length (tokens l.s);
+  buffers : SameBuffers l.initial.out l.out;
+  lines : lines_to (map sheet_entry (entries_left l.entry-iterator)) (written l.out) ≡ lines_to (entries l.s) (written l.initial.out);
+}

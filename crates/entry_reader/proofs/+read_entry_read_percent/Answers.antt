@@ -3,7 +3,7 @@ use Prim.Native.Char.{code}
 use native.Mathlib.Omega.{arith}
 use lib.ListN.{length, length-take}
 use Rattle.rows.proofs.Laws.{ends_some}
-use Rattle.row_readers.proofs.Laws.{says_same}
+use Rattle.row_readers.proofs.Laws.{reads_same}
 use Rattle.entry_reader.proofs.Laws.{percent_taken}
 use Rattle.entry_reader.proofs.+read_entry_read_percent.Goals as goal
 
@@ -14,8 +14,7 @@ read_entry-read_percent-requires t c =
 
 pub read_entry-returns-then-is_percent : goal.read_entry-returns-then-is_percent
 read_entry-returns-then-is_percent t c =
-    says_same _ _ (percent_taken c.args.name.now c.args.percents (sym c.is_percent.ensures ∙ c.if-is_percent.true)) _
-    c.read_percent.ensures
+    reads_same (percent_taken c.args.name.now c.args.percents (sym c.is_percent.ensures ∙ c.if-is_percent.true)) c.read_percent.ensures
 
 pub read_percent-read_entry-requires : goal.read_percent-read_entry-requires
 read_percent-read_entry-requires t c =

@@ -1,14 +1,5 @@
-use mathlib.Core.Path.{refl}
-use mathlib.Core.List.{[], ◌∷◌}
-use Rattle.lists.specs.Bytes.{bytes}
-use Rattle.vocabulary.proofs.Laws.{unfold_vocabulary}
-use Rattle.numerals.specs.Words.{other, spell}
-use Rattle.numerals.proofs.Said.{said_word, says_more}
+use Rattle.entry_reader.proofs.Laws.{percent_said}
 use Rattle.entry_reader.proofs.say_per_cent.Goals as goal
 
 pub returns : goal.returns
-unfolding spell unfold_vocabulary
-returns c =
-    says_more (other (bytes "per") ∷ []) (other (bytes "cent") ∷ []) refl _
-    (said_word (other (bytes "per")) _ c.say-p.ensures)
-    (said_word (other (bytes "cent")) _ c.say.ensures)
+returns c = percent_said (rw c.word.ensures at c.put_word.ensures) (rw c.word-2.ensures at c.put_word-2.ensures)

@@ -1,14 +1,7 @@
-use mathlib.Core.Path.{◌≡◌}
-use lib.ListN.{length}
-use Rattle.word_writer.specs.Writer.{writer, put_words}
+use Rattle.word_writer.specs.Writer.{Says}
 use Rattle.numerals.specs.Words.{spelled}
 use Rattle.entry_reader.specs.Percents.{per_cents}
 use Rattle.entry_reader.proofs.say_per_cents.Given as goal
 
-abbrev pub invariant-loop-left : goal.invariant-loop-left
-invariant-loop-left l =
-    (put_words (spelled (per_cents l.left)) (writer l.store l.table l.p) ≡ put_words (spelled (per_cents l.percents)) (writer l.initial.store l.initial.table l.initial.p))
-    × (length l.store ≡ length l.initial.store) × (length l.table ≡ length l.initial.table)
-
-abbrev pub decreases-loop-left : goal.decreases-loop-left
-decreases-loop-left l = l.left
+abbrev pub invariant-loop : goal.invariant-loop
+invariant-loop l = Says (spelled (per_cents l.counter)) l.initial.out l.out

@@ -1,16 +1,10 @@
 use native.Mathlib.Omega.{arith}
-use Rattle.word_writer.proofs.Walks.{walk_start, walk_byte, walk_end}
-use Rattle.row_readers.proofs.Laws.{initials_append, no_initials}
+use Rattle.word_writer.proofs.Saying.{says_byte}
+use Rattle.numerals.specs.Words.{spelled}
+use Rattle.row_readers.specs.Walk.{initials}
+use Rattle.row_readers.proofs.Laws.{initials_append}
 use Rattle.row_readers.proofs.say_initials.Goals as goal
 
-pub loop-i-init : goal.loop-i-init
-loop-i-init c = walk_start
-
-pub loop-i-preserved : goal.loop-i-preserved
-loop-i-preserved c =
-    let said = c.say_initial-p in
-    walk_byte c.loop-i.invariant initials_append (omega arith)
-    said.ensures (omega arith) (omega arith)
-
-pub returns : goal.returns
-returns c = walk_end c.loop-i.invariant no_initials (omega arith)
+pub loop-b-preserved : goal.loop-b-preserved
+loop-b-preserved c =
+    says_byte (λ t. spelled (initials t)) c.args.name.now c.loop-b.b-index initials_append (omega arith) c.loop-b.invariant c.say_initial.ensures

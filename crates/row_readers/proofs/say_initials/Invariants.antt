@@ -1,13 +1,8 @@
-use Prim.Native.Nat.{◌-◌}
-use lib.ListN.{length}
-use Rattle.word_writer.specs.Writer.{writer}
-use Rattle.word_writer.proofs.Walks.{Walk}
+use lib.ListN.{take}
+use Rattle.word_writer.specs.Writer.{Says}
 use Rattle.numerals.specs.Words.{spelled}
 use Rattle.row_readers.specs.Walk.{initials}
 use Rattle.row_readers.proofs.say_initials.Given as goal
 
-abbrev pub invariant-loop-i : goal.invariant-loop-i
-invariant-loop-i l = Walk (λ t. spelled (initials t)) l.name (writer l.initial.store l.initial.table l.initial.p) (writer l.store l.table l.p) l.i
-
-abbrev pub decreases-loop-i : goal.decreases-loop-i
-decreases-loop-i l = length l.name - l.i
+abbrev pub invariant-loop-b : goal.invariant-loop-b
+invariant-loop-b l = Says (spelled (initials (take l.b-index l.name))) l.initial.out l.out

@@ -1,5 +1,0 @@
-use mathlib.Core.Path.{◌∙◌}
-use Rattle.howhakiru.proofs.hwk_call_entry.Goals as goal
-
-pub returns : goal.returns
-returns c = c.entry_at_c.ensures _ ∙ c.call_entry.ensures
