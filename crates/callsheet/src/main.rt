@@ -20,15 +20,14 @@ fn write_refusal(rt: &impl Print, number: u8) -> io::Result<()>
 fn write_call(rt: &impl Print, sheet: &[u8], out: &mut [u8]) -> io::Result<()>
     requires { (length sheet.now ≤ 4096) × (11 * (length sheet.now + 1) ≤ length out.old) }
 {
-    let called = call_sheet(sheet, out);
-    if called.refusal != 0 {
-        return write_refusal(rt, called.refusal);
+    match call_sheet(sheet, out) {
+        Ok(called) => rt.write_all(front(out, called.bytes)),
+        Err(refusal) => write_refusal(rt, u8::from(refusal)),
     }
-    rt.write_all(front(out, called.bytes))
 }
 
-// Reads until the sheet is full, the input ends or a read fails, and answers how many bytes it put at the front. What follows them
-// in the input stays unread.
+// Reads until the sheet is full, the input ends or a read fails, and answers how many bytes it put at the front. What follows
+// them in the input stays unread. std has no such call: read_exact does not say how much it put, and read_to_end needs a Vec.
 fn read_full<R: Read>(input: &mut R, sheet: &mut [u8]) -> usize
     ensures within { result ≤ length sheet.new }
     ensures bytes { Consumes (R.remaining input.old) (R.remaining input.new) (take result sheet.new) }

@@ -1,9 +1,8 @@
-// What the programs that replay recorded answers share. Nothing here demands anything of its caller.
+// What the programs that replay recorded answers share. It demands nothing of its caller, but that a closure can be called.
 #![tactic(auto)]
 
 pub mod buffer;
 pub mod fields;
-pub mod file;
-pub mod room;
+pub mod head;
+pub mod replay;
 pub mod tally;
-pub mod text;

@@ -1,49 +1,61 @@
 // The longest sheet, with the most entries: 32,768 times "7 ". No recorded line could hold a field for each entry.
-use crate::answers::{ENTRY, SHEET, compare_call};
-use crate::expected::CallAnswer;
-use crate::lines::put_lines;
-use lists::{front, part};
-use recorded::fields::saturating_sub;
+use crate::answers::{compare_entry, compare_sheet};
+use crate::compared::Compared;
+use crate::line::{Entry, Sheet};
+use recorded::buffer::Expected;
+use recorded::fields::LineError;
 use recorded::tally::Report;
+use std::alloc::Global;
 
-const ENTRIES: usize = 32768;
+const ENTRIES: usize = 32_768;
 
-// The row of digits, and the bytes of a line.
+// The row of digits.
 const DIGITS: usize = 7;
 
-const LINE: usize = 8;
+const FIRST: &[u8] = b"+ seven\n";
 
-// Entry k, whose line is "+ seven" or "- seven".
-fn compare_seven(r: Report, s: &[u8], k: usize, line: &[u8], out: &mut [u8]) -> Report {
-    let expected = CallAnswer {
-        refusal: 0,
-        tokens: 0,
+const OTHER: &[u8] = b"- seven\n";
+
+fn compare_seven(
+    report: &mut Report<Compared>,
+    alloc: Global,
+    text: &[u8],
+    k: usize,
+    line: &[u8],
+) -> Result<(), LineError> {
+    let entry = Entry {
         row: DIGITS,
         sign: 0,
         words: 1,
-        bytes: LINE,
+        bytes: line.len(),
     };
-    compare_call(r, ENTRY, k, expected, s, line, out)
+    let expected = Expected {
+        answer: Ok(entry),
+        bytes: line,
+    };
+    compare_entry(report, Compared::CallEntry, alloc, text, k, expected)
 }
 
 // The whole sheet, its first entry and its last.
-fn compare_sevens(s: &[u8], lines: &[u8], out: &mut [u8]) -> Report {
-    let expected = CallAnswer {
-        refusal: 0,
+pub fn compare_limit(alloc: Global) -> Result<Report<Compared>, LineError> {
+    let sheet = b"7 ".repeat(alloc, ENTRIES)?;
+    let text = sheet.as_slice();
+    let mut lines = FIRST.to_vec(alloc)?;
+    for _ in 1..ENTRIES {
+        lines.extend_from_slice(OTHER)?;
+    }
+    let called = Sheet {
         tokens: ENTRIES,
-        row: 0,
-        sign: 0,
         words: ENTRIES,
-        bytes: LINE * ENTRIES,
+        bytes: lines.len(),
     };
-    let r1 = compare_call(Report::none(), SHEET, 0, expected, s, lines, out);
-    let r2 = compare_seven(r1, s, 0, front(lines, LINE), out);
-    let last = saturating_sub(lines.len(), LINE);
-    compare_seven(r2, s, ENTRIES - 1, part(lines, last, lines.len()), out)
-}
-
-pub fn compare_limit(text: &mut [u8], lines: &mut [u8], out: &mut [u8]) -> Report {
-    let n = put_lines(b"32768x3720", text);
-    let bytes = put_lines(b"1x2b20736576656e0a,32767x2d20736576656e0a", lines);
-    compare_sevens(front(text, n), front(lines, bytes), out)
+    let expected = Expected {
+        answer: Ok(called),
+        bytes: lines.as_slice(),
+    };
+    let mut report = Report::new();
+    compare_sheet(&mut report, alloc, text, expected)?;
+    compare_seven(&mut report, alloc, text, 0, FIRST)?;
+    compare_seven(&mut report, alloc, text, ENTRIES - 1, OTHER)?;
+    Ok(report)
 }

@@ -1,0 +1,44 @@
+// What every line begins with: a text, and the refusal of that text.
+use crate::fields::{LineError, byte_of, bytes_of, number, refusal};
+use std::alloc::Global;
+
+// No text of a line is longer: as long as a table of 65,537 words, one more than the longest text has bytes.
+pub const LONGEST: usize = 524_296;
+
+// The highest number of a text's refusal.
+const HIGHEST: u8 = 2;
+
+#[derive(Drop)]
+pub struct Head {
+    pub text: Vec<u8>,
+    // The number of its refusal, None if it is accepted.
+    pub refusal: Option<u8>,
+}
+
+// The text of `count` times a byte and what follows.
+fn text_of(alloc: Global, count: usize, byte: u8, tail: &[u8]) -> Result<Vec<u8>, LineError> {
+    if LONGEST < count.saturating_add(tail.len()) {
+        return Err(LineError::Malformed);
+    }
+    let mut text = vec![in alloc; byte; count]?;
+    text.extend_from_slice(tail)?;
+    Ok(text)
+}
+
+impl Head {
+    // The fields REPEAT BYTE TAIL REFUSAL: the text is BYTE repeated, and then TAIL.
+    pub fn parse(alloc: Global, fields: &[&[u8]]) -> Result<Head, LineError> {
+        let [repeat, byte, tail, number_of_refusal] = fields else {
+            return Err(LineError::Malformed);
+        };
+        let tail = bytes_of(alloc, tail)?;
+        let refusal = refusal(number_of_refusal)?;
+        if refusal.is_some_and(|number| HIGHEST < number) {
+            return Err(LineError::Malformed);
+        }
+        Ok(Head {
+            text: text_of(alloc, number(repeat)?, byte_of(byte)?, tail.as_slice())?,
+            refusal,
+        })
+    }
+}

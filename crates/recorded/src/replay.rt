@@ -1,0 +1,66 @@
+// A file of recorded lines, each compared.
+use crate::fields::LineError;
+use crate::tally::{Report, Tally};
+use std::alloc::AllocError;
+use std::fmt::Display;
+use std::fs::File;
+use std::io;
+use std::io::Read;
+use std::rt::Files;
+
+// A file of so many bytes may be longer.
+const TOO_LONG: u64 = 524_296;
+
+// The file's bytes, nothing if they are not whole lines. A line says why.
+fn load<R: Files + Print + AllocGlobal>(rt: &R, name: &str) -> io::Result<Option<Vec<u8>>> {
+    let Ok(file) = File::open(rt, name) else {
+        println!(rt; "{name}: cannot be opened")?;
+        return Ok(None);
+    };
+    let mut bytes = Vec::new(rt.alloc());
+    if file.take(TOO_LONG).read_to_end(&mut bytes)? as u64 == TOO_LONG {
+        println!(rt; "{name}: too long")?;
+        return Ok(None);
+    }
+    if !bytes.ends_with(b"\n") {
+        println!(rt; "{name}: its last line does not end")?;
+        return Ok(None);
+    }
+    bytes.pop();
+    Ok(Some(bytes))
+}
+
+// Counts a text that was compared.
+pub fn add<W: Copy + Display>(
+    rt: &impl Print,
+    tally: &mut Tally,
+    compared: Result<Report<W>, LineError>,
+) -> io::Result<()> {
+    match compared {
+        Ok(report) => tally.add(rt, report),
+        Err(LineError::Malformed) => {
+            let mut report = Report::new();
+            report.count("malformed", false);
+            tally.add(rt, report)
+        }
+        Err(LineError::OutOfMemory) => Err(io::Error::from(AllocError)),
+    }
+}
+
+// Compares every line of the file. The answer is nothing if the file can't be read whole.
+pub fn replay<R, W, F>(rt: &R, name: &str, compare_line: F) -> io::Result<Option<Tally>>
+where
+    R: Files + Print + AllocGlobal,
+    W: Copy + Display,
+    F: Fn(&[u8]) -> Result<Report<W>, LineError>,
+    requires { F.IsAlwaysCallable compare_line }
+{
+    let Some(lines) = load(rt, name)? else {
+        return Ok(None);
+    };
+    let mut tally = Tally::default();
+    for line in lines.split(|b| *b == b'\n') {
+        add(rt, &mut tally, compare_line(line))?;
+    }
+    Ok(Some(tally))
+}
