@@ -26,7 +26,12 @@ has_code() {
     local type=${2%%::*}
     [ "$type" != "$2" ] || type=
     awk -v type="$type" -v call="fn ${2##*::}(" '
-        /^impl / { owner = $2 }
+        /^impl/ {
+            owner = $0
+            sub(/^impl(<[^>]*>)? /, "", owner)
+            sub(/^.* for /, "", owner)
+            sub(/[<{ ].*/, "", owner)
+        }
         /^}/ { owner = "" }
         owner == type && index($0, call) { found = 1 }
         END { exit !found }' crates/"$1"/src/*.rt 2>/dev/null
