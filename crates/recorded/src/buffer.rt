@@ -1,12 +1,10 @@
 // A lent buffer: what fills it before a call, how much of it is lent, and what the call leaves in it.
 use crate::fields::{Answer, LineError};
 use crate::tally::Report;
+use admit::Refusal;
 
 // What fills a buffer before a call.
 pub const GUARD: u8 = 0xA5;
-
-// The refusal if a buffer is too short.
-pub const BUFFER_TOO_SHORT: u8 = 5;
 
 // How much of a buffer a call is lent.
 #[derive(Clone, Copy, Debug, PartialEq, Eq)]
@@ -68,7 +66,7 @@ impl<T: PartialEq + Drop> Expected<'_, T> {
         buffer.fill(GUARD);
         let answer = call(room.of(self.bytes.len(), spare, buffer));
         if room.is_short(self.bytes.len()) {
-            return answer == Err(BUFFER_TOO_SHORT) && has_just(buffer, b"");
+            return answer == Err(Refusal::BufferTooShort) && has_just(buffer, b"");
         }
         answer == self.answer && has_just(buffer, self.bytes)
     }

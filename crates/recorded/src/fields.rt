@@ -1,4 +1,5 @@
 // A line of a file: its fields, numbers and hex.
+use admit::Refusal;
 use std::alloc::{AllocError, AllocFailed, Global};
 use std::num::{ParseIntError, TryFromIntError};
 use std::str;
@@ -42,8 +43,16 @@ impl From<Utf8Error> for LineError {
     }
 }
 
-// What a call answers: a value, or the number of a refusal.
-pub type Answer<T> = Result<T, u8>;
+// What a call answers.
+pub type Answer<T> = Result<T, Refusal>;
+
+const REFUSALS: [Refusal; 5] = [
+    Refusal::TextTooLong,
+    Refusal::NotUtf8,
+    Refusal::NoSuchEntry,
+    Refusal::NameTooLong,
+    Refusal::BufferTooShort,
+];
 
 // The fields of a line. The byte `end` stands between them.
 pub fn fields(alloc: Global, line: &[u8], end: u8) -> Result<Vec<&[u8]>, AllocError> {
@@ -67,20 +76,40 @@ pub fn flag(field: &[u8]) -> Result<bool, LineError> {
     }
 }
 
-// The number of a refusal, None for 0.
-pub fn refusal(field: &[u8]) -> Result<Option<u8>, LineError> {
-    let number = u8::try_from(number(field)?)?;
-    Ok(Some(number).filter(|number| *number != 0))
+// The refusal with the field's number, none for 0.
+pub fn refusal(field: &[u8]) -> Result<Option<Refusal>, LineError> {
+    match number(field)? {
+        0 => Ok(None),
+        number => REFUSALS
+            .into_iter()
+            .find(|refusal| usize::from(u8::from(*refusal)) == number)
+            .map(Some)
+            .ok_or(LineError::Malformed),
+    }
+}
+
+// A value that is there if the field is 1. Else it is the default.
+pub fn option<T: Default + PartialEq + Drop>(
+    field: &[u8],
+    value: T,
+) -> Result<Option<T>, LineError> {
+    if flag(field)? {
+        return Ok(Some(value));
+    }
+    if value == T::default() {
+        return Ok(None);
+    }
+    Err(LineError::Malformed)
 }
 
 // A call's answer. One that is refused gives nothing.
 pub fn answer<T: Default + PartialEq + Drop>(
-    refusal: Option<u8>,
+    refusal: Option<Refusal>,
     value: T,
 ) -> Result<Answer<T>, LineError> {
     match refusal {
         None => Ok(Ok(value)),
-        Some(number) if value == T::default() => Ok(Err(number)),
+        Some(refusal) if value == T::default() => Ok(Err(refusal)),
         Some(_) => Err(LineError::Malformed),
     }
 }

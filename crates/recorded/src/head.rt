@@ -1,18 +1,16 @@
 // What every line begins with: a text, and the refusal of that text.
 use crate::fields::{LineError, byte_of, bytes_of, number, refusal};
+use admit::Refusal;
 use std::alloc::Global;
 
 // No text of a line is longer: as long as a table of 65,537 words, one more than the longest text has bytes.
 pub const LONGEST: usize = 524_296;
 
-// The highest number of a text's refusal.
-const HIGHEST: u8 = 2;
-
 #[derive(Drop)]
 pub struct Head {
     pub text: Vec<u8>,
-    // The number of its refusal, None if it is accepted.
-    pub refusal: Option<u8>,
+    // Why it is refused, if it is.
+    pub refusal: Option<Refusal>,
 }
 
 // The text of `count` times a byte and what follows.
@@ -33,7 +31,10 @@ impl Head {
         };
         let tail = bytes_of(alloc, tail)?;
         let refusal = refusal(number_of_refusal)?;
-        if refusal.is_some_and(|number| HIGHEST < number) {
+        if !matches!(
+            refusal,
+            None | Some(Refusal::TextTooLong | Refusal::NotUtf8)
+        ) {
             return Err(LineError::Malformed);
         }
         Ok(Head {

@@ -1,7 +1,8 @@
 // The verdict and the calls of one sheet, compared with the recorded ones.
 use crate::compared::Compared;
-use crate::line::{Entry, Line, Sheet, bytes_in};
-use calls::{call_entry, call_sheet};
+use crate::line::{Line, bytes_in};
+use admit::Refusal;
+use calls::{CalledEntry, CalledSheet, call_entry, call_sheet};
 use clear::is_clear;
 use recorded::buffer::{Expected, GUARD};
 use recorded::fields::{Answer, LineError};
@@ -12,29 +13,6 @@ use std::alloc::Global;
 const SPARE: usize = 32;
 
 const MARGIN: usize = 64;
-
-// The refusal if the sheet has no such entry.
-const NO_SUCH_ENTRY: u8 = 3;
-
-fn answer_of_sheet(text: &[u8], out: &mut [u8]) -> Answer<Sheet> {
-    let called = call_sheet(text, out).map_err(u8::from)?;
-    Ok(Sheet {
-        tokens: called.tokens,
-        words: called.words,
-        bytes: called.bytes,
-    })
-}
-
-fn answer_of_entry(text: &[u8], k: usize, out: &mut [u8]) -> Answer<Entry> {
-    let called = call_entry(text, k, out).map_err(u8::from)?;
-    let row = called.entry.row;
-    Ok(Entry {
-        row: usize::from(u8::from(row)),
-        sign: row.sign().map_or(0, |sign| usize::from(u8::from(sign))),
-        words: called.words,
-        bytes: called.bytes,
-    })
-}
 
 // Compares a call in every room.
 pub fn compare_call<T, F>(
@@ -59,10 +37,10 @@ pub fn compare_sheet(
     report: &mut Report<Compared>,
     alloc: Global,
     text: &[u8],
-    expected: Expected<Sheet>,
+    expected: Expected<CalledSheet>,
 ) -> Result<(), LineError> {
     compare_call(report, Compared::CallSheet, alloc, expected, |out| {
-        answer_of_sheet(text, out)
+        call_sheet(text, out)
     })
 }
 
@@ -73,10 +51,10 @@ pub fn compare_entry(
     alloc: Global,
     text: &[u8],
     k: usize,
-    expected: Expected<Entry>,
+    expected: Expected<CalledEntry>,
 ) -> Result<(), LineError> {
     compare_call(report, what, alloc, expected, |out| {
-        answer_of_entry(text, k, out)
+        call_entry(text, k, out)
     })
 }
 
@@ -106,7 +84,7 @@ fn compare_no_entries(
     alloc: Global,
     line: &Line,
 ) -> Result<(), LineError> {
-    let refusal = line.head.refusal.unwrap_or(NO_SUCH_ENTRY);
+    let refusal = line.head.refusal.unwrap_or(Refusal::NoSuchEntry);
     for k in [line.entries.len(), usize::MAX] {
         let expected = Expected {
             answer: Err(refusal),
@@ -120,7 +98,7 @@ fn compare_no_entries(
 
 // The verdict on the text as a name.
 fn compare_clear(report: &mut Report<Compared>, line: &Line) {
-    let verdict = is_clear(line.head.text.as_slice()).map_err(u8::from);
+    let verdict = is_clear(line.head.text.as_slice());
     report.count(Compared::IsClear, verdict == line.clear);
 }
 

@@ -1,16 +1,14 @@
 // The longest sheet, with the most entries: 32,768 times "7 ". No recorded line could hold a field for each entry.
 use crate::answers::{compare_entry, compare_sheet};
 use crate::compared::Compared;
-use crate::line::{Entry, Sheet};
+use calls::{CalledEntry, CalledSheet};
 use recorded::buffer::Expected;
 use recorded::fields::LineError;
 use recorded::tally::Report;
+use rows::{Entry, Row};
 use std::alloc::Global;
 
 const ENTRIES: usize = 32_768;
-
-// The row of digits.
-const DIGITS: usize = 7;
 
 const FIRST: &[u8] = b"+ seven\n";
 
@@ -23,9 +21,8 @@ fn compare_seven(
     k: usize,
     line: &[u8],
 ) -> Result<(), LineError> {
-    let entry = Entry {
-        row: DIGITS,
-        sign: 0,
+    let entry = CalledEntry {
+        entry: Entry { row: Row::Digits },
         words: 1,
         bytes: line.len(),
     };
@@ -44,7 +41,7 @@ pub fn compare_limit(alloc: Global) -> Result<Report<Compared>, LineError> {
     for _ in 1..ENTRIES {
         lines.extend_from_slice(OTHER)?;
     }
-    let called = Sheet {
+    let called = CalledSheet {
         tokens: ENTRIES,
         words: ENTRIES,
         bytes: lines.len(),

@@ -1,36 +1,35 @@
 // A line of calls.txt: a text, the verdict on it as a name, the whole sheet's call, and a field for each entry.
+use admit::Refusal;
+use calls::{CalledEntry, CalledSheet};
 use recorded::fields::{Answer, LineError, answer, fields, flag, number, refusal, unhex};
 use recorded::head::{Head, LONGEST};
+use rows::{Entry, Row, Sign};
 use std::alloc::Global;
 
-// The refusal of a name that is too long.
-const NAME_TOO_LONG: u8 = 4;
-
-// What the call of a sheet gives.
-#[derive(Clone, Copy, Debug, Default, PartialEq, Eq)]
-pub struct Sheet {
-    pub tokens: usize,
-    pub words: usize,
-    pub bytes: usize,
-}
-
-// What the call of an entry gives.
-#[derive(Clone, Copy, Debug, Default, PartialEq, Eq)]
-pub struct Entry {
-    pub row: usize,
-    pub sign: usize,
-    pub words: usize,
-    pub bytes: usize,
-}
+const ROWS: [Row; 13] = [
+    Row::Empty,
+    Row::Dotted,
+    Row::CommaInt,
+    Row::Time,
+    Row::Meridiem,
+    Row::LeadingZero,
+    Row::Digits,
+    Row::Figure(Sign::Plus),
+    Row::Figure(Sign::Minus),
+    Row::Ordinal,
+    Row::Percent,
+    Row::Unit,
+    Row::OneWord,
+];
 
 // `lines` are those of all entries, end to end.
 #[derive(Drop)]
 pub struct Line {
     pub head: Head,
     pub clear: Answer<bool>,
-    pub sheet: Answer<Sheet>,
+    pub sheet: Answer<CalledSheet>,
     pub lines: Vec<u8>,
-    pub entries: Vec<Answer<Entry>>,
+    pub entries: Vec<Answer<CalledEntry>>,
 }
 
 // Puts a piece of lines: a count, and the bytes in hex that are repeated so many times.
@@ -61,24 +60,38 @@ fn lines_of(alloc: Global, field: &[u8]) -> Result<Vec<u8>, LineError> {
     Ok(lines)
 }
 
-impl Entry {
-    fn parse(alloc: Global, field: &[u8]) -> Result<Answer<Entry>, LineError> {
-        let parts = fields(alloc, field, b' ')?;
-        let [number_of_refusal, row, sign, words, bytes] = parts.as_slice() else {
-            return Err(LineError::Malformed);
-        };
-        let entry = Entry {
-            row: number(row)?,
-            sign: number(sign)?,
-            words: number(words)?,
-            bytes: number(bytes)?,
-        };
-        answer(refusal(number_of_refusal)?, entry)
-    }
+// The row with this number and, 0 for none, this number of its sign.
+fn row_of(row: usize, sign: usize) -> Result<Row, LineError> {
+    ROWS.into_iter()
+        .find(|found| {
+            usize::from(u8::from(*found)) == row
+                && found.sign().map_or(0, |sign| usize::from(u8::from(sign))) == sign
+        })
+        .ok_or(LineError::Malformed)
+}
+
+// An entry's answer: refusal, row, sign, words and bytes.
+fn parse_entry(alloc: Global, field: &[u8]) -> Result<Answer<CalledEntry>, LineError> {
+    let parts = fields(alloc, field, b' ')?;
+    let [number_of_refusal, row, sign, words, bytes] = parts.as_slice() else {
+        return Err(LineError::Malformed);
+    };
+    let numbers = [number(row)?, number(sign)?, number(words)?, number(bytes)?];
+    let numbers = match answer(refusal(number_of_refusal)?, numbers)? {
+        Ok(numbers) => numbers,
+        Err(refusal) => return Ok(Err(refusal)),
+    };
+    let [row, sign, words, bytes] = numbers;
+    let row = row_of(row, sign)?;
+    Ok(Ok(CalledEntry {
+        entry: Entry { row },
+        words,
+        bytes,
+    }))
 }
 
 // The bytes of an entry's line.
-pub fn bytes_in(entry: Answer<Entry>) -> usize {
+pub fn bytes_in(entry: Answer<CalledEntry>) -> usize {
     entry.map_or(0, |entry| entry.bytes)
 }
 
@@ -93,24 +106,23 @@ impl Line {
             return Err(LineError::Malformed);
         };
         let lines = lines_of(alloc, pieces)?;
-        let counts = Sheet {
-            tokens: number(tokens)?,
-            words: number(words)?,
-            bytes: 0,
-        };
+        let counts = [number(tokens)?, number(words)?];
         let bytes = lines.len();
         let head = Head::parse(alloc, fields(alloc, head, b' ')?.as_slice())?;
         Ok(Line {
             clear: answer(head.refusal, flag(clear)?)?,
             head,
-            sheet: answer(refusal(number_of_refusal)?, counts)?.map(|counts| Sheet {
-                bytes,
-                ..counts
+            sheet: answer(refusal(number_of_refusal)?, counts)?.map(|[tokens, words]| {
+                CalledSheet {
+                    tokens,
+                    words,
+                    bytes,
+                }
             }),
             lines,
             entries: entries
                 .iter()
-                .map(|entry| Entry::parse(alloc, entry))
+                .map(|entry| parse_entry(alloc, entry))
                 .try_collect(alloc)?,
         })
     }
@@ -127,7 +139,7 @@ impl Line {
     fn has_all_entries(&self) -> bool {
         match (self.head.refusal, self.sheet) {
             (None, Ok(sheet)) => sheet.tokens == self.entries.len(),
-            (None, Err(refusal)) => refusal == NAME_TOO_LONG,
+            (None, Err(refusal)) => refusal == Refusal::NameTooLong,
             (Some(refusal), sheet) => sheet == Err(refusal) && self.entries.is_empty(),
         }
     }

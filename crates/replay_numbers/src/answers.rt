@@ -2,7 +2,7 @@
 use crate::compared::Compared;
 use crate::line::{Line, READINGS, Reading};
 use admit::Refusal;
-use recorded::buffer::{BUFFER_TOO_SHORT, GUARD, Room, has_just};
+use recorded::buffer::{GUARD, Room, has_just};
 use recorded::fields::LineError;
 use recorded::tally::Report;
 use std::alloc::Global;
@@ -45,10 +45,11 @@ impl Reading {
             text,
             store_room.of(bytes.len(), usize::MAX, store),
             table_room.of(pairs.len(), usize::MAX, table),
-        )
-        .map_err(u8::from);
+        );
         if store_room.is_short(bytes.len()) || table_room.is_short(pairs.len()) {
-            return answer == Err(BUFFER_TOO_SHORT) && has_just(store, b"") && has_just(table, b"");
+            return answer == Err(Refusal::BufferTooShort)
+                && has_just(store, b"")
+                && has_just(table, b"");
         }
         answer == self.answer && has_just(store, bytes) && has_just(table, pairs)
     }
@@ -78,7 +79,7 @@ pub fn compare_readings(
 }
 
 fn compare_roman(report: &mut Report<Compared>, line: &Line) {
-    let answer = numbers::roman_value(line.head.text.as_slice()).map_err(u8::from);
+    let answer = numbers::roman_value(line.head.text.as_slice());
     report.count(Compared::RomanValue, answer == line.roman_value);
 }
 

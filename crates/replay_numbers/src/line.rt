@@ -1,6 +1,6 @@
 // A line of numbers.txt: a text, a field for each reading that gives words, and the value of the roman numeral.
 use crate::words::Words;
-use recorded::buffer::BUFFER_TOO_SHORT;
+use admit::Refusal;
 use recorded::fields::{Answer, LineError, answer, fields, number};
 use recorded::head::Head;
 use std::alloc::Global;
@@ -9,7 +9,7 @@ use word_writer::WordCounts;
 // The readings that give words.
 pub const READINGS: usize = 6;
 
-// What a reading is to answer: the words, or a refusal's number and no words.
+// What a reading is to answer: the words, or a refusal and no words.
 #[derive(Drop)]
 pub struct Reading {
     pub answer: Answer<WordCounts>,
@@ -24,19 +24,19 @@ pub struct Line {
 }
 
 impl Reading {
-    pub fn new(refusal: Option<u8>, words: Words) -> Reading {
+    pub fn new(refusal: Option<Refusal>, words: Words) -> Reading {
         let answer = match refusal {
             None => Ok(words.counts()),
-            Some(number) => Err(number),
+            Some(refusal) => Err(refusal),
         };
         Reading { answer, words }
     }
 
     // A single backslash stands for a field that was left out, because it would have more words than the table has room for.
-    fn parse(alloc: Global, refusal: Option<u8>, field: &[u8]) -> Result<Reading, LineError> {
+    fn parse(alloc: Global, refusal: Option<Refusal>, field: &[u8]) -> Result<Reading, LineError> {
         let mut words = Words::new(alloc);
         if field == b"\\".as_slice() {
-            return Ok(Reading::new(Some(BUFFER_TOO_SHORT), words));
+            return Ok(Reading::new(Some(Refusal::BufferTooShort), words));
         }
         words.put(field)?;
         Ok(Reading::new(refusal, words))

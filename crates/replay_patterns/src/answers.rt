@@ -1,9 +1,8 @@
 // The answers of the crate patterns for one text, each compared with the recorded one.
 use crate::compared::Compared;
 use crate::line::{Line, SHAPES};
-use admit::Refusal;
-use recorded::buffer::{BUFFER_TOO_SHORT, GUARD, ROOMS, Room, has_just};
-use recorded::fields::LineError;
+use recorded::buffer::{Expected, GUARD};
+use recorded::fields::{Answer, LineError};
 use recorded::tally::Report;
 use std::alloc::Global;
 use std::iter;
@@ -12,33 +11,7 @@ use std::iter;
 const STORE: usize = 16;
 
 // A call about a text's shape.
-type IsShape = fn(&[u8]) -> Result<bool, Refusal>;
-
-// Compares a verdict: the refusal, and yes or no. A refused call's verdict is no.
-fn compare_verdict(
-    report: &mut Report<Compared>,
-    what: Compared,
-    line: &Line,
-    verdict: Result<bool, Refusal>,
-    wanted: u8,
-) {
-    let given = if verdict.unwrap_or(false) { b'1' } else { b'0' };
-    report.count(what, verdict.err().map(u8::from) == line.head.refusal);
-    report.count(what, given == wanted);
-}
-
-// Compares a call's refusal, and each of its numbers.
-fn compare_numbers(
-    report: &mut Report<Compared>,
-    what: Compared,
-    given: (Option<u8>, &[usize]),
-    wanted: (Option<u8>, &[usize]),
-) {
-    report.count(what, given.0 == wanted.0);
-    for (given, wanted) in given.1.iter().zip(wanted.1) {
-        report.count(what, given == wanted);
-    }
-}
+type IsShape = fn(&[u8]) -> Answer<bool>;
 
 // The sixteen shapes.
 fn compare_shapes(report: &mut Report<Compared>, line: &Line) {
@@ -69,9 +42,8 @@ fn compare_shapes(report: &mut Report<Compared>, line: &Line) {
             patterns::is_digits_dash_digits,
         ),
     ];
-    for ((what, is_shape), wanted) in shapes.into_iter().zip(line.verdicts) {
-        let verdict = is_shape(line.head.text.as_slice());
-        compare_verdict(report, what, line, verdict, *wanted);
+    for ((what, is_shape), wanted) in shapes.into_iter().zip(&line.verdicts) {
+        report.count(what, is_shape(line.head.text.as_slice()) == *wanted);
     }
 }
 
@@ -80,70 +52,24 @@ fn compare_digits(report: &mut Report<Compared>, line: &Line) {
     let text = line.head.text.as_slice();
     let counts = (0..=9).chain(iter::once(text.len()));
     for (n, wanted) in counts.zip(line.verdicts.iter().skip(SHAPES)) {
-        let verdict = patterns::is_n_digits(text, n);
-        compare_verdict(report, Compared::IsNDigits, line, verdict, *wanted);
+        report.count(
+            Compared::IsNDigits,
+            patterns::is_n_digits(text, n) == *wanted,
+        );
     }
 }
 
-fn compare_time(report: &mut Report<Compared>, line: &Line) {
-    let answer = patterns::split_time_meridiem(line.head.text.as_slice());
-    let split = answer.unwrap_or(None);
-    let given = split.map_or(
-        [0; 4],
-        |split| [1, split.hour, split.minute, split.meridiem],
-    );
-    compare_numbers(
-        report,
-        Compared::SplitTimeMeridiem,
-        (answer.err().map(u8::from), &given),
-        (line.head.refusal, &line.time),
-    );
-}
-
-fn compare_unit(report: &mut Report<Compared>, line: &Line) {
-    let answer = patterns::split_unit(line.head.text.as_slice());
-    let part = answer.unwrap_or(None);
-    let given = part.map_or([0; 3], |part| [1, part.offset, part.len]);
-    compare_numbers(
-        report,
-        Compared::SplitUnit,
-        (answer.err().map(u8::from), &given),
-        (line.head.refusal, &line.unit),
-    );
-}
-
-// The word with this room, and the whole store after the call, also past the room.
-fn compare_word_in(report: &mut Report<Compared>, line: &Line, room: Room) {
-    let word = line.word.as_slice();
-    let mut store = [GUARD; STORE];
-    let answer = patterns::unit_word(
-        line.head.text.as_slice(),
-        room.of(word.len(), STORE, &mut store),
-    );
-    let given = answer.unwrap_or(None).map_or([0; 2], |len| [1, len]);
-    let is_short = room.is_short(word.len());
-    let wanted = if is_short {
-        (Some(BUFFER_TOO_SHORT), [0; 2])
-    } else {
-        (line.head.refusal, line.word_found)
-    };
-    compare_numbers(
-        report,
-        Compared::UnitWord,
-        (answer.err().map(u8::from), &given),
-        (wanted.0, &wanted.1),
-    );
-    let written = if is_short { b"" } else { word };
-    report.count(Compared::UnitWord, has_just(&store, written));
-}
-
-// Without a word the call is made once, with room to spare.
+// The unit's word in every room.
 fn compare_word(report: &mut Report<Compared>, line: &Line) {
-    for room in ROOMS {
-        if room == Room::Spare || !line.word.is_empty() {
-            compare_word_in(report, line, room);
-        }
-    }
+    let text = line.head.text.as_slice();
+    let expected = Expected {
+        answer: line.word_len,
+        bytes: line.word.as_slice(),
+    };
+    let mut store = [GUARD; STORE];
+    expected.compare(report, Compared::UnitWord, STORE, &mut store, |store| {
+        patterns::unit_word(text, store)
+    });
 }
 
 // Every answer for the text of a line, compared with the line.
@@ -152,8 +78,12 @@ pub fn compare_line(alloc: Global, line: &[u8]) -> Result<Report<Compared>, Line
     let mut report = Report::new();
     compare_shapes(&mut report, &line);
     compare_digits(&mut report, &line);
-    compare_time(&mut report, &line);
-    compare_unit(&mut report, &line);
+    let text = line.head.text.as_slice();
+    report.count(
+        Compared::SplitTimeMeridiem,
+        patterns::split_time_meridiem(text) == line.time,
+    );
+    report.count(Compared::SplitUnit, patterns::split_unit(text) == line.unit);
     compare_word(&mut report, &line);
     Ok(report)
 }

@@ -16,13 +16,13 @@ pub fn compare_calls(report: &mut Report<Compared>, line: &Line) {
         bytes: line.table.as_slice(),
     };
     tokens.compare(report, Compared::Tokenize, BUFFER, &mut buffer, |table| {
-        tokens::tokenize(text, table).map_err(u8::from)
+        tokens::tokenize(text, table)
     });
     let starts = Expected {
         answer,
         bytes: line.starts.as_slice(),
     };
     starts.compare(report, Compared::Sentences, BUFFER, &mut buffer, |starts| {
-        sentences::sentences(text, starts).map_err(u8::from)
+        sentences::sentences(text, starts)
     });
 }

@@ -5,9 +5,6 @@ use admit::Refusal;
 use recorded::tally::Report;
 use sentences::{State, Step};
 
-// The refusal of a text that is no UTF-8.
-const NOT_UTF8: u8 = 2;
-
 // A place of a text in a step.
 #[derive(Clone, Copy, Debug, PartialEq, Eq)]
 enum Place {
@@ -43,11 +40,11 @@ fn step_in(place: Place, state: State, text: &[u8], other: &[u8]) -> Result<Step
     }
 }
 
-// Whether the step is refused with that number. Without one, whether it is accepted and its state is no longer fresh.
-fn agrees(refusal: Option<u8>, step: Result<Step, Refusal>) -> bool {
+// Whether the step is refused so. Without a refusal, whether it is accepted and its state is no longer fresh.
+fn agrees(refusal: Option<Refusal>, step: Result<Step, Refusal>) -> bool {
     match step {
         Ok(step) => refusal.is_none() && step.state.fresh == 0,
-        Err(given) => refusal == Some(u8::from(given)),
+        Err(given) => refusal == Some(given),
     }
 }
 
@@ -57,7 +54,7 @@ fn compare_from(report: &mut Report<Compared>, line: &Line, state: State, other:
     let refusal = if other.is_empty() {
         line.head.refusal
     } else {
-        line.head.refusal.or(Some(NOT_UTF8))
+        line.head.refusal.or(Some(Refusal::NotUtf8))
     };
     for place in PLACES {
         let step = step_in(place, state, line.head.text.as_slice(), other);
