@@ -1,23 +1,25 @@
 -- No other text has the key of an abbreviation, the vocabulary has each word, and a look-up goes row by row. Assumes nothing.
 use mathlib.Core.Path.{◌≡◌, refl, sym, ap, ◌∙◌}
-use mathlib.Core.Bool.{Bool, true, false, cond, not, ◌&&◌, ◌||◌, and-eq-true_iff}
+use mathlib.Core.Bool.{Bool, true, false, cond, not, ◌&&◌, ◌||◌, and-eq-true_iff, true≢false}
 use mathlib.Core.List.{List, [], ◌∷◌, map}
 use Prim.Native.Nat.{ℕ, suc, ◌+◌, ◌*◌, ◌≤◌, ◌<◌, ◌%◌}
 use native.Mathlib.Nat.{mod-eq_of_lt, add-mul-mod_self_left, eq_of_mul-eq-mul_left}
 use native.Mathlib.Omega.{arith}
 use lib.Dec.{leb, ltb, eqb, leb-suc-suc}
 use lib.ListN.{length, get_or, get_or-eq_default}
-use borrow.Author.Tests.{lt-ltb, le-leb, lt-leb, leb-true, leb-false, eq-eqb, ne_eqb, eqb-true, eqb-false, ltb-true}
+use borrow.Author.Tests.{lt-ltb, le-leb, lt-leb, leb-true, eq-eqb, ne_eqb, eqb-true, eqb-false, ltb-true}
+use Rattle.std.specs.Int.{w32, from_le_bytes}
 use Rattle.std.specs.List.{position, position_or_len}
 use Rattle.std.specs.Option.{is_some}
 use Rattle.std.proofs.Common.{Some, None}
+use Rattle.std.proofs.lemmas.Option.{cond_some}
 use Rattle.lists.specs.Bytes.{all, any, same, same_by, listed}
 use Rattle.lists.specs.LittleEndian.{le_value}
 use Rattle.lists.proofs.Scan.{same_long}
 use Rattle.lists.proofs.Table.{below, same_true}
 use Rattle.vocabulary.specs.Vocabulary.{word_of}
 use Rattle.vocabulary.proofs.Laws.{unfold_vocabulary}
-use Rattle.units.specs.Units.{unit_abbreviations, abbreviations, unit_words, index_of, unit_index, is_unit, unit_row, unit_word, unit_key, unit_keys, word_numbers}
+use Rattle.units.specs.Units.{unit_abbreviations, abbreviations, unit_words, index_of, unit_index, is_unit, unit_row, unit_word, key, unit_key, unit_keys, word_numbers}
 
 -- two numbers, each a lowest digit and a rest, are equal exactly if the digits are equal and the rests are
 digit_same : (n b c v w : ℕ) → b < n → c < n → eqb (b + n * v) (c + n * w) ≡ eqb b c && eqb v w
@@ -30,6 +32,24 @@ digit_same n b c v w h g = go (eqb b c) (eqb v w) refl refl
     go true true p q = rw (eqb-true b c p, eqb-true v w q) (eq-eqb (c + n * w) (c + n * w) refl)
     go true false p q = ne_eqb (b + n * v) (c + n * w) (λ e. eqb-false v w q (eq_of_mul-eq-mul_left n (omega arith) v w (omega (arith, low e))))
     go false t p q = ne_eqb (b + n * v) (c + n * w) (λ e. eqb-false b c p (low e))
+
+-- the key of a text of 2 bytes, as the code reads it
+pub key_two : (u : List ℕ) → 2 ≤ length u → length u < 3 → Some (from_le_bytes w32 (2 ∷ get_or u 0 0 ∷ get_or u 1 0 ∷ 0 ∷ [])) ≡ unit_key u
+unfolding unit_key key le_value
+key_two [] h g = absurd (omega arith)
+key_two (a ∷ []) h g = absurd (omega arith)
+key_two (a ∷ b ∷ []) h g = ap Some (omega arith)
+key_two (a ∷ b ∷ c ∷ u) h g = absurd (omega arith)
+
+-- the key of a text of 3 bytes
+pub key_three : (u : List ℕ) → 3 ≤ length u → length u < 4
+    → Some (from_le_bytes w32 (3 ∷ get_or u 0 0 ∷ get_or u 1 0 ∷ get_or u 2 0 ∷ [])) ≡ unit_key u
+unfolding unit_key key le_value
+key_three [] h g = absurd (omega arith)
+key_three (a ∷ []) h g = absurd (omega arith)
+key_three (a ∷ b ∷ []) h g = absurd (omega arith)
+key_three (a ∷ b ∷ c ∷ []) h g = ap Some (omega arith)
+key_three (a ∷ b ∷ c ∷ d ∷ u) h g = absurd (omega arith)
 
 -- each element is a byte
 abbrev Bytes : List ℕ → Type 0
@@ -57,47 +77,45 @@ text_same a u p q = go (eqb (length a) (length u)) refl
     go true e = value_same a u p q (eqb-true (length a) (length u) e)
     go false e = sym (same_long _ a u (eqb-false (length a) (length u) e))
 
--- a text u has the key of a text a of 1 to 3 bytes exactly if u is a
-key_same : (a u : List ℕ) → 1 ≤ length a → length a ≤ 3 → bytesb a ≡ true → Bytes u → eqb (unit_key a) (unit_key u) ≡ same a u
-unfolding unit_key le_value
-key_same a u h l p q = rw (le-leb (length a) 3 l) (go (leb (length u) 3) refl)
-  where
-    go : (t : Bool) → leb (length u) 3 ≡ t → eqb (length a + 256 * le_value a) (cond t (length u + 256 * le_value u) 0) ≡ same a u
-    go true e = digit_same 256 (length a) (length u) (le_value a) (le_value u) (omega arith) (omega (arith, leb-true)) ∙ text_same a u p q
-    go false e = ne_eqb (length a + 256 * le_value a) 0 (λ z. omega arith) ∙ sym (same_long _ a u (λ z. omega (arith, leb-false)))
+-- the text has 2 or 3 bytes
+abbrev keyed : List ℕ → Bool
+keyed u = leb 2 (length u) && leb (length u) 3
 
--- the key of a text of up to 3 bytes, as the code computes it
-pub key_short : (u : List ℕ) → length u ≤ 3 → length u + 256 * (get_or u 0 0 + 256 * (get_or u 1 0 + 256 * get_or u 2 0)) ≡ unit_key u
-unfolding unit_key le_value
-key_short [] h = omega arith
-key_short (a ∷ []) h = omega arith
-key_short (a ∷ b ∷ []) h = omega arith
-key_short (a ∷ b ∷ c ∷ []) h = omega arith
-key_short (a ∷ b ∷ c ∷ d ∷ u) h = absurd (omega arith)
+-- of texts of 2 or 3 bytes, two have the same key exactly if they are the same
+key_same : (a u : List ℕ) → keyed a ≡ true → bytesb a ≡ true → keyed u ≡ true → Bytes u → eqb (key a) (key u) ≡ same a u
+unfolding key le_value
+key_same a u k p l q =
+    let x = (and-eq-true_iff (leb 2 (length a)) (leb (length a) 3)).0 k in
+    let y = (and-eq-true_iff (leb 2 (length u)) (leb (length u) 3)).0 l in
+    digit_same 256 (length a) (length u) (le_value a) (le_value u) (omega (arith, leb-true _ _ x.1)) (omega (arith, leb-true _ _ y.1))
+    ∙ text_same a u p q
 
--- the key of a longer text is 0
-pub key_long : (u : List ℕ) → 3 < length u → 0 ≡ unit_key u
-unfolding unit_key
-key_long u h = rw (lt-leb (length u) 3 h)
-
--- each abbreviation has 1 to 3 bytes
+-- an abbreviation: its bytes are such, and it has 2 or 3
 abbrev short_text : List ℕ → Bool
-short_text a = leb 1 (length a) && leb (length a) 3 && bytesb a
+short_text a = keyed a && bytesb a
 
 -- the first key that is the key of u stands where the first text that is u stands
-index_of_key : (u : List ℕ) (ss : List (List ℕ)) → Bytes u → all short_text ss ≡ true
-    → position_or_len (λ k. eqb k (unit_key u)) (map unit_key ss) ≡ index_of u ss
+index_of_key : (u : List ℕ) (ss : List (List ℕ)) → keyed u ≡ true → Bytes u → all short_text ss ≡ true
+    → position_or_len (λ k. eqb k (key u)) (map key ss) ≡ index_of u ss
 unfolding all index_of
-index_of_key u [] b t = refl
-index_of_key u (a ∷ ss) b t =
+index_of_key u [] l b t = refl
+index_of_key u (a ∷ ss) l b t =
     let x = (and-eq-true_iff (short_text a) (all short_text ss)).0 t in
-    let y = (and-eq-true_iff (leb 1 (length a) && leb (length a) 3) (bytesb a)).0 x.0 in
-    let z = (and-eq-true_iff (leb 1 (length a)) (leb (length a) 3)).0 y.0 in
-    rw (key_same a u (leb-true _ _ z.0) (leb-true _ _ z.1) y.1 b, index_of_key u ss b x.1) (go (same a u))
+    let y = (and-eq-true_iff (keyed a) (bytesb a)).0 x.0 in
+    rw (key_same a u y.0 y.1 l b, index_of_key u ss l b x.1) (go (same a u))
   where
     go : (t : Bool) → cond (not t) (1 + index_of u ss) 0 ≡ cond t 0 (suc (index_of u ss))
     go true = refl
     go false = omega arith
+
+-- a text of another length is none of them
+no_key : (u : List ℕ) (ss : List (List ℕ)) → keyed u ≡ false → all short_text ss ≡ true → listed u ss ≡ false
+unfolding all any
+no_key u [] l t = refl
+no_key u (a ∷ ss) l t =
+    let x = (and-eq-true_iff (short_text a) (all short_text ss)).0 t in
+    let y = (and-eq-true_iff (keyed a) (bytesb a)).0 x.0 in
+    rw (same_long _ a u (λ e. true≢false (rw e at (sym y.0) ∙ l)), no_key u ss l x.1) refl
 
 -- the word of row k is the one that the vocabulary has under its number
 has_word : ℕ → Bool
@@ -126,12 +144,22 @@ listed_index_of t (s ∷ ss) = go (same s t) (listed_index_of t ss)
 pub unit_in_table : (u : List ℕ) → is_unit u ≡ ltb (unit_index u) 22
 unit_in_table u = listed_index_of u abbreviations ∙ ap (ltb (unit_index u)) abbreviations_length
 
--- the row of a text is found by its key
-pub row_of_key : (u : List ℕ) → Bytes u → position (λ k. eqb k (unit_key u)) unit_keys ≡ unit_row u
-unfolding unit_row unit_keys abbreviations unit_abbreviations all
-row_of_key u b =
-    let e = index_of_key u abbreviations b refl in
-    rw (e, unit_in_table u)
+-- the row of a text with a key is found by that key
+pub row_of_key : (u : List ℕ) (k : ℕ) → Bytes u → Some k ≡ unit_key u → position (λ j. eqb j k) unit_keys ≡ unit_row u
+unfolding unit_key unit_row unit_keys abbreviations unit_abbreviations all
+row_of_key u k b e =
+    let x = cond_some (keyed u) (key u) k (sym e) in
+    let i = index_of_key u abbreviations x.0 b refl in
+    rw (← x.1, i, unit_in_table u)
+
+-- a text with no key has no row
+pub row_of_no_key : (u : List ℕ) → None ≡ unit_key u → None ≡ unit_row u
+unfolding unit_key unit_row abbreviations unit_abbreviations all
+row_of_no_key u e = go (keyed u) refl e
+  where
+    go : (t : Bool) → keyed u ≡ t → None ≡ cond t (Some (key u)) None → None ≡ unit_row u
+    go true l e = cc
+    go false l e = rw (no_key u abbreviations l refl) refl
 
 -- no abbreviation is empty
 pub empty_none : is_unit [] ≡ false

@@ -1,5 +1,5 @@
 -- patterns.rs, UNIT_ABBREVIATIONS, and its two look-ups. Definitions only.
-use Rattle.std.specs.Prelude.{Option, Some, None, Bool, cond, List, [], ◌∷◌, map, ℕ, suc, leb, length, get_or}
+use Rattle.std.specs.Prelude.{Option, Some, None, Bool, cond, ◌&&◌, List, [], ◌∷◌, map, ℕ, suc, leb, length, get_or}
 use Prim.Native.String.{String}
 use Rattle.lists.specs.Bytes.{bytes, same, listed}
 use Rattle.lists.specs.LittleEndian.{le_value}
@@ -52,13 +52,17 @@ unit_word u = get_or unit_words (unit_index u) []
 
 -- ---- no public promise is made of these
 
--- a number that is different for different texts of up to 3 bytes, and 0 for every longer text
-unfoldable pub unit_key : List ℕ → ℕ
-unit_key u = cond (leb (length u) 3) (le_value (length u ∷ u)) 0
+-- the length and the bytes of a text in one number
+unfoldable pub key : List ℕ → ℕ
+key u = le_value (length u ∷ u)
+
+-- a number that is different for different texts of 2 or 3 bytes, and none for a text of another length
+unfoldable pub unit_key : List ℕ → Option ℕ
+unit_key u = cond (leb 2 (length u) && leb (length u) 3) (Some (key u)) None
 
 -- the abbreviations as the code holds them: their keys
 unfoldable pub unit_keys : List ℕ
-unit_keys = map unit_key abbreviations
+unit_keys = map key abbreviations
 
 -- the words as the code holds them: their numbers in the vocabulary
 unfoldable pub word_numbers : List ℕ

@@ -4,9 +4,8 @@
 ghost use Rattle.std.specs.Prelude.{◌≡◌, ◌==◌, position, get_or};
 ghost use Rattle.units.specs.Units.{unit_row, unit_key, word_numbers};
 
-use lists::byte_at;
-
-// The key of each row's abbreviation. The keys are a table of their own, because the compiler makes a search tree of their search.
+// The key of each row's abbreviation. The keys are a table of their own, because the compiler makes a search tree of their
+// search.
 static UNIT_KEYS: [u32; 22] = [
     0x00424c02, // LB
     0x53424c03, // LBS
@@ -37,17 +36,17 @@ static WORD_NUMBERS: [usize; 22] = [
     0, 0, 0, 0, 1, 1, 2, 3, 4, 5, 6, 7, 8, 8, 8, 9, 10, 11, 12, 13, 14, 15,
 ];
 
-// The key of a text: its length and its bytes in one number, the length lowest; 0, which no row has, if there are more than 3 bytes.
-fn unit_key(u: &[u8]) -> u32
+// The key of a text: its length and its bytes in one number, the length lowest. Each row's text has 2 or 3 bytes, and no other
+// text has a key.
+#[tactic(auto, using(crate::proofs::Laws::key_two, crate::proofs::Laws::key_three), unfolding(crate::specs::Units::unit_key))]
+fn unit_key(u: &[u8]) -> Option<u32>
     ensures { result ≡ unit_key u.now }
 {
-    if 3 < u.len() {
-        return 0;
+    match u {
+        [a, b] => Some(u32::from_le_bytes([2, *a, *b, 0])),
+        [a, b, c] => Some(u32::from_le_bytes([3, *a, *b, *c])),
+        _ => None,
     }
-    let a = byte_at(u, 0) as u32;
-    let b = byte_at(u, 1) as u32;
-    let c = byte_at(u, 2) as u32;
-    (u.len() as u32) + 256 * (a + 256 * (b + 256 * c))
 }
 
 // Where the first of the keys is that equals `key`. A function by itself, since what it finds is then said of any keys.
@@ -61,7 +60,7 @@ fn first_equal(key: u32, keys: &[u32]) -> Option<usize>
 pub fn unit_index(u: &[u8]) -> Option<usize>
     ensures { result ≡ unit_row u.now }
 {
-    first_equal(unit_key(u), &UNIT_KEYS)
+    first_equal(unit_key(u)?, &UNIT_KEYS)
 }
 
 // The number, in the vocabulary, of row k's word; 0 if there is no row k, for which no caller asks. Rows 0 to 3 share a word, and
