@@ -7,7 +7,7 @@ use native.Mathlib.Nat.{add-zero}
 use native.Mathlib.Numerals.{add-one}
 use native.Mathlib.Omega.{arith}
 use lib.Dec.{eqb}
-use lib.ListN.{length, take, drop, get_or, length-drop, take-append-drop}
+use lib.ListN.{length, take, drop, get_or, get_or-eq_default, length-drop, take-append-drop}
 use lib.Seq.{drop-cons, take_all}
 use borrow.Author.Tests.{eqb-true, ne_eqb}
 use Rattle.lists.specs.Classes.{one_of}
@@ -59,6 +59,10 @@ same_long f [] [] n = absurd (n refl)
 same_long f [] (y ∷ ys) n = refl
 same_long f (x ∷ xs) [] n = refl
 same_long f (x ∷ xs) (y ∷ ys) n = rw (same_long f xs ys (λ e. n (ap suc e))) (and-false (eqb (f x) y))
+
+-- a read past the end gives 0
+pub get_or_past : (s : List ℕ) (i : ℕ) → length s ≤ i → 0 ≡ get_or s i 0
+get_or_past s i h = sym (get_or-eq_default s 0 h)
 
 -- what f gives of two texts joined is what it gives of each, joined
 abbrev pub ByParts : {A : Type 0} → (List ℕ → List A) → Type 0

@@ -14,6 +14,8 @@ use lib.ListN.{length, take, drop, get_or, set, length-set, drop_of_length-le}
 use lib.Seq.{sets, paste, sets-eq, set_out, take-nil, take_all, take-suc, take-append_seam, drop-append_seam}
 use lib.Seq.{length-take-le}
 use borrow.Rule.Slice.PartMut.{put_mid}
+use Rattle.std.proofs.lemmas.List.{length-map, get_or-map}
+use Rattle.std.proofs.Common.{get_or-take}
 use Rattle.std.proofs.lemmas.Slice.{put_mid-paste}
 use Rattle.lists.specs.Bytes.{overwrite}
 
@@ -89,13 +91,24 @@ sets_front l vs h = sets-eq vs l 0 (omega arith) ∙ rw zero-add
 pub overwrite_past : (new old : List ℕ) → (take (length new) (overwrite new old) ≡ new) × (drop (length new) (overwrite new old) ≡ drop (length new) old)
 overwrite_past new old = (take-append_seam new (drop (length new) old), drop-append_seam new (drop (length new) old))
 
--- if f is applied to each byte, the byte at i becomes f of it
-pub map_at : (f : ℕ → ℕ) (s : List ℕ) (i : ℕ) → i < length s → get_or (map f s) i 0 ≡ f (get_or s i 0)
-map_at f [] i h = absurd (omega arith)
-map_at f (b ∷ s) zero h = refl
-map_at f (b ∷ s) (suc i) h = map_at f s i (omega arith)
+-- a store of a text with f applied to each byte, as a loop makes it
+module _ (f : ℕ → ℕ) (old : List ℕ) (at : ℕ) (src : List ℕ) where
+  -- the first i bytes are stored
+  abbrev pub stored : ℕ → List ℕ
+  stored i = sets old at (take i (map f src))
 
--- f applied to each byte keeps the length
-pub map_length : (f : ℕ → ℕ) (s : List ℕ) → length (map f s) ≡ length s
-map_length f [] = refl
-map_length f (b ∷ s) = ap suc (map_length f s)
+  -- the loop runs over the n bytes for which there is room
+  module _ (n i : ℕ) (room : n ≡ min (length src) (length old - at)) where
+    -- the part that is stored has n bytes, and f keeps the length of the text
+    fits : (length (take n src) ≡ n) × (length (map f src) ≡ length src)
+    fits = (length-take-le n src (omega arith), length-map src f)
+
+    -- one more is stored
+    pub stored_more : i < length (take n src) → set (stored i) (at + i) (f (get_or (take n src) i 0)) ≡ stored (i + 1)
+    stored_more h =
+        rw (get_or-take n src i 0 (omega (arith, fits.0)), ← get_or-map f src i 0 0 (omega (arith, fits.0)))
+        (sets_take_suc old at (map f src) i (omega (arith, fits)) (length-take-le i (map f src) (omega (arith, fits))))
+
+    -- the loop ends, and all is stored
+    pub stored_all : i ≡ length (take n src) → stored i ≡ sets old at (map f src)
+    stored_all h = sets_min old at (map f src) i (omega (arith, fits))

@@ -1,4 +1,5 @@
--- Readings that read a shorter text again. Such a reading is one step, which is given the reader of shorter texts. Definitions only.
+-- Readings that read a shorter text again. Such a reading is one step, which is given the reader of shorter texts. Definitions
+-- only.
 use Rattle.std.specs.Prelude.{List, ℕ, zero, suc, length}
 
 unfoldable pub recur_at : {A : Type 0} → A → ((List ℕ → A) → List ℕ → A) → ℕ → List ℕ → A

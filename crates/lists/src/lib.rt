@@ -13,7 +13,7 @@ pub use class::{
     LetterE, Not, Postpunctuation, Prepunctuation, RomanTail, Whitespace,
 };
 
-// The byte at i, or 0 past the end.
+// The byte at i, or 0 past the end. It is no Option: past the end each caller goes on with a 0, and would write this `unwrap_or`.
 pub fn byte_at(s: &[u8], i: usize) -> u8
     ensures { result ≡ get_or s.now i 0 }
 {
@@ -100,7 +100,8 @@ pub fn span<C: ByteClass>(s: &[u8], class: C) -> usize
     s.iter().take_while(|b| class.contains(**b)).count()
 }
 
-// The place after the last byte of the class, 0 if there is none. It is no Option, because what stands before it is asked for.
+// The place after the last byte of the class, 0 if there is none.
+// It is no Option: 0 is the length of nothing, and of six callers three ask for the front of that length and one adds to it.
 pub fn last_end<C: ByteClass>(s: &[u8], class: C) -> usize
     ensures { result ≡ after_last (C.contains class) s.now }
 {
@@ -128,7 +129,8 @@ pub fn ends_equal_lowered(s: &[u8], t: &[u8]) -> bool
     t.len() <= s.len() && equal_lowered(back(s, t.len()), t)
 }
 
-// Stores src from index `at` on, as far as it falls within out. By `copy_from_slice` the library would need memmove besides memcpy.
+// Stores src from index `at` on, as far as it falls within out.
+// By index: `copy_from_slice` would need memmove besides memcpy, and nothing is known of elements after an adapter of `iter_mut`.
 pub fn put(out: &mut [u8], at: usize, src: &[u8])
     ensures { out.new ≡ sets out.old at src.now }
 {
@@ -138,7 +140,7 @@ pub fn put(out: &mut [u8], at: usize, src: &[u8])
     }
 }
 
-// Stores src, A to Z lowered, from index `at` on, as far as it falls within out.
+// Stores src, A to Z lowered, from index `at` on, as far as it falls within out. By index, as `put`.
 pub fn put_lowered(out: &mut [u8], at: usize, src: &[u8])
     ensures { out.new ≡ sets out.old at (map to_lower src.now) }
 {
