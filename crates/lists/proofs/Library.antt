@@ -5,13 +5,16 @@ use mathlib.Core.List.{List, [], ◌∷◌, reverse}
 use Prim.Native.Nat.{ℕ, suc, ◌+◌, ◌-◌}
 use native.Mathlib.Omega.{arith}
 use Rattle.std.proofs.lemmas.List.Recursion.{is_count_by}
-use lib.Dec.{eqb}
-use lib.ListN.{length, take}
+use lib.Dec.{eqb, ltb}
+use lib.ListN.{length, take, drop}
 use lib.Pointwise.{pointwise}
 use Rattle.std.proofs.lemmas.Bool.Decides.{nat_tests}
 use Rattle.std.specs.Char.{to_ascii_lowercase}
-use Rattle.std.specs.List.{list_all, count_by, prefix_len, zip}
-use Rattle.lists.specs.Bytes.{all, span, count_if, after_last, same_by, same, to_lower}
+use Rattle.std.specs.Prelude.{Option, Some, None}
+use Rattle.std.specs.Option.{option_map}
+use Rattle.std.specs.List.{list_all, count_by, prefix_len, zip, position}
+use Rattle.std.proofs.lemmas.Option.{cond_some}
+use Rattle.lists.specs.Bytes.{all, span, around, count_if, after_last, same_by, same, to_lower}
 use Rattle.std.proofs.lemmas.List.{length-reverse, reverse-reverse, reverse-append}
 use Rattle.std.proofs.lemmas.List.Folds.{length-prefix_len}
 use Rattle.lists.proofs.Scan.{last_snoc}
@@ -79,3 +82,34 @@ last_end_is p s =
 -- A to Z lowered
 pub lower_is : (b : ℕ) → to_ascii_lowercase b ≡ to_lower b
 lower_is b = grind (arith, nat_tests)
+
+-- what stands around the first byte that passes, by std's `position`
+pub around_at : (p : ℕ → Bool) (s : List ℕ) {o : Option ℕ} → o ≡ position p s
+    → around p s ≡ option_map {U = List ℕ × List ℕ} (λ i. (take i s, drop (i + 1) s)) o
+unfolding around
+around_at p s e = rw (e, span_is (λ b. not (p b)) s) (go (span (λ b. not (p b)) s) (ltb (span (λ b. not (p b)) s) (length s)))
+  where
+    go : (i : ℕ) (t : Bool) → cond {A = Option (List ℕ × List ℕ)} t (Some (take i s, drop (i + 1) s)) None
+        ≡ option_map {U = List ℕ × List ℕ} (λ i. (take i s, drop (i + 1) s)) (cond t (Some i) None)
+    go i true = refl
+    go i false = refl
+
+-- if there is such a byte, it stands where a scan over the others ends, and these are the parts around it
+pub around_some : (p : ℕ → Bool) (s : List ℕ) {a b : List ℕ} → Some (a, b) ≡ around p s
+    → (ltb (span (λ c. not (p c)) s) (length s) ≡ true) × (a ≡ take (span (λ c. not (p c)) s) s) × (b ≡ drop (span (λ c. not (p c)) s + 1) s)
+unfolding around
+around_some p s {a} {b} e =
+    let at = span (λ c. not (p c)) s in
+    let x = cond_some (ltb at (length s)) (take at s, drop (at + 1) s) (a, b) (sym e) in
+    (x.0, sym (ap (λ w. w.0) x.1), sym (ap (λ w. w.1) x.1))
+
+-- if there is none, a scan over the others goes to the end
+pub around_none : (p : ℕ → Bool) (s : List ℕ) → None ≡ around p s → ltb (span (λ c. not (p c)) s) (length s) ≡ false
+unfolding around
+around_none p s e = go (ltb (span (λ c. not (p c)) s) (length s)) refl e
+  where
+    go : (t : Bool) → ltb (span (λ c. not (p c)) s) (length s) ≡ t
+        → ◌≡◌ {A = Option (List ℕ × List ℕ)} None (cond t (Some (take (span (λ c. not (p c)) s) s, drop (span (λ c. not (p c)) s + 1) s)) None)
+        → ltb (span (λ c. not (p c)) s) (length s) ≡ false
+    go true t e = cc
+    go false t e = t

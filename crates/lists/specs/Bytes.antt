@@ -1,5 +1,5 @@
 -- Texts as lists of bytes: what the definitions of the other crates are written with. Definitions only.
-use Rattle.std.specs.Prelude.{Bool, true, false, cond, not, ◌&&◌, ◌||◌, List, [], ◌∷◌, ◌++◌, ℕ, suc, ◌+◌, ◌-◌, leb, eqb, length, take, drop, get_or}
+use Rattle.std.specs.Prelude.{Option, Some, None, Bool, true, false, cond, not, ◌&&◌, ◌||◌, List, [], ◌∷◌, ◌++◌, ℕ, suc, ◌+◌, ◌-◌, leb, ltb, eqb, length, take, drop, get_or}
 use Prim.Native.Char.{code}
 use Prim.Native.String.{String, [] as end, ◌∷◌ as ◌▹◌}
 
@@ -34,6 +34,10 @@ take_while p s = take (span p s) s
 
 abbrev pub drop_while : (ℕ → Bool) → List ℕ → List ℕ
 drop_while p s = drop (span p s) s
+
+-- what stands before the first byte that passes p and after it, if there is one
+unfoldable pub around : (ℕ → Bool) → List ℕ → Option (List ℕ × List ℕ)
+around p s = let at = span (λ b. not (p b)) s in cond (ltb at (length s)) (Some (take at s, drop (at + 1) s)) None
 
 -- the place after the last byte that passes p, 0 if none does
 unfoldable pub after_last : (ℕ → Bool) → List ℕ → ℕ

@@ -5,8 +5,9 @@
 mod class;
 
 ghost use Rattle.std.specs.Prelude.{◌≡◌, map, ◌-◌, length, take, drop, get_or};
+ghost use Rattle.std.specs.Option.{option_map};
 ghost use Rattle.std.proofs.lemmas.List.Edits.{sets};
-ghost use Rattle.lists.specs.Bytes.{all, span, count_if, after_last, same, same_by, to_lower, starts_with, ends_with, strip_prefix, strip_suffix, ends_with_by};
+ghost use Rattle.lists.specs.Bytes.{all, span, around, count_if, after_last, same, same_by, to_lower, starts_with, ends_with, strip_prefix, strip_suffix, ends_with_by};
 
 pub use class::{
     Ascii, Byte, ByteClass, ColonOrPoint, Continuation, Digit, DigitOrComma, DigitOrDash, Letter,
@@ -106,6 +107,14 @@ pub fn last_end<C: ByteClass>(s: &[u8], class: C) -> usize
     ensures { result ≡ after_last (C.contains class) s.now }
 {
     s.len() - s.iter().rev().take_while(|b| !class.contains(**b)).count()
+}
+
+// What stands before the first byte of the class and after it, if there is one.
+pub fn split_once<C: ByteClass>(s: &[u8], class: C) -> Option<(&[u8], &[u8])>
+    ensures { option_map (λ p. (p.0.now, p.1.now)) result ≡ around (C.contains class) s.now }
+{
+    let at = s.iter().position(|b| class.contains(*b))?;
+    Some((&s[..at], &s[at + 1..]))
 }
 
 // Whether t is s.

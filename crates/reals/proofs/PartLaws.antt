@@ -7,8 +7,11 @@ use Prim.Native.Char.{code}
 use native.Mathlib.Omega.{arith}
 use lib.ListN.{length, take, drop, get_or, drop_of_length-le}
 use lib.Seq.{take_all}
-use borrow.Author.Tests.{lt-ltb, le-ltb, eq-eqb, ne_eqb}
-use Rattle.lists.specs.Bytes.{bytes, starts_with}
+use borrow.Author.Tests.{ltb-false, eq-eqb, ne_eqb}
+use Rattle.std.specs.Prelude.{Some, None}
+use Rattle.lists.specs.Bytes.{bytes, around, starts_with}
+use Rattle.lists.specs.Classes.{letter_e, only}
+use Rattle.lists.proofs.Library.{around_some, around_none}
 use Rattle.lists.proofs.Scan.{starts_with_first}
 use Rattle.vocabulary.specs.Vocabulary.{word_of}
 use Rattle.vocabulary.proofs.Laws.{unfold_vocabulary}
@@ -20,21 +23,20 @@ use Rattle.reals.specs.Real.{point_at, e_at, pointed}
 use Rattle.reals.specs.Walk.{part_words, part_size, PartSaid}
 use Rattle.numerals.proofs.Said.{said_word, says_more}
 
--- n is the place of the first point, and what stands before it is said
-module _ (s : List ℕ) {n : ℕ} (e : n ≡ point_at s) {p q : Writer} (a : Says (spelled (cardinal (take n s))) p q) where
-  -- there is no point
-  pub pointed_whole : length s ≤ n → Says (spelled (pointed s)) p q
-  unfolding pointed
-  pointed_whole h = rw (← e, le-ltb n (length s) h, ← take_all n s h) a
+-- a text with no point is said whole
+pub pointed_whole : (s : List ℕ) → None ≡ around (only 46) s → {p q : Writer} → Says (spelled (cardinal s)) p q → Says (spelled (pointed s)) p q
+unfolding pointed
+pointed_whole s e a = rw (around_none (only 46) s e) a
 
-  -- the word "point" and what stands after it are said
-  pub pointed_parts : n < length s → {r t : Writer} → Says (word_of 85 ∷ []) q r → Says (spelled (digits (drop (n + 1) s))) r t
-      → Says (spelled (pointed s)) p t
-  unfolding pointed spell unfold_vocabulary
-  pointed_parts h b c =
-      rw (← e, lt-ltb n (length s) h)
-      (says_more (cardinal (take n s)) (other (bytes "point") ∷ digits (drop (n + 1) s)) refl a
-      (says_more (other (bytes "point") ∷ []) (digits (drop (n + 1) s)) refl (said_word (other (bytes "point")) b) c))
+-- of any other text the parts around the first point are said, with the word "point" between
+pub pointed_parts : (s : List ℕ) {w f : List ℕ} → Some (w, f) ≡ around (only 46) s → {p q r t : Writer} → Says (spelled (cardinal w)) p q
+    → Says (word_of 85 ∷ []) q r → Says (spelled (digits f)) r t → Says (spelled (pointed s)) p t
+unfolding pointed spell unfold_vocabulary
+pointed_parts s {w} {f} e a b c =
+    let x = around_some (only 46) s e in
+    rw (x.0, ← x.1, ← x.2)
+    (says_more (cardinal w) (other (bytes "point") ∷ digits f) refl a
+    (says_more (other (bytes "point") ∷ []) (digits f) refl (said_word (other (bytes "point")) b) c))
 
 -- a text starts with a byte exactly if that is its first byte
 starts_with_some : (c : ℕ) (s : List ℕ) → 0 < length s → get_or s 0 0 ≡ c → starts_with c s ≡ true
@@ -59,29 +61,30 @@ module _ (s : List ℕ) {p : Writer} where
         let m = starts_with_some (code "+") s l e in
         record { said = rw (n, m) (said_word (other (bytes "plus")) d); rest = rw (n, m) }
 
-  -- it starts with no sign. n is the place of the first "e", and the part before it is said
-  module _ (i : 0 < length s → get_or s 0 0 ≡ code "-" → ⊥) (j : 0 < length s → get_or s 0 0 ≡ code "+" → ⊥) {n : ℕ} (e : n ≡ e_at s)
-      {q : Writer} (d : Says (spelled (pointed (take n s))) p q) where
+  -- it starts with no sign
+  module _ (i : 0 < length s → get_or s 0 0 ≡ code "-" → ⊥) (j : 0 < length s → get_or s 0 0 ≡ code "+" → ⊥) where
     -- there is no "e", so this is the last part
-    pub part_last : length s ≤ n → PartSaid s p q (drop (n + 1) s)
+    pub part_last : None ≡ around letter_e s → {q : Writer} → Says (spelled (pointed s)) p q → PartSaid s p q []
     unfolding part_words part_size
-    part_last h =
+    part_last e d =
         let m = starts_with_none (code "-") s i in
         let k = starts_with_none (code "+") s j in
-        let l = le-ltb n (length s) h in
+        let l = around_none letter_e s e in
+        let n = ltb-false (e_at s) (length s) l in
         record {
-          said = rw (m, k, ← e, l, append-nil (pointed (take n s))) d;
-          rest = rw (m, k, ← e, l) (drop_of_length-le s (omega arith) ∙ sym (drop_of_length-le s h));
+          said = rw (m, k, l, append-nil (pointed (take (e_at s) s)), take_all (e_at s) s n) d;
+          rest = rw (m, k, l) (sym (drop_of_length-le s n));
         }
 
-    -- the word "e" is said too
-    pub part_e : n < length s → {r : Writer} → Says (word_of 88 ∷ []) q r → PartSaid s p r (drop (n + 1) s)
+    -- the part before the first "e" is said, and the word "e"
+    pub part_e : {a b : List ℕ} → Some (a, b) ≡ around letter_e s → {q r : Writer} → Says (spelled (pointed a)) p q → Says (word_of 88 ∷ []) q r
+        → PartSaid s p r b
     unfolding part_words part_size spell unfold_vocabulary
-    part_e h c =
+    part_e {a} {b} e d c =
         let m = starts_with_none (code "-") s i in
         let k = starts_with_none (code "+") s j in
-        let l = lt-ltb n (length s) h in
+        let x = around_some letter_e s e in
         record {
-          said = rw (m, k, ← e, l) (says_more (pointed (take n s)) (other (bytes "e") ∷ []) refl d (said_word (other (bytes "e")) c));
-          rest = rw (m, k, ← e, l);
+          said = rw (m, k, x.0, ← x.1) (says_more (pointed a) (other (bytes "e") ∷ []) refl d (said_word (other (bytes "e")) c));
+          rest = rw (m, k, x.0) x.2;
         }

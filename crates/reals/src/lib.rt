@@ -6,7 +6,7 @@ ghost use Rattle.numerals.specs.Words.{spelled};
 ghost use Rattle.reals.specs.Real.{pointed, real};
 ghost use Rattle.reals.specs.Walk.{PartSaid};
 
-use lists::{Byte, LetterE, Not, front, span, tail};
+use lists::{Byte, LetterE, split_once};
 use numerals::number::say_cardinal;
 use numerals::saying::{say, say_digits};
 use vocabulary::{E, MINUS, PLUS, POINT};
@@ -16,11 +16,13 @@ use word_writer::Writer;
 fn say_pointed(s: &[u8], out: &mut Writer)
     ensures { Says (spelled (pointed s.now)) out.old out.new }
 {
-    let at = span(s, Not(Byte(b'.')));
-    say_cardinal(front(s, at), out);
-    if at < s.len() {
-        say(POINT, out);
-        say_digits(tail(s, at + 1), out);
+    match split_once(s, Byte(b'.')) {
+        None => say_cardinal(s, out),
+        Some((whole, fraction)) => {
+            say_cardinal(whole, out);
+            say(POINT, out);
+            say_digits(fraction, out);
+        }
     }
 }
 
@@ -37,14 +39,17 @@ fn say_part<'a>(s: &'a [u8], out: &mut Writer) -> &'a [u8]
             say(PLUS, out);
             rest
         }
-        _ => {
-            let at = span(s, Not(LetterE));
-            say_pointed(front(s, at), out);
-            if at < s.len() {
-                say(E, out);
+        _ => match split_once(s, LetterE) {
+            None => {
+                say_pointed(s, out);
+                b""
             }
-            tail(s, at + 1)
-        }
+            Some((part, rest)) => {
+                say_pointed(part, out);
+                say(E, out);
+                rest
+            }
+        },
     }
 }
 

@@ -9,10 +9,10 @@ use lib.ListN.{length, take, drop, get_or, length-take, length-drop}
 use borrow.Author.Tests.{ne_eqb, ltb-true, leb-true, eqb-true, eqb-false, not-true}
 use Rattle.std.specs.Prelude.{Option, Some, None}
 use Rattle.std.specs.Option.{option_map}
-use Rattle.lists.specs.Bytes.{all, span, split, onto, non_empty}
+use Rattle.lists.specs.Bytes.{around, all, span, split, onto, non_empty}
 use Rattle.lists.specs.Classes.{only, digit, digit_or_comma, digit_or_dash, except}
 use Rattle.lists.proofs.Parts.{split_some, split_last}
-use Rattle.shapes.specs.Shapes.{is_digits, is_comma_groups, is_comma_int, is_n_digits, is_phone_parts, is_hour_minute, is_seven_digit_phone, is_time, around, split_once, unit_at, has_unit, split_unit, unit_part}
+use Rattle.shapes.specs.Shapes.{is_digits, is_comma_groups, is_comma_int, is_n_digits, is_phone_parts, is_hour_minute, is_seven_digit_phone, is_time, split_once, unit_at, has_unit, split_unit, unit_part}
 use Rattle.shapes.proofs.Parts.{split_around}
 use Rattle.units.specs.Units.{is_unit, unit_index, unit_row}
 use Rattle.units.proofs.Laws.{empty_none}

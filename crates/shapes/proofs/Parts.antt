@@ -18,12 +18,11 @@ use Rattle.std.specs.Slice.Iter.{split_rest, split_done, split_callee, split_ste
 use Rattle.std.proofs.lemmas.Bool.Decides.{nat_tests}
 use Rattle.std.proofs.lemmas.Iterator.{YieldsList}
 use Rattle.std.proofs.lemmas.Iterator.Splits.{YieldsList-from_slice_split}
-use Rattle.lists.specs.Bytes.{all, any, span, same, same_by, ends_with_by, split, onto, non_empty}
+use Rattle.lists.specs.Bytes.{all, any, span, around, same, same_by, ends_with_by, split, onto, non_empty}
 use Rattle.lists.specs.Classes.{except, only}
-use Rattle.lists.proofs.Library.{span_is}
 use Rattle.lists.proofs.Scan.{same_long}
 use Rattle.lists.proofs.Parts.{split_more, split_last}
-use Rattle.shapes.specs.Shapes.{around, split_once}
+use Rattle.shapes.specs.Shapes.{split_once}
 
 -- std's `split` gives the parts
 slice_split_lem : (c : ℕ) (s : List ℕ) → slice_split (λ b. eqb b c) s ≡ split c s
@@ -60,17 +59,6 @@ unfolding non_empty
 filter_lem [] = refl
 filter_lem ([] ∷ ps) = filter_lem ps
 filter_lem ((b ∷ p) ∷ ps) = rw (ne_eqb (suc (length p)) 0 (omega arith), filter_lem ps)
-
--- what stands around the first separator, by std's `position`
-pub around_at : (p : ℕ → Bool) (s : List ℕ) {o : Option ℕ} → o ≡ position p s
-    → around p s ≡ option_map {U = List ℕ × List ℕ} (λ i. (take i s, drop (i + 1) s)) o
-unfolding around
-around_at p s e = rw (e, span_is (λ b. not (p b)) s) (go (span (λ b. not (p b)) s) (ltb (span (λ b. not (p b)) s) (length s)))
-  where
-    go : (i : ℕ) (t : Bool) → cond {A = Option (List ℕ × List ℕ)} t (Some (take i s, drop (i + 1) s)) None
-        ≡ option_map {U = List ℕ × List ℕ} (λ i. (take i s, drop (i + 1) s)) (cond t (Some i) None)
-    go i true = refl
-    go i false = refl
 
 -- what a test of the parts before and after the first separator gives, and what the parts are, by what stands around it
 abbrev test_around : (List ℕ → List ℕ → Bool) → Option (List ℕ × List ℕ) → Bool

@@ -10,7 +10,8 @@ use lib.ListN.{length, take, drop}
 use lib.Seq.{take-take, length-take-le, take-nil}
 use borrow.Author.Tests.{ltb-true}
 use Rattle.lists.specs.Classes.{colon_or_point}
-use Rattle.shapes.specs.Shapes.{around, is_hour_minute}
+use Rattle.lists.specs.Bytes.{around}
+use Rattle.shapes.specs.Shapes.{is_hour_minute}
 use Rattle.shapes.specs.Times.{ends_in_meridiem, separator_at, time_of, parts_of_time, no_parts_of_time, time_parts, time_split, time_parts_at, SplitsTime}
 use Rattle.shapes.specs.declared.TimeSplit.{TimeSplit}
 

@@ -90,10 +90,6 @@ is_number_s s = leb 2 (length s) && ends_with (code "s") s && is_digits (take (l
 abbrev pub is_leading_zero_digits : List ℕ → Bool
 is_leading_zero_digits s = ltb 1 (length s) && starts_with (code "0") s && is_digits s
 
--- what stands before the first byte that passes p and after it, if there is one
-unfoldable pub around : (ℕ → Bool) → List ℕ → Option (List ℕ × List ℕ)
-around p s = let at = span (λ b. not (p b)) s in cond (ltb at (length s)) (Some (take at s, drop (at + 1) s)) None
-
 -- split_once(c): c stands in the text, and what stands before and after the first c passes the test `both`
 unfoldable pub split_once : ℕ → (List ℕ → List ℕ → Bool) → List ℕ → Bool
 split_once c both s = let at = span (except c) s in ltb at (length s) && both (take at s) (drop (at + 1) s)

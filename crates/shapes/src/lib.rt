@@ -3,14 +3,14 @@
 #![tactic(auto)]
 
 ghost use Rattle.std.specs.Prelude.{◌≡◌, length};
-ghost use Rattle.std.specs.Option.{option_copied, option_map};
+ghost use Rattle.std.specs.Option.{option_copied};
 ghost use Rattle.lists.specs.Bytes.{split, non_empty};
-ghost use Rattle.shapes.specs.Shapes.{is_digits, is_alpha, strip_sign, is_exponent, is_unsigned, is_double, is_comma_int, is_ordinal_suffix, is_ordinal, is_amount, is_us_money, is_illion, is_small_roman, is_roman, is_dr_or_st, is_number_s, is_leading_zero_digits, is_seven_digit_phone, is_n_digits, around, is_hour_minute, is_time, is_one_letter, is_dotted_abbrev, is_digits_slash_digits, is_digits_dash_digits, split_unit};
+ghost use Rattle.shapes.specs.Shapes.{is_digits, is_alpha, strip_sign, is_exponent, is_unsigned, is_double, is_comma_int, is_ordinal_suffix, is_ordinal, is_amount, is_us_money, is_illion, is_small_roman, is_roman, is_dr_or_st, is_number_s, is_leading_zero_digits, is_seven_digit_phone, is_n_digits, is_hour_minute, is_time, is_one_letter, is_dotted_abbrev, is_digits_slash_digits, is_digits_dash_digits, split_unit};
 ghost use Rattle.shapes.specs.Times.{ends_in_meridiem, SplitsTime};
 
 use lists::{
-    Byte, ByteClass, ColonOrPoint, Digit, DigitOrComma, DigitOrDash, Letter, RomanTail, all, back,
-    byte_at, ends_equal_lowered, ends_with, equal, equal_lowered, front, last_end, span,
+    Byte, ColonOrPoint, Digit, DigitOrComma, DigitOrDash, Letter, RomanTail, all, back, byte_at,
+    ends_equal_lowered, ends_with, equal, equal_lowered, front, last_end, span, split_once,
     starts_with, strip_prefix, strip_suffix, tail, without_back,
 };
 
@@ -82,14 +82,6 @@ pub fn is_double(s: &[u8]) -> bool
     ensures { result ≡ is_double s.now }
 {
     is_unsigned(strip_prefix(s, b'-'))
-}
-
-// What stands before the first byte of the class and after it, if there is one.
-fn split_once<C: ByteClass>(s: &[u8], separator: C) -> Option<(&[u8], &[u8])>
-    ensures { option_map (λ p. (p.0.now, p.1.now)) result ≡ around (C.contains separator) s.now }
-{
-    let at = s.iter().position(|b| separator.contains(*b))?;
-    Some((&s[..at], &s[at + 1..]))
 }
 
 // How many parts between the bytes c are not empty.

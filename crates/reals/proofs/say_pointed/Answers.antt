@@ -1,11 +1,9 @@
-use Rattle.std.proofs.Common.{arith}
 use Rattle.reals.proofs.PartLaws.{pointed_whole, pointed_parts}
 use Rattle.reals.proofs.say_pointed.Goals as goal
 
-pub returns-then-at-s : goal.returns-then-at-s
-returns-then-at-s c =
-    pointed_parts c.args.s.now c.span-at.ensures (rw c.front.ensures at c.say_cardinal.ensures) (omega arith) c.say.ensures
-    (rw c.tail.ensures at c.say_digits.ensures)
+pub returns-in-None : goal.returns-in-None
+returns-in-None c = pointed_whole c.args.s.now (rw c.in-None.is at c.split_once.ensures) c.say_cardinal.ensures
 
-pub returns-else-at-s : goal.returns-else-at-s
-returns-else-at-s c = pointed_whole c.args.s.now c.span-at.ensures (rw c.front.ensures at c.say_cardinal.ensures) (omega arith)
+pub returns-in-Some : goal.returns-in-Some
+returns-in-Some c =
+    pointed_parts c.args.s.now (rw c.in-Some.is at c.split_once.ensures) c.say_cardinal-in-Some.ensures c.say.ensures c.say_digits.ensures

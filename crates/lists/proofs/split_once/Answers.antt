@@ -3,8 +3,8 @@ use borrow.Author.Tests.{tests}
 use Rattle.std.proofs.lemmas.Iterator.{YieldsList-from_slice}
 use Rattle.std.proofs.lemmas.Iterator.Search.{position_from_yields_List}
 use Rattle.lists.proofs.Scan.{take_rest}
-use Rattle.shapes.proofs.Parts.{around_at}
-use Rattle.shapes.proofs.split_once.Goals as goal
+use Rattle.lists.proofs.Library.{around_at}
+use Rattle.lists.proofs.split_once.Goals as goal
 
 pub returns-in_err-at : goal.returns-in_err-at
 returns-in_err-at g c =
