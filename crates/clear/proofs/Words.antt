@@ -1,4 +1,5 @@
--- Words of two or more letters a to z: a word that alone is an answer of `cardinal` or `ordinal` stands in the tables. Assumes nothing.
+-- Words of two or more letters a to z: a word that alone is an answer of `cardinal` or `ordinal` stands in the tables. Assumes
+-- nothing.
 use mathlib.Core.Path.{◌≡◌, refl, sym, ◌∙◌}
 use mathlib.Core.Bool.{Bool, true, false, not, ◌&&◌, true≢false, and-eq-true_iff}
 use mathlib.Core.List.{List, [], ◌∷◌, map, cons-eq-cons, nil≢cons, cons≢nil}

@@ -5,7 +5,8 @@ ghost use Rattle.lists.specs.Bytes.{lowercase, drop_while, listed};
 ghost use Rattle.lists.specs.Classes.{except};
 ghost use Rattle.units.specs.Units.{abbreviations, unit_words, index_of};
 ghost use Rattle.clear.specs.Clear.{plain, suffix, suffix_for, table_words};
-ghost use Rattle.clear.specs.Test.{uppercase_or_point, is_exponent_clear, is_fraction_clear, is_figure_clear, is_number_clear, is_percent_clear, is_plain_time, is_time_clear, is_meridiem_clear, is_ordinal_clear, is_unit_clear, is_initials_clear, is_word_clear, is_clear};
+ghost use Rattle.clear.specs.Test.{uppercase_or_point, is_exponent_clear, is_fraction_clear, is_figure_clear, is_number_clear, is_percent_clear, is_plain_time};
+ghost use Rattle.clear.specs.Test.{is_time_clear, is_meridiem_clear, is_ordinal_clear, is_unit_clear, is_initials_clear, is_word_clear, is_clear};
 
 use lists::{
     Byte, ByteClass, Digit, Not, all, back, byte_at, ends_with, equal, front, last_end, span,

@@ -3,7 +3,8 @@
 #![tactic(auto)]
 
 ghost use Rattle.std.specs.Prelude.{◌≡◌, List, ℕ, ◌-◌, length};
-ghost use Rattle.shapes.specs.Shapes.{is_digits, is_alpha, is_double, is_comma_int, is_ordinal, is_us_money, is_illion, is_roman, is_dr_or_st, is_number_s, is_leading_zero_digits, is_seven_digit_phone, is_n_digits, is_time, is_dotted_abbrev, is_digits_slash_digits, is_digits_dash_digits};
+ghost use Rattle.shapes.specs.Shapes.{is_digits, is_alpha, is_double, is_comma_int, is_ordinal, is_us_money, is_illion, is_roman, is_dr_or_st};
+ghost use Rattle.shapes.specs.Shapes.{is_number_s, is_leading_zero_digits, is_seven_digit_phone, is_n_digits, is_time, is_dotted_abbrev, is_digits_slash_digits, is_digits_dash_digits};
 ghost use Rattle.patterns.specs.Calls.{as_verdict, verdict_call, time_call, as_offsets, offsets_call, as_unit, unit_call, as_unit_word, unit_word_call};
 ghost use Rattle.word_writer.specs.Words.{words_call, as_words};
 ghost use Rattle.numerals.specs.Words.{spelled};

@@ -10,7 +10,7 @@ ghost use Rattle.letters.specs.Walk.{char_span};
 use lists::{Continuation, span, tail};
 use word_writer::Writer;
 
-// The first character of s, and what follows it. Both are empty if s is empty.
+// The first character of s, and what follows it. Both are empty if s is empty: no Option, because the caller has tested that.
 fn split_first_char(s: &[u8]) -> (&[u8], &[u8])
     ensures char { result.0.now ≡ take (char_span s.now) s.now }
     ensures rest { result.1.now ≡ drop (char_span s.now) s.now }

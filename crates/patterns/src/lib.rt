@@ -1,8 +1,10 @@
-// The public functions of patterns.rs, in its order and under its names. Each takes all bytes, and answers its verdict or a refusal.
+// The public functions of patterns.rs, in its order and under its names. Each takes all bytes, and answers its verdict or a
+// refusal.
 #![tactic(auto)]
 
 ghost use Rattle.std.specs.Prelude.{◌≡◌};
-ghost use Rattle.shapes.specs.Shapes.{is_digits, is_alpha, is_double, is_comma_int, is_ordinal, is_us_money, is_illion, is_roman, is_dr_or_st, is_number_s, is_leading_zero_digits, is_seven_digit_phone, is_n_digits, is_time, is_dotted_abbrev, is_digits_slash_digits, is_digits_dash_digits};
+ghost use Rattle.shapes.specs.Shapes.{is_digits, is_alpha, is_double, is_comma_int, is_ordinal, is_us_money, is_illion, is_roman, is_dr_or_st};
+ghost use Rattle.shapes.specs.Shapes.{is_number_s, is_leading_zero_digits, is_seven_digit_phone, is_n_digits, is_time, is_dotted_abbrev, is_digits_slash_digits, is_digits_dash_digits};
 ghost use Rattle.patterns.specs.Calls.{as_verdict, verdict_call, as_time, time_call, as_offsets, offsets_call, as_unit, unit_call, as_unit_word, unit_word_call, as_stored, store_call};
 
 use admit::{Refusal, admit_text};
@@ -16,8 +18,8 @@ pub struct UnitPart {
     pub len: usize,
 }
 
-// Each verdict stays a function of its own. By a generic one each would still be a line, and a clause about the closure would come on
-// top.
+// Each verdict stays a function of its own. By a generic one each would still be a line, and a clause about the closure would
+// come on top.
 pub fn is_digits(s: &[u8]) -> Result<bool, Refusal>
     ensures { as_verdict result ≡ verdict_call s.now (is_digits s.now) }
 {

@@ -14,7 +14,8 @@ use Rattle.lists.specs.Classes.{digit, letter, digit_or_comma, not_colon_or_poin
 use Rattle.lists.proofs.Scan.{all_append, all_more, all_within, span_all, span_fails, all_span, all_split, all_at, class_apart}
 use Rattle.lists.proofs.Parts.{parts_fail, elem_span}
 use Rattle.lists.proofs.Bools.{or_true_left, or_true_right, or_true_elim}
-use Rattle.shapes.specs.Shapes.{is_digits, is_n_digits, is_alpha, is_one_letter, strip_sign, is_exponent, is_unsigned, is_comma_groups, is_hour_minute, is_ordinal_suffix, split_once, starts_char, is_dotted_abbrev, is_comma_int, is_time, is_double, is_ordinal}
+use Rattle.shapes.specs.Shapes.{is_digits, is_n_digits, is_alpha, is_one_letter, strip_sign, is_exponent, is_unsigned, is_comma_groups, is_hour_minute}
+use Rattle.shapes.specs.Shapes.{is_ordinal_suffix, split_once, starts_char, is_dotted_abbrev, is_comma_int, is_time, is_double, is_ordinal}
 use Rattle.shapes.specs.Times.{ends_in_meridiem, separator_at, time_of, is_meridiem_time}
 use Rattle.shapes.proofs.Laws.{digits_all, comma_none}
 use Rattle.rows.proofs.Laws.{ends_some}

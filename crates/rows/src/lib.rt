@@ -1,4 +1,5 @@
-// An entry's record: its row and, for row 8, its sign, with their numbers. Which row takes a name is a definition, in specs/Rows.antt.
+// An entry's record: its row and, for row 8, its sign, with their numbers. Which row takes a name is a definition, in
+// specs/Rows.antt.
 #![tactic(auto)]
 
 ghost use Rattle.std.specs.Prelude.{◌≡◌};
@@ -42,6 +43,7 @@ impl From<Sign> for u8 {
     }
 }
 
+// By a match, because `as` gives no number of an enum with a case that has a field.
 impl From<Row> for u8 {
     ghost from_gives = { λ row n. n ≡ row_number row };
 

@@ -15,9 +15,9 @@ abbrev pub corner_holds : VerdictCorner → Bool
 corner_holds (accepts shape s) = shape (bytes s)
 corner_holds (rejects shape s) = not (shape (bytes s))
 
--- "`is_double` takes one leading minus and no plus; "1." and ".5" pass, "." and "1e" don't. `is_us_money` passes "$,". `is_ordinal` passes
--- "1,,th". `is_digits_dash_digits` drops empty parts, so "-5-6" passes."; and, from the Rust, corners of shapes that have no form in
--- specs/Grammar.antt
+-- "`is_double` takes one leading minus and no plus; "1." and ".5" pass, "." and "1e" don't. `is_us_money` passes "$,".
+-- `is_ordinal` passes "1,,th". `is_digits_dash_digits` drops empty parts, so "-5-6" passes."; and, from the Rust, corners of
+-- shapes that have no form in specs/Grammar.antt
 unfoldable pub verdict_corners : List VerdictCorner
 verdict_corners =
     accepts is_double "-1" ∷ rejects is_double "--1" ∷ rejects is_double "+1" ∷ accepts is_double "1." ∷ accepts is_double ".5" ∷ rejects is_double "."

@@ -1,5 +1,5 @@
--- Shapes as forms of texts: each form says what the names that a shape takes are made of. proofs/Grammar.antt proves that the shape
--- takes exactly these names. Definitions only. Theorems use them, and contracts do not.
+-- Shapes as forms of texts: each form says what the names that a shape takes are made of. proofs/Grammar.antt proves that the
+-- shape takes exactly these names. Definitions only. Theorems use them, and contracts do not.
 use Rattle.std.specs.Prelude.{◌≡◌, Bool, true, false, ◌||◌, ℕ, ◌≤◌, ◌<◌, length, get_or}
 use mathlib.Core.List.{List, [], ◌∷◌, ◌++◌, map, flatten}
 use Prim.Native.Char.{code}

@@ -125,7 +125,7 @@ static WORDS: [&[u8]; 91] = [
     b"cent",
 ];
 
-// The word of a number; an empty text if there is none.
+// The word of a number; an empty text if there is none. It is no Option, because each caller's number has a word.
 pub fn word(k: usize) -> &'static [u8]
     ensures { result.now ≡ word_of k }
 {
