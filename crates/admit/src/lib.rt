@@ -15,19 +15,19 @@ pub const TEXT_LIMIT: usize = 65536;
 // A text of at most this many bytes is tested for ASCII byte by byte first.
 const SHORT_TEXT: usize = 12;
 
-// Why a call is held back (document 01, "Calls held back").
+// Why a call is held back (document 01, "Calls held back"), and its number.
 #[derive(Clone, Copy, Debug, PartialEq, Eq)]
 pub enum Refusal {
     // over-long sheet
-    TextTooLong,
+    TextTooLong = 1,
     // broken thread
-    NotUtf8,
+    NotUtf8 = 2,
     // no such carriage
-    NoSuchEntry,
+    NoSuchEntry = 3,
     // long entry
-    NameTooLong,
+    NameTooLong = 4,
     // short bar
-    BufferTooShort,
+    BufferTooShort = 5,
 }
 
 // Its number, from which C learns of it.
@@ -35,13 +35,7 @@ impl From<Refusal> for u8 {
     ghost from_gives = { λ refusal number. number ≡ refusal_number refusal };
 
     fn from(refusal: Refusal) -> u8 {
-        match refusal {
-            Refusal::TextTooLong => 1,
-            Refusal::NotUtf8 => 2,
-            Refusal::NoSuchEntry => 3,
-            Refusal::NameTooLong => 4,
-            Refusal::BufferTooShort => 5,
-        }
+        refusal as u8
     }
 }
 
