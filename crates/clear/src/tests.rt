@@ -9,8 +9,8 @@ ghost use Rattle.clear.specs.Test.{uppercase_or_point, is_exponent_clear, is_fra
 ghost use Rattle.clear.specs.Test.{is_time_clear, is_meridiem_clear, is_ordinal_clear, is_unit_clear, is_initials_clear, is_word_clear, is_clear};
 
 use lists::{
-    Byte, ByteClass, Digit, Not, all, back, byte_at, ends_with, equal, front, last_end, span,
-    starts_with, strip_prefix, tail, without_back,
+    Byte, ByteClass, Digit, Not, all, back, ends_with, equal, front, last_end, span, starts_with,
+    strip_prefix, tail, without_back,
 };
 use shapes::{is_digits, is_dotted_abbrev, is_leading_zero_digits, is_time, strip_sign};
 use units::{unit_index, word_number};
@@ -136,11 +136,11 @@ fn suffix_for(b: u8) -> &'static [u8]
 fn suffix(s: &[u8]) -> &'static [u8]
     ensures { result.now ≡ suffix s.now }
 {
-    let n = s.len();
-    if (1 < n) & (byte_at(s, n.saturating_sub(2)) == b'1') {
-        return b"th";
+    match s {
+        [.., b'1', _] => b"th",
+        [.., b] => suffix_for(*b),
+        [] => b"th",
     }
-    suffix_for(byte_at(s, n.saturating_sub(1)))
 }
 
 pub fn is_ordinal_clear(s: &[u8]) -> bool
