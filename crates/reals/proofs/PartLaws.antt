@@ -2,7 +2,7 @@
 use mathlib.Core.Path.{◌≡◌, refl, sym, ◌∙◌}
 use mathlib.Core.Bool.{true, false}
 use mathlib.Core.List.{List, [], ◌∷◌, append-nil}
-use Prim.Native.Nat.{ℕ, ◌+◌, ◌≤◌, ◌<◌}
+use Prim.Native.Nat.{ℕ, ◌<◌}
 use Prim.Native.Char.{code}
 use native.Mathlib.Omega.{arith}
 use lib.ListN.{length, take, drop, get_or, drop_of_length-le}
@@ -19,7 +19,7 @@ use Rattle.word_writer.specs.Writer.{Says}
 use Rattle.word_writer.specs.declared.Writer.{Writer}
 use Rattle.numerals.specs.Words.{other, spell, spelled}
 use Rattle.numerals.specs.Cardinal.{cardinal, digits}
-use Rattle.reals.specs.Real.{point_at, e_at, pointed}
+use Rattle.reals.specs.Real.{e_at, pointed}
 use Rattle.reals.specs.Walk.{part_words, part_size, PartSaid}
 use Rattle.numerals.proofs.Said.{said_word, says_more}
 

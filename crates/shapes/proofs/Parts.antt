@@ -11,7 +11,7 @@ use denote.Param.Members.{Mut}
 use denote.Ref.{Bor}
 use Rattle.std.specs.Prelude.{Option, Some, None}
 use Rattle.std.specs.Fn.{CalledAt}
-use Rattle.std.specs.List.{slice_split, onto_first, list_all, list_any, filter, position}
+use Rattle.std.specs.List.{slice_split, onto_first, list_all, list_any, filter}
 use lib.Pointwise.{pointwise}
 use Rattle.std.specs.Option.{option_map, MatchOption}
 use Rattle.std.specs.Slice.Iter.{split_rest, split_done, split_callee, split_steps}

@@ -7,7 +7,7 @@ use native.Mathlib.Nat.{mod-eq_of_lt, add-mul-mod_self_left, eq_of_mul-eq-mul_le
 use native.Mathlib.Omega.{arith}
 use lib.Dec.{leb, ltb, eqb, leb-suc-suc}
 use lib.ListN.{length, get_or, get_or-eq_default}
-use borrow.Author.Tests.{lt-ltb, le-leb, lt-leb, leb-true, eq-eqb, ne_eqb, eqb-true, eqb-false, ltb-true}
+use borrow.Author.Tests.{lt-ltb, leb-true, eq-eqb, ne_eqb, eqb-true, eqb-false, ltb-true}
 use Rattle.std.specs.Int.{w32, from_le_bytes}
 use Rattle.std.specs.List.{position, position_or_len}
 use Rattle.std.specs.Option.{is_some}
