@@ -68,7 +68,7 @@ impl SayAs {
         }
         let mut no_store = [0u8; 0];
         let mut no_table = [0u8; 0];
-        let mut measured = Writer::new(&mut no_store, &mut no_table);
+        let mut measured = Writer::new(&mut no_store, &mut no_table, false);
         self.say(s, &mut measured);
         measured.exceeds(store.len(), table.len())
     }
@@ -88,7 +88,7 @@ impl SayAs {
         if self.too_short(s, store, table) {
             return Err(Refusal::BufferTooShort);
         }
-        let mut out = Writer::new(store, table);
+        let mut out = Writer::new(store, table, false);
         self.say(s, &mut out);
         Ok(out.counts())
     }
