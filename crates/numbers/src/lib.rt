@@ -1,5 +1,6 @@
-// The public functions of numbers.rs, in its order and under its names. Each takes any bytes and buffers of any length. It answers
-// its result, or the first refusal whose condition holds. It takes two buffers and no `Writer`, because the buffers are the caller's.
+// The public functions of numbers.rs, in its order and under its names. Each takes any bytes and buffers of any length. It
+// answers its result, or the first refusal whose condition holds. It takes two buffers and no `Writer`, because the buffers are
+// the caller's.
 #![tactic(auto)]
 
 ghost use Rattle.std.specs.Prelude.{◌≡◌, ◌&&◌, ◌/◌, ltb};

@@ -1,6 +1,6 @@
-// The writing layer. A word goes to the store, and its pair of offset and length to the table, each as far as it falls within its
-// buffer. The writer moves on in any case, so that with empty buffers the same code only measures. A spaced writer writes a line of
-// the call sheet: a space goes before each word.
+// The writing layer. A word goes to the store, and its pair of offset and length to the table, each as far as it falls within
+// its buffer. The writer moves on in any case, so that with empty buffers the same code only measures. A spaced writer writes a
+// line of the call sheet: a space goes before each word.
 #![tactic(auto)]
 
 ghost use Rattle.std.specs.Prelude.{◌≡◌, List, [], ◌∷◌, true, false, map, ℕ, ◌+◌, ◌*◌};
@@ -14,8 +14,8 @@ use lists::{put, put_lowered};
 // The bytes of a pair.
 pub const PAIR_SIZE: usize = 8;
 
-// The lent buffers, the place of the next byte in the store, the number of words, which is that of the next pair in the table, and
-// whether a space goes before each word.
+// The lent buffers, the place of the next byte in the store, the number of words, which is that of the next pair in the table,
+// and whether a space goes before each word.
 #[derive(Drop)]
 pub struct Writer<'a, 'b> {
     store: &'a mut [u8],
@@ -138,7 +138,8 @@ impl<'a, 'b> Writer<'a, 'b> {
         self.advance(w.len());
     }
 
-    // Stores one word, A to Z lowered, and its pair. A function with the way to store as a closure would have more lines than both.
+    // Stores one word, A to Z lowered, and its pair.
+    // A method for all but the line that stores adds more lines than it saves: a contract, and a closure or a place to pass.
     #[tactic(auto, unfolding(crate::specs::Writer::put_word, crate::specs::Writer::put_words))]
     pub fn put_word_lowered(&mut self, w: &[u8])
         ensures { Says (map to_lower w.now ∷ []) self.old self.new }
