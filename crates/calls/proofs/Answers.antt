@@ -47,7 +47,7 @@ module _ (e : SheetEntry) (old : List ℕ) where
         → as_entry (Ok (record { entry = record { row = r }; words = (written q).words; bytes = (written q).at })) new ≡ name_call e old
     unfolding name_call
     line_result f small t p q start said b =
-        let g = written_lines (wrote_line e) (line_words e) old t p q start said.line f small in
+        let g = written_lines (wrote_line e) (line_words e) old t p q start said.line.result f small in
         let d = said.row in
         rw (le-ltb name_limit (length e.name) h, f)
         (λ j.
@@ -94,7 +94,7 @@ module _ (s old : List ℕ) {T : Type 0} {made : Result T Refusal} (made_eq : an
       → as_sheet (Ok (record { tokens = k; words = (written q).words; bytes = (written q).at })) new ≡ sheet_call s old
   unfolding sheet_call
   sheet_result e l f small t p q c start said b =
-      let g = written_lines (wrote_lines (entries s)) (lines_words (entries s)) old t p q start said.lines f small in
+      let g = written_lines (wrote_lines (entries s)) (lines_words (entries s)) old t p q start said.result f small in
       rw (decides_next (text s) (later s old) made_eq e, l, f) (λ j. record { refusal = 0; value = record { tokens = c j; words = g.1 j; bytes = g.0 j; buffer = (b ∙ g.2) j } })
 
   -- entry k of it

@@ -12,7 +12,7 @@ use lib.Seq.{sets}
 use borrow.Author.Tests.{ltb-false, le-ltb, lt-ltb}
 use Rattle.lists.specs.Bytes.{bytes, overwrite}
 use Rattle.lists.proofs.Sets.{sets_append, sets_front, le_or_lt}
-use Rattle.word_writer.specs.Writer.{usize_max, Written, put_byte, put_word, put_words, written, unwritten, SameBuffers}
+use Rattle.word_writer.specs.Writer.{usize_max, Written, put_byte, put_word, put_words, written, unwritten, Puts}
 use Rattle.word_writer.proofs.Saying.{same_buffers_on}
 use Rattle.row_readers.specs.Walk.{Reads}
 use Rattle.rows.specs.Rows.{read}
@@ -87,14 +87,16 @@ wrote_words ws {s} l =
     }
 
 -- the code's steps write the line
-pub line_said : {e : SheetEntry} {p q r t : Writer} {row : Row} → written q ≡ put_byte (mark e.starts) (written p) → SameBuffers p q
-    → Reads (read e.name) q r row → written t ≡ put_byte (code "\n") (written r) → SameBuffers r t → SaysLine e p t row
+pub line_said : {e : SheetEntry} {p q r t : Writer} {row : Row} → Puts put_byte (mark e.starts) p q → Reads (read e.name) q r row
+    → Puts put_byte (code "\n") r t → SaysLine e p t row
 unfolding line_to
-line_said {e} a b said c d =
+line_said {e} marked said ended =
     record {
       row = said.row;
-      buffers = same_buffers_on (same_buffers_on b said.words.buffers) d;
-      line = c ∙ ap (put_byte (code "\n")) (said.words.words ∙ ap (put_words (words_of e)) a);
+      line = record {
+        buffers = same_buffers_on (same_buffers_on marked.buffers said.words.buffers) ended.buffers;
+        result = ended.result ∙ ap (put_byte (code "\n")) (said.words.result ∙ ap (put_words (words_of e)) marked.result);
+      };
     }
 
 -- an entry's line is written, with its words

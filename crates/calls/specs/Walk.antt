@@ -4,7 +4,7 @@ use Prim.Native.Char.{code}
 use Rattle.lists.specs.Bytes.{overwrite}
 use Rattle.admit.specs.Refusals.{◌when◌, first_refusal, Call, call}
 use Rattle.admit.specs.declared.Refusal.TheVariants.{NameTooLong, BufferTooShort}
-use Rattle.word_writer.specs.Writer.{written, SameBuffers, Written, put_byte, put_words}
+use Rattle.word_writer.specs.Writer.{Written, put_byte, put_words, Puts}
 use Rattle.word_writer.specs.declared.Writer.{Writer}
 use Rattle.rows.specs.Rows.{row_number, row_sign, read}
 use Rattle.rows.specs.declared.Row.{Row}
@@ -22,13 +22,11 @@ lines_to (e ∷ es) s = lines_to es (line_to e s)
 -- the writer p wrote an entry's line, and is q after that; the entry's row is answered
 pub record SaysLine (e : SheetEntry) (p : Writer) (q : Writer) (r : Row) : Type 0 where
   pub row : r ≡ (read e.name).row
-  pub buffers : SameBuffers p q
-  pub line : written q ≡ line_to e (written p)
+  pub line : Puts line_to e p q
 
 -- it wrote the lines of several
-pub record SaysLines (es : List SheetEntry) (p : Writer) (q : Writer) : Type 0 where
-  pub buffers : SameBuffers p q
-  pub lines : written q ≡ lines_to es (written p)
+abbrev pub SaysLines : List SheetEntry → Writer → Writer → Type 0
+SaysLines = Puts lines_to
 
 -- the call of an entry that is there, in a sheet whose text is not refused
 unfoldable pub name_call : SheetEntry → List ℕ → Call EntryResult

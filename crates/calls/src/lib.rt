@@ -71,7 +71,7 @@ fn is_sheet_short(s: &[u8], buffer: &[u8]) -> bool
     if s.len() < buffer.len() / GROWTH {
         return false;
     }
-    let mut lines = Writer::spaced(&mut [], &mut []);
+    let mut lines = Writer::new(&mut [], &mut [], true);
     say_sheet(s, &mut lines);
     buffer.len() < lines.counts().bytes
 }
@@ -87,7 +87,7 @@ pub fn call_sheet(s: &[u8], out: &mut [u8]) -> Result<CalledSheet, Refusal>
     if is_sheet_short(s, out) {
         return Err(Refusal::BufferTooShort);
     }
-    let mut lines = Writer::spaced(out, &mut []);
+    let mut lines = Writer::new(out, &mut [], true);
     let tokens = say_sheet(s, &mut lines);
     let WordCounts { words, bytes } = lines.counts();
     Ok(CalledSheet {
@@ -105,7 +105,7 @@ fn is_line_short(called: SheetEntry, buffer: &[u8]) -> bool
     if called.name.len() < buffer.len() / GROWTH {
         return false;
     }
-    let mut line = Writer::spaced(&mut [], &mut []);
+    let mut line = Writer::new(&mut [], &mut [], true);
     say_line(called, &mut line);
     buffer.len() < line.counts().bytes
 }
@@ -121,7 +121,7 @@ fn call_name(called: SheetEntry, out: &mut [u8]) -> Result<CalledEntry, Refusal>
     if is_line_short(called, out) {
         return Err(Refusal::BufferTooShort);
     }
-    let mut line = Writer::spaced(out, &mut []);
+    let mut line = Writer::new(out, &mut [], true);
     let entry = say_line(called, &mut line);
     let WordCounts { words, bytes } = line.counts();
     Ok(CalledEntry {

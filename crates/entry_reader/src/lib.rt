@@ -1,8 +1,8 @@
-// The reader of entries: says the words of a name, and answers its record. The entry reader and the percent reader call each other on
-// shorter names. No name that ends in % is taken by rows 1 to 9, so the last byte is tested first.
+// The reader of entries: says the words of a name, and answers its record. The entry reader and the percent reader call each
+// other on shorter names. No name that ends in % is taken by rows 1 to 9, so the last byte is tested first.
 //
-// A name may be only percent signs, so each of these calls must take little of the stack. The signs taken off are counted, and are said
-// after what stands before them: nothing has to be kept for the time after the inner call.
+// A name may be only percent signs, so each of these calls must take little of the stack. The signs taken off are counted, and
+// are said after what stands before them: nothing has to be kept for the time after the inner call.
 #![tactic(auto)]
 
 ghost use Rattle.std.specs.Prelude.{◌≡◌, false, ◌++◌, ◌+◌, ◌-◌, ◌≤◌, length, take};
@@ -43,8 +43,8 @@ fn say_per_cents(percents: usize, out: &mut Writer)
     }
 }
 
-// Says a name that does not end in %, and the percent signs after it. If the compiler inlined it, each call of `read_entry` would take
-// its stack frame as well.
+// Says a name that does not end in %, and the percent signs after it. If the compiler inlined it, each call of `read_entry` would
+// take its stack frame as well.
 #[inline(never)]
 fn read_before_percents(name: &[u8], percents: usize, out: &mut Writer) -> Row
     requires { is_percent name.now ≡ false }

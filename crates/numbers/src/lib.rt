@@ -1,5 +1,6 @@
-// The public functions of numbers.rs, in its order and under its names. Each takes any bytes and buffers of any length. It answers
-// its result, or the first refusal whose condition holds. It takes two buffers and no `Writer`, because the buffers are the caller's.
+// The public functions of numbers.rs, in its order and under its names. Each takes any bytes and buffers of any length. It
+// answers its result, or the first refusal whose condition holds. It takes two buffers and no `Writer`, because the buffers are
+// the caller's.
 #![tactic(auto)]
 
 ghost use Rattle.std.specs.Prelude.{◌≡◌, ◌&&◌, ◌/◌, ltb};
@@ -68,7 +69,7 @@ impl SayAs {
         }
         let mut no_store = [0u8; 0];
         let mut no_table = [0u8; 0];
-        let mut measured = Writer::new(&mut no_store, &mut no_table);
+        let mut measured = Writer::new(&mut no_store, &mut no_table, false);
         self.say(s, &mut measured);
         measured.exceeds(store.len(), table.len())
     }
@@ -88,7 +89,7 @@ impl SayAs {
         if self.too_short(s, store, table) {
             return Err(Refusal::BufferTooShort);
         }
-        let mut out = Writer::new(store, table);
+        let mut out = Writer::new(store, table, false);
         self.say(s, &mut out);
         Ok(out.counts())
     }

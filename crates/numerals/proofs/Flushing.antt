@@ -9,14 +9,14 @@ use Rattle.lists.specs.Bytes.{Every}
 use Rattle.lists.proofs.Every.{every_last}
 use Rattle.vocabulary.specs.Vocabulary.{word_of, ones_at, ordinal_step}
 use Rattle.std.specs.Prelude.{Option, None}
-use Rattle.word_writer.specs.Writer.{Written, written, put_word, put_words, SameBuffers, Says}
+use Rattle.word_writer.specs.Writer.{Written, written, put_word, put_words, Puts, Says}
 use Rattle.word_writer.specs.declared.Writer.{Writer}
 use Rattle.word_writer.proofs.Saying.{same_buffers_on, says_append, says_same}
 use Rattle.numerals.specs.Words.{Word, one, other, spell, spelled}
 use Rattle.numerals.specs.Cardinal.{digit_values, short_cardinal, cardinal_of, cardinal, digits}
 use Rattle.numerals.specs.Ordinal.{ordinal_form, or_zero, on_last, ordinal}
 use Rattle.numerals.specs.Walk.{BelowTen, number_of, ordinal_number}
-use Rattle.numerals.specs.Held.{HeldWriter, held, flushed, formed, hold_word, hold_words, Holds}
+use Rattle.numerals.specs.Held.{HeldWriter, held, flush_word, form_word, flushed, formed, hold_word, hold_words, Holds}
 use Rattle.numerals.specs.declared.held.Held.{Held}
 use Rattle.numerals.proofs.Digits.{digit_values_commas, spelled_append}
 use Rattle.numerals.proofs.NumberWords.{NumberWord, short_number_words, digit_values_below_ten}
@@ -58,12 +58,12 @@ held_all {ks} {p = p} none holds = holds.words ∙ ap (λ (l : Option ℕ). hold
 
 -- the words of up to twelve digits are all written in the end
 pub short_said : (s : List ℕ) {h g : Held} {p q r : Writer} → BelowTen s → h.last ≡ None → Holds (map number_of (short_cardinal s)) h p g q
-    → SameBuffers q r → written r ≡ flushed (held g q) → Says (spelled (short_cardinal s)) p r
+    → Puts flush_word g.last q r → Says (spelled (short_cardinal s)) p r
 unfolding flushed
-short_said s {p = p} d none holds same e =
+short_said s {p = p} d none holds flush =
     record {
-      buffers = same_buffers_on holds.buffers same;
-      words = e ∙ ap flushed (held_all none holds) ∙ flush_all (short_cardinal s) (none_held (written p)) (short_number_words s d);
+      buffers = same_buffers_on holds.buffers flush.buffers;
+      result = flush.result ∙ ap flushed (held_all none holds) ∙ flush_all (short_cardinal s) (none_held (written p)) (short_number_words s d);
     }
 
 -- commas are no digits, so `ordinal` reads the same digits as `cardinal`
@@ -73,12 +73,13 @@ ordinal_short s h = rw (digit_values_commas s, le-leb (length (digit_values s)) 
 
 -- the words of an ordinal number of up to twelve digits are all written, the last one in its ordinal form
 pub ordinal_said : (s : List ℕ) {ds : List ℕ} {h g : Held} {p q r : Writer} → length (digit_values s) ≤ 12 → ds ≡ digit_values s → h.last ≡ None
-    → Holds (map number_of (short_cardinal ds)) h p g q → SameBuffers q r → written r ≡ formed (held g q) → Says (spelled (ordinal s)) p r
-ordinal_said s {p = p} few d none holds same e =
+    → Holds (map number_of (short_cardinal ds)) h p g q → Puts form_word g.last q r → Says (spelled (ordinal s)) p r
+unfolding formed
+ordinal_said s {p = p} few d none holds flush =
     record {
-      buffers = same_buffers_on holds.buffers same;
-      words =
-          e ∙ ap formed (held_all none holds)
+      buffers = same_buffers_on holds.buffers flush.buffers;
+      result =
+          flush.result ∙ ap formed (held_all none holds)
           ∙ rw (d, ordinal_short s few) (or_zero_formed (short_cardinal (digit_values s)) (written p) (short_number_words (digit_values s) (digit_values_below_ten s)));
     }
 

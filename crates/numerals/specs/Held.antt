@@ -23,8 +23,11 @@ unfoldable pub flushed : HeldWriter → Written
 flushed h = flush_word h.last h.writer
 
 -- the word that is held is written in its ordinal form
+abbrev pub form_word : Option ℕ → Written → Written
+form_word last s = put_word (word_of (ordinal_number last)) s
+
 unfoldable pub formed : HeldWriter → Written
-formed h = put_word (word_of (ordinal_number h.last)) h.writer
+formed h = form_word h.last h.writer
 
 -- the word that is held is written, and word k is held
 unfoldable pub hold_word : ℕ → HeldWriter → HeldWriter

@@ -22,7 +22,7 @@ impl<'a> DigitValues<'a> {
         self.values.len()
     }
 
-    // The value at i, or 0 past the end.
+    // The value at i, or 0 past the end. A plain index would need a `requires`, and the laws of `cardinal` use `get_or` anyway.
     pub fn at(self, i: usize) -> u8
         ensures { result ≡ get_or self.entry.values.now i 0 }
     {
@@ -48,8 +48,8 @@ impl<'a> DigitValues<'a> {
     }
 }
 
-// The values of the digits of a text that has at most twelve, and how many there are. A 0 stands for each that is missing, since there
-// is no heap.
+// The values of the digits of a text that has at most twelve, and how many there are. A 0 stands for each that is missing, since
+// there is no heap.
 #[derive(Clone, Copy)]
 pub struct FirstDigits {
     values: [u8; 12],
@@ -62,6 +62,7 @@ impl FirstDigits {
     ghost use Rattle.numerals.specs.FirstDigits.{AreFirstDigits};
 
     // The digits of s, if it has at most twelve.
+    // Counted by hand: no contract says what `iter_mut` leaves in an array, `enumerate` gives no count, `count` reads s twice.
     pub fn of(s: &[u8]) -> Option<FirstDigits>
         ensures { AreFirstDigits s.now result }
     {

@@ -1,10 +1,10 @@
 // Holds back the last word of a number, since an ordinal number changes its last word.
 ghost use Rattle.std.specs.Prelude.{◌≡◌, cond, map, ◌∷◌, [], eqb};
-ghost use Rattle.word_writer.specs.Writer.{written, SameBuffers};
+ghost use Rattle.word_writer.specs.Writer.{Puts};
 ghost use Rattle.numerals.specs.Words.{one, hundred, scale};
 ghost use Rattle.numerals.specs.Cardinal.{pair_words};
 ghost use Rattle.numerals.specs.Walk.{number_of, ordinal_number};
-ghost use Rattle.numerals.specs.Held.{held, flushed, formed, Holds};
+ghost use Rattle.numerals.specs.Held.{flush_word, form_word, Holds};
 
 use crate::saying::say;
 use vocabulary::{HUNDRED, ONES, ORDINAL, TEENS, TENS};
@@ -25,10 +25,9 @@ impl Held {
     }
 
     // Says the word that is held.
-    #[tactic(auto, unfolding(crate::specs::Held::flushed, word_writer::specs::Writer::put_words))]
+    #[tactic(auto, unfolding(word_writer::specs::Writer::put_words))]
     pub fn flush(&self, out: &mut Writer)
-        ensures buffers { SameBuffers out.old out.new }
-        ensures words { written out.new ≡ flushed (held self.now out.old) }
+        ensures { Puts flush_word self.now.last out.old out.new }
     {
         if let Some(k) = self.last {
             say(k, out);
@@ -36,16 +35,15 @@ impl Held {
     }
 
     // Says the ordinal form of the word that is held, "zeroth" if none is.
-    #[tactic(auto, unfolding(crate::specs::Held::formed, word_writer::specs::Writer::put_words))]
+    #[tactic(auto, unfolding(word_writer::specs::Writer::put_words))]
     pub fn flush_ordinal(&self, out: &mut Writer)
-        ensures buffers { SameBuffers out.old out.new }
-        ensures words { written out.new ≡ formed (held self.now out.old) }
+        ensures { Puts form_word self.now.last out.old out.new }
     {
         say(ordinal_number(self.last), out);
     }
 
     // Says the word that is held, and holds word number k.
-    #[tactic(auto, unfolding(crate::specs::Held::hold_word, crate::specs::Held::hold_words))]
+    #[tactic(auto, unfolding(crate::specs::Held::flushed, crate::specs::Held::hold_word, crate::specs::Held::hold_words))]
     pub fn hold(&mut self, k: usize, out: &mut Writer)
         ensures { Holds (k ∷ []) self.old out.old self.new out.new }
     {

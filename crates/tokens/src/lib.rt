@@ -12,7 +12,7 @@ ghost use Rattle.tokens.specs.Left.{parts_of, tokens_left};
 
 use admit::{Refusal, admit_text};
 use lists::{ByteClass, Not, Postpunctuation, Prepunctuation, Whitespace, last_end, span, tail};
-use word_writer::{PAIR_SIZE, put_pair_at};
+use word_writer::{PAIR_SIZE, Pair};
 
 // The bytes of a token's record in the table.
 const RECORD_SIZE: usize = 32;
@@ -131,20 +131,10 @@ fn put_record(table: &mut [u8], place: usize, at: usize, t: Token) -> usize
     let prepunctuation = at + t.whitespace.len();
     let name = prepunctuation + t.prepunctuation.len();
     let punctuation = name + t.name.len();
-    put_pair_at(table, place, at, t.whitespace.len());
-    put_pair_at(
-        table,
-        place + PAIR_SIZE,
-        prepunctuation,
-        t.prepunctuation.len(),
-    );
-    put_pair_at(table, place + 2 * PAIR_SIZE, name, t.name.len());
-    put_pair_at(
-        table,
-        place + 3 * PAIR_SIZE,
-        punctuation,
-        t.punctuation.len(),
-    );
+    Pair::new(at, t.whitespace.len()).put(table, place);
+    Pair::new(prepunctuation, t.prepunctuation.len()).put(table, place + PAIR_SIZE);
+    Pair::new(name, t.name.len()).put(table, place + 2 * PAIR_SIZE);
+    Pair::new(punctuation, t.punctuation.len()).put(table, place + 3 * PAIR_SIZE);
     punctuation + t.punctuation.len()
 }
 

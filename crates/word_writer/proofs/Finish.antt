@@ -124,7 +124,7 @@ pub measured : (ws : List (List ℕ)) (a b : ℕ) → a < usize_max → b < usiz
     → written p ≡ unwritten false x y → Says ws p q
     → too_short_for q.at q.words a b ≡ too_short_for (length (flatten ws)) (length ws) a b
 measured ws a b ha hb {x} {y} {p} {q} start said =
-    let e : written q ≡ put_words ws (unwritten false x y) = said.words ∙ ap (put_words ws) start in
+    let e : written q ≡ put_words ws (unwritten false x y) = said.result ∙ ap (put_words ws) start in
     let f : length (store_by false ws) ≡ length (flatten ws) = ap (λ (s : List ℕ). length s) (store_plain ws) in
     let n : q.at ≡ min (length (flatten ws)) usize_max =
     ap (λ (s : Written). s.at) e ∙ put_words_at ws (unwritten false x y) (omega arith) ∙ omega arith in
@@ -180,7 +180,7 @@ module _ (s : List ℕ) (ws : List (List ℕ)) (st tb : List ℕ) where
         let g = store_plain ws in
         let eg : length (store_by false ws) ≡ length (flatten ws) = ap (λ (t : List ℕ). length t) g in
         let s₀ = unwritten false st tb in
-        let all : written q ≡ written_words ws s₀ = said.words ∙ ap (put_words ws) start ∙ put_words_is ws s₀ (omega arith) (omega arith) in
+        let all : written q ≡ written_words ws s₀ = said.result ∙ ap (put_words ws) start ∙ put_words_is ws s₀ (omega arith) (omega arith) in
         let es : q.store.now ≡ overwrite (flatten ws) st = ap (λ (k : Written). k.store) all ∙ ap (sets st 0) g ∙ sets_front st (flatten ws) fs in
         let et : q.table.now ≡ overwrite (table_of 0 ws) tb =
         ap (λ (k : Written). k.table) all ∙ ap (sets tb 0) (table_plain 0 ws)

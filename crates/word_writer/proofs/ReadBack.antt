@@ -73,8 +73,8 @@ module _ (s : List ℕ) (ws : List (List ℕ)) (store table : List ℕ) (accepte
   pub counts_read : (given.words ≡ length ws) × (given.bytes ≡ length (flatten ws))
   counts_read = rw result_written (refl, refl)
 
-  -- "Words come back end to end", the pairs "sorted by offset, one pair a word": pair i has the length of the words before word i, and
-  -- that of word i
+  -- "Words come back end to end", the pairs "sorted by offset, one pair a word": pair i has the length of the words before word
+  -- i, and that of word i
   pub pairs_read : (i : ℕ) → i < length ws → length (flatten ws) < 256 ^ 4 → PairIs 0 ws given.table i
   pairs_read i h l = rw result_written (pair_from 0 ws (drop (length (table_of 0 ws)) table) i h (omega arith))
 

@@ -13,7 +13,7 @@ use Rattle.word_writer.proofs.Finish.{put_words_append}
 -- a writer that is left alone said nothing
 pub says_nothing : {p : Writer} → Says [] p p
 unfolding put_words
-says_nothing = record { buffers = record { store = refl; table = refl }; words = refl }
+says_nothing = record { buffers = record { store = refl; table = refl }; result = refl }
 
 -- the buffers stay the same over two steps
 pub same_buffers_on : {p q r : Writer} → SameBuffers p q → SameBuffers q r → SameBuffers p r
@@ -24,12 +24,12 @@ pub says_append : {ws vs : List (List ℕ)} {p q r : Writer} → Says ws p q →
 says_append {ws} {vs} {p} a b =
     record {
       buffers = same_buffers_on a.buffers b.buffers;
-      words = b.words ∙ ap (put_words vs) a.words ∙ sym (put_words_append ws vs (written p));
+      result = b.result ∙ ap (put_words vs) a.result ∙ sym (put_words_append ws vs (written p));
     }
 
 -- the same words by another name
 pub says_same : {ws vs : List (List ℕ)} {p q : Writer} → ws ≡ vs → Says ws p q → Says vs p q
-says_same {ws} {vs} {p} e a = record { buffers = a.buffers; words = a.words ∙ ap (λ (us : List (List ℕ)). put_words us (written p)) e }
+says_same {ws} {vs} {p} e a = record { buffers = a.buffers; result = a.result ∙ ap (λ (us : List (List ℕ)). put_words us (written p)) e }
 
 -- a loop over the bytes of the text s says their words, which f gives: after one more byte it said one more byte's words
 pub says_byte : (f : List ℕ → List (List ℕ)) (s : List ℕ) (i : ℕ) {p₀ p q : Writer} → ByParts f → i < length s → Says (f (take i s)) p₀ p
@@ -51,10 +51,10 @@ leaves_next {p = p} l gs us e a =
     record {
       buffers = same_buffers_on l.buffers a.buffers;
       left =
-          ap (put_words us) a.words ∙ sym (put_words_append gs us (written p))
+          ap (put_words us) a.result ∙ sym (put_words_append gs us (written p))
           ∙ ap (λ (vs : List (List ℕ)). put_words vs (written p)) (sym e) ∙ l.left;
     }
 
 -- all words that are left are said
 pub leaves_none : {ws vs : List (List ℕ)} {p₀ p q : Writer} → Leaves ws vs p₀ p → Says vs p q → Says ws p₀ q
-leaves_none l a = record { buffers = same_buffers_on l.buffers a.buffers; words = a.words ∙ l.left }
+leaves_none l a = record { buffers = same_buffers_on l.buffers a.buffers; result = a.result ∙ l.left }

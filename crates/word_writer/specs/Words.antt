@@ -70,7 +70,8 @@ length_at i table = number_at (2 * i + 1) table
 abbrev pub word_at : ℕ → List ℕ → List ℕ → List ℕ
 word_at i table store = take (length_at i table) (drop (offset_at i table) store)
 
--- pair i of a table whose first word starts at `at`: its offset is `at` plus the bytes of the words before word i, its length is the word's
+-- pair i of a table whose first word starts at `at`: its offset is `at` plus the bytes of the words before word i, its length is
+-- the word's
 pub record PairIs (at : ℕ) (ws : List (List ℕ)) (table : List ℕ) (i : ℕ) : Type 0 where
   pub offset : offset_at i table ≡ at + length (flatten (take i ws))
   pub size : length_at i table ≡ length (get_or ws i [])

@@ -49,9 +49,8 @@ unfoldable pub put_byte : ℕ → Written → Written
 put_byte b s = record { store = sets s.store s.at (b ∷ []); table = s.table; at = min (s.at + 1) usize_max; words = s.words; spaced = s.spaced }
 
 -- what goes before a word goes to the store
-abbrev pub put_gap : Written → Written
-put_gap s =
-    record { store = sets s.store s.at (gap s.spaced); table = s.table; at = after_gap s.spaced s.at; words = s.words; spaced = s.spaced }
+abbrev pub put_gap : Bool → Written → Written
+put_gap g s = record { store = sets s.store s.at (gap g); table = s.table; at = after_gap g s.at; words = s.words; spaced = s.spaced }
 
 -- the pair of a word of `size` bytes, which stand from the next place on, goes to the table
 abbrev pub advance : ℕ → Written → Written
@@ -84,7 +83,11 @@ pub record SameBuffers (p : Writer) (q : Writer) : Type 0 where
   pub store : q.store.ghost_name ≡ p.store.ghost_name
   pub table : q.table.ghost_name ≡ p.table.ghost_name
 
--- the writer p said the words ws, and is q after that
-pub record Says (ws : List (List ℕ)) (p : Writer) (q : Writer) : Type 0 where
+-- the writer p put x as f puts it, and is q after that
+pub record Puts {A : Type 0} (f : A → Written → Written) (x : A) (p : Writer) (q : Writer) : Type 0 where
   pub buffers : SameBuffers p q
-  pub words : written q ≡ put_words ws (written p)
+  pub result : written q ≡ f x (written p)
+
+-- the writer p said the words ws, and is q after that
+abbrev pub Says : List (List ℕ) → Writer → Writer → Type 0
+Says = Puts put_words

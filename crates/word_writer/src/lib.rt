@@ -1,12 +1,12 @@
-// The writing layer. A word goes to the store, and its pair of offset and length to the table, each as far as it falls within its
-// buffer. The writer moves on in any case, so that with empty buffers the same code only measures. A spaced writer writes a line of
-// the call sheet: a space goes before each word.
+// The writing layer. A word goes to the store, and its pair of offset and length to the table, each as far as it falls within
+// its buffer. The writer moves on in any case, so that with empty buffers the same code only measures. A spaced writer writes a
+// line of the call sheet: a space goes before each word.
 #![tactic(auto)]
 
 ghost use Rattle.std.specs.Prelude.{◌≡◌, List, [], ◌∷◌, true, false, map, ℕ, ◌+◌, ◌*◌};
 ghost use Rattle.std.proofs.lemmas.List.Edits.{sets};
 ghost use Rattle.lists.specs.Bytes.{to_lower};
-ghost use Rattle.word_writer.specs.Writer.{pair_of, pair_size, written, unwritten, put_byte, put_gap, advance, SameBuffers, Says};
+ghost use Rattle.word_writer.specs.Writer.{pair_of, pair_size, written, unwritten, put_byte, put_gap, advance, Puts, Says};
 ghost use Rattle.word_writer.specs.Words.{too_short_for, counts_at};
 
 use lists::{put, put_lowered};
@@ -14,8 +14,8 @@ use lists::{put, put_lowered};
 // The bytes of a pair.
 pub const PAIR_SIZE: usize = 8;
 
-// The lent buffers, the place of the next byte in the store, the number of words, which is that of the next pair in the table, and
-// whether a space goes before each word.
+// The lent buffers, the place of the next byte in the store, the number of words, which is that of the next pair in the table,
+// and whether a space goes before each word.
 #[derive(Drop)]
 pub struct Writer<'a, 'b> {
     store: &'a mut [u8],
@@ -32,78 +32,77 @@ pub struct WordCounts {
     pub bytes: usize,
 }
 
-// An offset and a length, four bytes each.
-#[tactic(auto, unfolding(crate::specs::Writer::pair_of, lists::specs::LittleEndian::le_bytes))]
-fn pair_of(at: usize, size: usize) -> [u8; PAIR_SIZE]
-    ensures { result ≡ pair_of at size }
-{
-    let a = at.to_le_bytes();
-    let s = size.to_le_bytes();
-    [a[0], a[1], a[2], a[3], s[0], s[1], s[2], s[3]]
+// An offset and a length.
+#[derive(Clone, Copy)]
+pub struct Pair {
+    at: usize,
+    size: usize,
 }
 
-// Stores a pair from index `place` on, as far as it falls within the table.
-pub fn put_pair_at(table: &mut [u8], place: usize, at: usize, size: usize)
-    ensures { table.new ≡ sets table.old place (pair_of at size) }
-{
-    if table.len() <= place {
-        return;
+impl Pair {
+    pub fn new(at: usize, size: usize) -> Self
+        ensures { result ≡ record { at = at; size = size } }
+    {
+        Pair { at, size }
     }
-    let pair = pair_of(at, size);
-    // The whole pair falls within the table, and the compiler makes one store of it.
-    if PAIR_SIZE <= table.len() - place {
-        table[place..place + PAIR_SIZE].copy_from_slice(&pair);
-        return;
-    }
-    put(table, place, &pair);
-}
 
-// Stores a pair as number `words` of the table.
-fn put_pair(table: &mut [u8], words: usize, at: usize, size: usize)
-    ensures { table.new ≡ sets table.old (pair_size * words) (pair_of at size) }
-{
-    // No table has so many words that the product is too large.
-    if let Some(place) = words.checked_mul(PAIR_SIZE) {
-        put_pair_at(table, place, at, size);
+    // Four bytes of each number.
+    #[tactic(auto, unfolding(crate::specs::Writer::pair_of, lists::specs::LittleEndian::le_bytes))]
+    fn to_bytes(self) -> [u8; PAIR_SIZE]
+        ensures { result ≡ pair_of self.at self.size }
+    {
+        let a = self.at.to_le_bytes();
+        let s = self.size.to_le_bytes();
+        [a[0], a[1], a[2], a[3], s[0], s[1], s[2], s[3]]
+    }
+
+    // Stores it from index `place` on, as far as it falls within the table.
+    pub fn put(self, table: &mut [u8], place: usize)
+        ensures { table.new ≡ sets table.old place (pair_of self.at self.size) }
+    {
+        if table.len() <= place {
+            return;
+        }
+        let pair = self.to_bytes();
+        // The whole pair falls within the table, and the compiler makes one store of it.
+        if PAIR_SIZE <= table.len() - place {
+            table[place..place + PAIR_SIZE].copy_from_slice(&pair);
+            return;
+        }
+        put(table, place, &pair);
+    }
+
+    // Stores it as pair n of the table.
+    fn put_nth(self, table: &mut [u8], n: usize)
+        ensures { table.new ≡ sets table.old (pair_size * n) (pair_of self.at self.size) }
+    {
+        // No table has so many pairs that the product is too large.
+        if let Some(place) = n.checked_mul(PAIR_SIZE) {
+            self.put(table, place);
+        }
     }
 }
 
 impl<'a, 'b> Writer<'a, 'b> {
-    // Writes words end to end.
-    pub fn new(store: &'a mut [u8], table: &'b mut [u8]) -> Self
+    // Writes words end to end, or with a space before each if `spaced`, as in a line of the call sheet.
+    pub fn new(store: &'a mut [u8], table: &'b mut [u8], spaced: bool) -> Self
         ensures store { result.store.ghost_name ≡ store.entry.ghost_name }
         ensures table { result.table.ghost_name ≡ table.entry.ghost_name }
-        ensures start { written result ≡ unwritten false store.old table.old }
+        ensures start { written result ≡ unwritten spaced store.old table.old }
     {
         Writer {
             store,
             table,
             at: 0,
             words: 0,
-            spaced: false,
-        }
-    }
-
-    // Writes words with a space before each, as in a line of the call sheet.
-    pub fn spaced(store: &'a mut [u8], table: &'b mut [u8]) -> Self
-        ensures store { result.store.ghost_name ≡ store.entry.ghost_name }
-        ensures table { result.table.ghost_name ≡ table.entry.ghost_name }
-        ensures start { written result ≡ unwritten true store.old table.old }
-    {
-        Writer {
-            store,
-            table,
-            at: 0,
-            words: 0,
-            spaced: true,
+            spaced,
         }
     }
 
     // Stores one byte that belongs to no word.
     #[tactic(auto, unfolding(crate::specs::Writer::put_byte))]
     pub fn put_byte(&mut self, b: u8)
-        ensures buffers { SameBuffers self.old self.new }
-        ensures byte { written self.new ≡ put_byte b (written self.old) }
+        ensures { Puts put_byte b self.old self.new }
     {
         let one = [b];
         put(self.store, self.at, &one);
@@ -113,8 +112,7 @@ impl<'a, 'b> Writer<'a, 'b> {
     // Stores what goes before a word: a space, if the writer is spaced.
     #[tactic(auto, unfolding(crate::specs::Writer::put_byte))]
     fn put_gap(&mut self)
-        ensures buffers { SameBuffers self.old self.new }
-        ensures gap { written self.new ≡ put_gap (written self.old) }
+        ensures { Puts put_gap self.old.spaced self.old self.new }
     {
         if self.spaced {
             self.put_byte(b' ');
@@ -123,10 +121,9 @@ impl<'a, 'b> Writer<'a, 'b> {
 
     // Stores the pair of a word of `size` bytes, and moves past the word.
     fn advance(&mut self, size: usize)
-        ensures buffers { SameBuffers self.old self.new }
-        ensures pair { written self.new ≡ advance size (written self.old) }
+        ensures { Puts advance size self.old self.new }
     {
-        put_pair(self.table, self.words, self.at, size);
+        Pair::new(self.at, size).put_nth(self.table, self.words);
         self.at = self.at.saturating_add(size);
         self.words = self.words.saturating_add(1);
     }
@@ -141,7 +138,8 @@ impl<'a, 'b> Writer<'a, 'b> {
         self.advance(w.len());
     }
 
-    // Stores one word, A to Z lowered, and its pair. A function with the way to store as a closure would have more lines than both.
+    // Stores one word, A to Z lowered, and its pair.
+    // A method for all but the line that stores adds more lines than it saves: a contract, and a closure or a place to pass.
     #[tactic(auto, unfolding(crate::specs::Writer::put_word, crate::specs::Writer::put_words))]
     pub fn put_word_lowered(&mut self, w: &[u8])
         ensures { Says (map to_lower w.now ∷ []) self.old self.new }

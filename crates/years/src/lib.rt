@@ -15,8 +15,8 @@ use numerals::saying::{digit_value, say};
 use vocabulary::{HUNDRED, OH, ONES};
 use word_writer::Writer;
 
-// Picks the first digit of s: its value, which is 0 if there is none, and what follows it. It is no Option, because no caller asks
-// if there is none.
+// Picks the first digit of s: its value, which is 0 if there is none, and what follows it. It is no Option, because no caller
+// asks if there is none.
 fn pick(s: &[u8]) -> (u8, &[u8])
     ensures digit { result.0 ≡ get_or (digit_values s.now) 0 0 }
     ensures below_ten { result.0 < 10 }
@@ -109,8 +109,8 @@ fn say_last(ds: DigitValues, out: &mut Writer)
     }
 }
 
-// Says the year of the digits of s. While more than four are left, it says one digit if their count is odd, else a pair. It counts
-// by hand, because a step takes one digit or two.
+// Says the year of the digits of s. While more than four are left, it says one digit if their count is odd, else a pair. It
+// counts by hand, because a step takes one digit or two.
 pub fn say_year(s: &[u8], out: &mut Writer)
     ensures { Says (spelled (year s.now)) out.old out.new }
 {

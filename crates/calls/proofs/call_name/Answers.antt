@@ -17,5 +17,5 @@ pub returns : goal.returns
 returns c =
     rw c.counts-words.ensures
     (line_result (entry_named c.args.called.starts c.args.called.name.now) c.args.out.now (let h = c.if-called-gt-NAME_LIMIT.false in omega arith)
-    (sym c.is_line_short.ensures ∙ c.if-is_line_short.false) (omega arith) [] c.spaced-line.result c.say_line-entry.new.out
-    c.spaced-line.ensures.start c.say_line-entry.ensures (search rules))
+    (sym c.is_line_short.ensures ∙ c.if-is_line_short.false) (omega arith) [] c.new-line.result c.say_line-entry.new.out
+    c.new-line.ensures.start c.say_line-entry.ensures (search rules))

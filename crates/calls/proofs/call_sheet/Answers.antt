@@ -23,5 +23,5 @@ returns c =
     rw c.counts-words.ensures
     (sheet_result c.args.s.now c.args.out.now c.admit_text.ensures c.in_ok-admit_text.was
     (sym c.has_long_name.ensures ∙ c.if-has_long_name.false) (sym c.is_sheet_short.ensures ∙ c.if-is_sheet_short.false)
-    (omega arith) [] c.spaced-lines.result c.say_sheet-tokens.new.out c.say_sheet-tokens.ensures.tokens c.spaced-lines.ensures.start
+    (omega arith) [] c.new-lines.result c.say_sheet-tokens.new.out c.say_sheet-tokens.ensures.tokens c.new-lines.ensures.start
     c.say_sheet-tokens.ensures.lines (search rules))

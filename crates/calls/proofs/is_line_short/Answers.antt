@@ -13,4 +13,4 @@ returns-then-called-buffer c =
 pub returns : goal.returns
 returns c =
     let e = entry_named c.args.called.starts c.args.called.name.now in
-    rw c.counts.ensures (measured_lines (wrote_line e) (line_words e) [] [] c.spaced-line.result c.say_line.new.out c.spaced-line.ensures.start c.say_line.ensures.line _ (omega arith))
+    rw c.counts.ensures (measured_lines (wrote_line e) (line_words e) [] [] c.new-line.result c.say_line.new.out c.new-line.ensures.start c.say_line.ensures.line.result _ (omega arith))

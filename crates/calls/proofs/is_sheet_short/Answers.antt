@@ -12,4 +12,4 @@ returns-then-s-buffer c = room_suffices _ (length c.args.s.now) _ (sheet_room c.
 pub returns : goal.returns
 returns c =
     let es = entries c.args.s.now in
-    rw c.counts.ensures (measured_lines (wrote_lines es) (lines_words es) [] [] c.spaced-lines.result c.say_sheet.new.out c.spaced-lines.ensures.start c.say_sheet.ensures.lines.lines _ (omega arith))
+    rw c.counts.ensures (measured_lines (wrote_lines es) (lines_words es) [] [] c.new-lines.result c.say_sheet.new.out c.new-lines.ensures.start c.say_sheet.ensures.lines.result _ (omega arith))

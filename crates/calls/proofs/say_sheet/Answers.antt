@@ -26,8 +26,8 @@ loop-entry-preserved c =
     let count = ap length next in
     record {
       count = omega (arith, c.loop-entry.invariant);
-      buffers = same_buffers_on c.loop-entry.invariant.buffers c.say_line.ensures.buffers;
-      lines = lines_on _ next c.say_line.ensures.line c.loop-entry.invariant.lines;
+      buffers = same_buffers_on c.loop-entry.invariant.buffers c.say_line.ensures.line.buffers;
+      lines = lines_on _ next c.say_line.ensures.line.result c.loop-entry.invariant.lines;
     }
 
 pub returns : goal.returns
@@ -36,5 +36,5 @@ returns c =
     let count = ap length none in
     record {
       tokens = omega (arith, c.loop-entry.invariant);
-      lines = record { buffers = c.loop-entry.invariant.buffers; lines = lines_done _ none c.loop-entry.invariant.lines };
+      lines = record { buffers = c.loop-entry.invariant.buffers; result = lines_done _ none c.loop-entry.invariant.lines };
     }

@@ -8,4 +8,4 @@ returns c =
     let s = c.args.s.now in
     let d = c.in-Some.ensures in
     ordinal_said s d.few (c.digits.ensures ∙ picked_digits s d) c.none-held.ensures c.hold_cardinal.ensures
-    c.flush_ordinal.ensures.buffers c.flush_ordinal.ensures.words
+    c.flush_ordinal.ensures
