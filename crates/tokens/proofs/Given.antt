@@ -36,7 +36,7 @@ module _ (s t : Tokens) (xs : List Parts) (y : Yields (YieldsFirstBy parts_of to
   pub left_past : length t.rest.now ≤ 0 → (tokens_left t ≡ []) × (length xs ≡ length (tokens_left s))
   left_past h = let n = tokens_past t.rest.now 0 h in (n, omega (arith, left_count, ap length n))
 
-  -- if a byte that is no whitespace is left, the next call gives the first token of what is left, and leaves those of what follows it
+  -- if another byte is left, the next call gives the first token of what is left, and the tokens of what follows it are left then
   pub left_next : all whitespace t.rest.now ≡ false → (r : Option Parts) (u : Tokens) → YieldsFirstBy parts_of tokens_left t r u
       → (option_map parts_of r ≡ Some (first_token t.rest.now)) × (tokens_left u ≡ tokens (after_run t.rest.now))
   left_next e None u n = let m = sym n.0 ∙ tokens_more t.rest.now e in cc
