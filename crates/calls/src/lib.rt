@@ -56,8 +56,7 @@ fn say_sheet(s: &[u8], out: &mut Writer) -> usize
     ensures tokens { result ≡ length (tokens s.now) }
     ensures lines { SaysLines (entries s.now) out.old out.new }
 {
-    // `Entries::new(s).map(|entry| say_line(entry, out)).count()` is no plainer: it maps for what the closure writes, and drops what it
-    // answers.
+    // After a chain such as `map(|entry| say_line(entry, out)).count()` a proof knows nothing of what its closure wrote.
     let mut tokens = 0;
     for entry in Entries::new(s) {
         say_line(entry, out);
@@ -100,6 +99,7 @@ pub fn call_sheet(s: &[u8], out: &mut [u8]) -> Result<CalledSheet, Refusal>
 }
 
 // Whether a buffer is smaller than an entry's line. The line is measured only if it may be.
+// One function for this and `is_sheet_short` is no plainer: its contract has to say what a closure writes, and from where on.
 fn is_line_short(called: SheetEntry, buffer: &[u8]) -> bool
     ensures { result ≡ ltb (length buffer.now) (length (line_of (as_sheet_entry called.entry))) }
 {

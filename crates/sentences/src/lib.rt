@@ -238,8 +238,8 @@ fn write_starts(s: &[u8], starts: &mut [u8]) -> usize
     requires { length (tokens s.now) ≤ length starts.old }
     ensures { (result ≡ length (tokens s.now)) × (starts.new ≡ sets starts.old 0 (start_bytes s.now)) }
 {
-    // Stored by index: no contract says what a chain over `iter_mut` leaves in the buffer. And the count is the result too, which
-    // the last index of `enumerate` doesn't give if there is no entry.
+    // Stored by index: after `zip` of `iter_mut` and the entries a proof knows only the buffer's length. And the count is the result
+    // too, which the last index of `enumerate` doesn't give if there is no entry.
     let mut n = 0;
     for entry in Entries::new(s) {
         starts[n] = u8::from(entry.starts);
