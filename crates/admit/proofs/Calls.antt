@@ -1,4 +1,5 @@
--- A refused call answers its number and nothing else, an accepted one its value. And laws of the tests of a call. Assumes nothing.
+-- A refused call answers its number and nothing else, an accepted one its value. And laws of the tests of a call.
+-- Assumes nothing.
 use mathlib.Core.Path.{◌≡◌, refl, sym, ap, ◌∙◌}
 use mathlib.Core.Bool.{true, false, or-false}
 use mathlib.Core.List.{List, [], ◌∷◌, ◌++◌}

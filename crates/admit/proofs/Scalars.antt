@@ -1,4 +1,5 @@
--- A text is UTF-8 exactly when it is the encoding of some Unicode scalar values, and that is what the library tests. Assumes nothing.
+-- A text is UTF-8 exactly when it is the encoding of some Unicode scalar values, and that is what the library tests.
+-- Assumes nothing.
 use mathlib.Core.Path.{◌≡◌, refl, sym, ap, ap₂, ◌∙◌}
 use mathlib.Core.Bool.{Bool, true, false, ◌&&◌, ◌||◌, and-eq-true_iff, and-false, false≢true}
 use mathlib.Core.List.{List, [], ◌∷◌, ◌++◌, map, flatten}

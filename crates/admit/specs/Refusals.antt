@@ -1,4 +1,5 @@
--- Document 01, "Calls held back": the refusals, their numbers, the tests of a call, and what a refused call answers. Definitions only.
+-- Document 01, "Calls held back": the refusals, their numbers, the tests of a call, and what a refused call answers.
+-- Definitions only.
 use Rattle.std.specs.Prelude.{Bool, true, cond, not, ◌&&◌, List, [], ◌∷◌, ℕ, zero, suc, ltb, length, Result, Ok, Err}
 use Rattle.lists.specs.Bytes.{any}
 use Rattle.admit.specs.Utf8.{utf8}
@@ -23,8 +24,8 @@ infix 70 ◌when◌
 pub data Test : Type 0 where
   ◌when◌ : Refusal → Bool → Test
 
--- "Each refusal is given under its condition and never otherwise": the number of the first test that holds, in the order in which a
--- call makes its tests; 0 if none holds
+-- "Each refusal is given under its condition and never otherwise": the number of the first test that holds, in the order in which
+-- a call makes its tests; 0 if none holds
 abbrev pub first_refusal : List Test → ℕ
 first_refusal [] = 0
 first_refusal (refusal when holds ∷ tests) = cond holds (refusal_number refusal) (first_refusal tests)

@@ -15,7 +15,8 @@ utf8_tail b = in_range 0x80 0xBF b
 abbrev pub lead2 : ℕ → Bool
 lead2 a = in_range 0xC2 0xDF a
 
--- the first two bytes of UTF8-3 = %xE0 %xA0-BF UTF8-tail / %xE1-EC 2( UTF8-tail ) / %xED %x80-9F UTF8-tail / %xEE-EF 2( UTF8-tail )
+-- the first two bytes of
+-- UTF8-3 = %xE0 %xA0-BF UTF8-tail / %xE1-EC 2( UTF8-tail ) / %xED %x80-9F UTF8-tail / %xEE-EF 2( UTF8-tail )
 abbrev pub lead3 : ℕ → ℕ → Bool
 lead3 a b =
     (eqb a 0xE0 && in_range 0xA0 0xBF b) || (in_range 0xE1 0xEC a && utf8_tail b)

@@ -73,8 +73,8 @@ fn admit_any(s: &[u8]) -> Result<(), Refusal>
     admit(TEXT_LIMIT, s)
 }
 
-// The tests of a text. For a short ASCII text a few instructions are enough, and the compiler puts them into each caller. It leaves
-// `admit_any` out of there, because that is called at two places.
+// The tests of a text. For a short ASCII text a few instructions are enough, and the compiler puts them into each caller.
+// It leaves `admit_any` out of there, because that is called at two places.
 pub fn admit_text(s: &[u8]) -> Result<(), Refusal>
     ensures { answer_number result ≡ text_refusal text_limit s.now }
 {

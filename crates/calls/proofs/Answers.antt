@@ -20,7 +20,7 @@ use Rattle.rows.specs.declared.Row.{Row}
 use Rattle.call_spec.specs.Sheet.{SheetEntry, entries, line_of, call_sheet}
 use Rattle.call_spec.specs.Calls.{name_limit, is_long, any_long, sheet_call, entry_at, line_at, entry_call}
 use Rattle.call_spec.proofs.Entries.{line_at_lem}
-use Rattle.entries.specs.Find.{entry_named, FoundEntry, found_entry, as_found_entry}
+use Rattle.entries.specs.Find.{as_sheet_entry, FoundEntry, found_entry, as_found_entry}
 use Rattle.calls.specs.Answers.{as_sheet, as_entry}
 use Rattle.calls.specs.Walk.{SaysLine, SaysLines, name_call}
 use Rattle.calls.specs.declared.CalledSheet.{CalledSheet}
@@ -116,10 +116,10 @@ module _ (s old : List ℕ) {T : Type 0} {made : Result T Refusal} (made_eq : an
       entry_none n = rw (decides_next (text s) (here s old k) made_eq e, le-leb (length (tokens s)) k (ltb-false _ _ (rw n at there)))
 
       -- else its call is the call of the name that was found
-      pub entry_there : {x : Given} → r ≡ Some x → name_call (entry_named x.starts x.name.now) old ≡ entry_call s k old
+      pub entry_there : {x : Given} → r ≡ Some x → name_call (as_sheet_entry x) old ≡ entry_call s k old
       unfolding entry_call name_call
       entry_there {x} q =
           let h : k < length (tokens s) = ltb-true _ _ (rw q at there) in
-          let is : entry_named x.starts x.name.now ≡ entry_at s k = ap (λ (y : FoundEntry). y.entry) (rw q at found) in
+          let is : as_sheet_entry x ≡ entry_at s k = ap (λ (y : FoundEntry). y.entry) (rw q at found) in
           ap (λ (y : SheetEntry). name_call y old) is
           ∙ rw (decides_next (text s) (here s old k) made_eq e, lt-leb (length (tokens s)) k h, line_at_lem s k h)

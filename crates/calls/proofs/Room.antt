@@ -1,4 +1,5 @@
--- A sheet of n bytes has a call sheet of at most 11 * (n + 1) bytes, and what follows from that for short sheets. Assumes nothing.
+-- A sheet of n bytes has a call sheet of at most 11 * (n + 1) bytes, and what follows from that for short sheets.
+-- Assumes nothing.
 use mathlib.Core.Path.{◌≡◌, refl, sym, ap, ◌∙◌}
 use mathlib.Core.Bool.{Bool, true, false, cond, not, ◌||◌, and-eq-true_iff}
 use mathlib.Core.Logic.{⊎_elim}
@@ -43,7 +44,6 @@ use Rattle.rows.specs.Rows.{Reading, no_reading, per_cent, clock, hour_of, minut
 use Rattle.rows.proofs.Laws.{ends_some, shorter}
 use Rattle.call_spec.specs.Sheet.{SheetEntry, entries_of, words_of, spaced_words, line_of, call_sheet}
 use Rattle.call_spec.specs.Calls.{name_limit, any_long, sheet_tests, SheetResult, sheet_call}
-use Rattle.entries.specs.Find.{entry_named}
 use Rattle.calls.specs.Answers.{as_sheet}
 use Rattle.calls.specs.declared.CalledSheet.{CalledSheet}
 
@@ -173,7 +173,7 @@ unfolding entries_of flatten name_room
 lines_room [] ts = omega arith
 lines_room (b ∷ bs) [] = omega arith
 lines_room (b ∷ bs) (t ∷ ts) =
-    let e = entry_named b t.name in
+    let e : SheetEntry = record { starts = b; name = t.name } in
     omega (arith, line_fits e, lines_room bs ts, length-append (line_of e) (flatten (map line_of (entries_of bs ts))))
 
 -- a sheet of n bytes has a call sheet of at most 11 * (n + 1) bytes

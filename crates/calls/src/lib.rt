@@ -5,7 +5,7 @@ ghost use Rattle.std.specs.Prelude.{◌≡◌, ltb, length};
 ghost use Rattle.tokens.specs.Tokens.{tokens};
 ghost use Rattle.call_spec.specs.Sheet.{entries, mark, line_of, call_sheet};
 ghost use Rattle.call_spec.specs.Calls.{sheet_call, entry_call};
-ghost use Rattle.entries.specs.Find.{entry_named};
+ghost use Rattle.entries.specs.Find.{as_sheet_entry};
 ghost use Rattle.calls.specs.Answers.{as_sheet, as_entry};
 ghost use Rattle.calls.specs.Walk.{SaysLine, SaysLines, name_call};
 
@@ -43,7 +43,7 @@ fn mark_of(starts: bool) -> u8
 
 // Writes an entry's line, and answers its record.
 fn say_line(called: SheetEntry, out: &mut Writer) -> Entry
-    ensures { SaysLine (entry_named called.entry.starts called.entry.name.now) out.old out.new result.row }
+    ensures { SaysLine (as_sheet_entry called.entry) out.old out.new result.row }
 {
     out.put_byte(mark_of(called.starts));
     let entry = read_name(called.name, out);
@@ -56,6 +56,7 @@ fn say_sheet(s: &[u8], out: &mut Writer) -> usize
     ensures tokens { result ≡ length (tokens s.now) }
     ensures lines { SaysLines (entries s.now) out.old out.new }
 {
+    // After a chain such as `map(|entry| say_line(entry, out)).count()` a proof knows nothing of what its closure wrote.
     let mut tokens = 0;
     for entry in Entries::new(s) {
         say_line(entry, out);
@@ -98,9 +99,9 @@ pub fn call_sheet(s: &[u8], out: &mut [u8]) -> Result<CalledSheet, Refusal>
 }
 
 // Whether a buffer is smaller than an entry's line. The line is measured only if it may be.
+// One function for this and `is_sheet_short` is no plainer: its contract has to say what a closure writes, and from where on.
 fn is_line_short(called: SheetEntry, buffer: &[u8]) -> bool
-    ensures { result
-        ≡ ltb (length buffer.now) (length (line_of (entry_named called.entry.starts called.entry.name.now))) }
+    ensures { result ≡ ltb (length buffer.now) (length (line_of (as_sheet_entry called.entry))) }
 {
     if called.name.len() < buffer.len() / GROWTH {
         return false;
@@ -112,8 +113,7 @@ fn is_line_short(called: SheetEntry, buffer: &[u8]) -> bool
 
 // Calls an entry that is there.
 fn call_name(called: SheetEntry, out: &mut [u8]) -> Result<CalledEntry, Refusal>
-    ensures { as_entry result out.new
-        ≡ name_call (entry_named called.entry.starts called.entry.name.now) out.old }
+    ensures { as_entry result out.new ≡ name_call (as_sheet_entry called.entry) out.old }
 {
     if NAME_LIMIT < called.name.len() {
         return Err(Refusal::NameTooLong);

@@ -3,16 +3,19 @@
 
 ghost use Rattle.std.specs.Prelude.{◌≡◌, ◌+◌, ◌*◌, ◌≤◌, length, take};
 ghost use Rattle.std.specs.Io.KnownBytes.{Consumes};
+ghost use Rattle.admit.specs.declared.Refusal.TheVariants.{NotUtf8};
 
+use admit::Refusal;
 use calls::call_sheet;
 use lists::front;
 use std::io;
 use std::io::Read;
 
 // Only a sheet that isn't UTF-8 is refused: the sheets read here are too short for numbers 1 and 4, and the buffer has room.
-fn write_refusal(rt: &impl Print, number: u8) -> io::Result<()>
-    requires { number ≡ 2 }
+fn write_refusal(rt: &impl Print, refusal: Refusal) -> io::Result<()>
+    requires { refusal ≡ NotUtf8 }
 {
+    let number = u8::from(refusal);
     println!(rt; "refused {number}")
 }
 
@@ -22,7 +25,7 @@ fn write_call(rt: &impl Print, sheet: &[u8], out: &mut [u8]) -> io::Result<()>
 {
     match call_sheet(sheet, out) {
         Ok(called) => rt.write_all(front(out, called.bytes)),
-        Err(refusal) => write_refusal(rt, u8::from(refusal)),
+        Err(refusal) => write_refusal(rt, refusal),
     }
 }
 
@@ -43,12 +46,13 @@ fn read_full<R: Read>(input: &mut R, sheet: &mut [u8]) -> usize
     done
 }
 
-// Room for the call of every sheet of 4,096 bytes.
+// Room for the call of every sheet of 4,096 bytes. An array, because the project uses no heap.
 fn room() -> [u8; 45067] {
     [0; 45067]
 }
 
 fn main(rt: HostRuntime) -> io::Result<()> {
+    // The sheet is no `Vec` for the same reason as the room.
     let mut sheet = [0; 4096];
     let n = read_full(&mut rt.stdin(), &mut sheet);
     let mut out = room();

@@ -1,4 +1,5 @@
--- The words of a figure are decoded as the figure, from the right, one symbol with the digits after it at a time. Assumes nothing.
+-- The words of a figure are decoded as the figure, from the right, one symbol with the digits after it at a time.
+-- Assumes nothing.
 use mathlib.Core.Path.{◌≡◌, refl, ap, ◌∙◌}
 use mathlib.Core.Bool.{Bool, true, false, not, ◌&&◌}
 use mathlib.Core.List.{List, [], ◌∷◌, ◌++◌, map, append-nil}

@@ -1,4 +1,5 @@
--- A call sheet is taken apart at its LFs and spaces into its lines and words, whether or not its names are clear. Assumes nothing.
+-- A call sheet is taken apart at its LFs and spaces into its lines and words, whether or not its names are clear.
+-- Assumes nothing.
 use mathlib.Core.Path.{◌≡◌, refl, sym, ap, ◌∙◌}
 use mathlib.Core.Bool.{Bool, true, false, ◌&&◌, ◌||◌, not, true≢false, and-eq-true_iff}
 use mathlib.Core.List.{List, [], ◌∷◌, ◌++◌, map, flatten}

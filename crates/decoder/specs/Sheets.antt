@@ -1,4 +1,5 @@
--- Document 01, "Clear entries": what two sheets have in common; and the way from a call sheet back to its entries. Definitions only.
+-- Document 01, "Clear entries": what two sheets have in common; and the way from a call sheet back to its entries.
+-- Definitions only.
 use Rattle.std.specs.Prelude.{◌≡◌, Bool, true, false, List, map, ◌↔◌, ℕ, ◌-◌, eqb, length, take, drop, get_or}
 use Prim.Native.Char.{code}
 use Rattle.lists.specs.Bytes.{Every, split}

@@ -22,7 +22,7 @@ use Rattle.sentences.specs.declared.SheetEntry.{SheetEntry as Given}
 use Rattle.sentences.proofs.Kept.{sentence_starts_from, starts_from_fresh}
 use Rattle.sentences.proofs.Marking.{entries_length}
 use Rattle.call_spec.specs.Sheet.{SheetEntry, entries_of, entries, no_entry}
-use Rattle.entries.specs.Find.{found_entry, as_found_entry, sheet_entry}
+use Rattle.entries.specs.Find.{as_sheet_entry, found_entry, as_found_entry, sheet_entry}
 
 -- the entries of tokens, after those that the state was fed
 pub sheet_entries : (s : State) (ts : List Token) → map sheet_entry (entries_after s ts) ≡ entries_of (sentence_starts_from s ts) ts
@@ -61,6 +61,11 @@ found_at es k r e = ⊎_elim (λ h. inside h.0 h.1 (h.2, h.3) r e) (λ h. past h
 pub next_given : (a b : Entries) (r : Option Given) → YieldsFirstBy entry_of entries_left a r b → option_map entry_of r ≡ slice_get (entries_left a) 0
 next_given a b None e = rw e.0
 next_given a b (Some x) e = rw e
+
+-- what is left is the entry that such a call gives, and what is left after it
+pub entry_next : (a b : Entries) (x : Given) → YieldsFirstBy entry_of entries_left a (Some x) b
+    → map sheet_entry (entries_left a) ≡ as_sheet_entry x ∷ map sheet_entry (entries_left b)
+entry_next a b x e = ap (map sheet_entry) e
 
 -- the first element after k elements is the one at place k
 get_drop : {A : Type 0} (xs : List A) (k : ℕ) (ys : List A) → drop k xs ≡ ys → slice_get ys 0 ≡ slice_get xs k

@@ -5,9 +5,9 @@ use Rattle.sentences.specs.declared.SheetEntry.{SheetEntry as Given}
 use Rattle.call_spec.specs.Sheet.{SheetEntry, no_entry}
 use Rattle.call_spec.specs.Calls.{entry_at}
 
--- the entry of this name, which starts a sentence or not
-abbrev pub entry_named : Bool → List ℕ → SheetEntry
-entry_named b n = record { starts = b; name = n }
+-- the entry that this one of crate sentences is
+abbrev pub as_sheet_entry : Given → SheetEntry
+as_sheet_entry e = record { starts = e.starts; name = e.name.now }
 
 -- whether the entry is there, and the entry; an empty one if it is not there
 pub record FoundEntry : Type 0 where
@@ -21,8 +21,8 @@ found_entry s k = record { found = ltb k (length (tokens s)); entry = entry_at s
 -- an answer
 abbrev pub as_found_entry : Option Given → FoundEntry
 as_found_entry None = record { found = false; entry = no_entry }
-as_found_entry (Some e) = record { found = true; entry = entry_named e.starts e.name.now }
+as_found_entry (Some e) = record { found = true; entry = as_sheet_entry e }
 
 -- an entry of a sheet, from the pair that the iterator of crate sentences gives
 abbrev pub sheet_entry : Bool × List ℕ → SheetEntry
-sheet_entry e = entry_named e.0 e.1
+sheet_entry e = record { starts = e.0; name = e.1 }

@@ -9,15 +9,11 @@ use Rattle.tokens.specs.Tokens.{Token}
 use Rattle.tokens.specs.Left.{parts_of, tokens_left}
 use Rattle.tokens.specs.declared.Token.{Token as Parts}
 use Rattle.tokens.specs.declared.Tokens.{Tokens}
+use Rattle.tokens.proofs.Given.{given_first}
 use Rattle.sentences.specs.Sentences.{kept}
 use Rattle.sentences.specs.Left.{entries_after}
 use Rattle.sentences.specs.declared.State.{State}
 use Rattle.sentences.proofs.Marking.{entries_length, entries_none}
-
--- the tokens that were left are those that calls gave, and those that are left now
-given_first : (s t : Tokens) (xs : List Parts) → Yields (YieldsFirstBy parts_of tokens_left) s xs t → tokens_left s ≡ map parts_of xs ++ tokens_left t
-given_first s t [] y = ap tokens_left y
-given_first s t (x ∷ xs) y = y.1 ∙ ap (λ (ts : List Token). parts_of x ∷ ts) (given_first y.0 t xs y.2)
 
 -- the entries of tokens, without those up to a token t
 entries_behind : (s : State) (us : List Token) (t : Token) (ts : List Token) {n : ℕ} → n ≡ length us

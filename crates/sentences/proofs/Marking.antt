@@ -9,8 +9,13 @@ use lib.Seq.{sets}
 use lib.Dec.{eqb}
 use Rattle.std.specs.Int.{from_bool}
 use Rattle.std.specs.List.{list_any}
+use Rattle.std.specs.Prelude.{Some}
+use Rattle.std.specs.Iterator.{YieldsFirstBy}
 use Rattle.lists.specs.Bytes.{any, elem}
 use Rattle.tokens.specs.Tokens.{Token, tokens}
+use Rattle.tokens.specs.Left.{parts_of, tokens_left}
+use Rattle.tokens.specs.declared.Token.{Token as Parts}
+use Rattle.tokens.specs.declared.Tokens.{Tokens}
 use Rattle.sentences.specs.Sentences.{sentence_starts, break_after, state_context, kept, flag, is_set, fresh}
 use Rattle.sentences.specs.Calls.{flags, start_bytes}
 use Rattle.sentences.specs.Left.{entries_after}
@@ -46,6 +51,13 @@ pub entries_next : (s : State) {ts us : List Token} {t : Token} → ts ≡ t ∷
     → entries_after s ts ≡ (b, t.name) ∷ entries_after r us
 unfolding entries_after
 entries_next s e f g = rw (e, f, g)
+
+-- whether the next token starts a sentence, and which of the tokens after it do
+pub starts_from_next : (s : State) (a b : Tokens) (x : Parts) → YieldsFirstBy parts_of tokens_left a (Some x) b → {starts : Bool} {r : State}
+    → starts ≡ (is_set s.fresh || break_after (state_context s) x.whitespace.now x.name.now) → r ≡ kept x.name.now x.punctuation.now
+    → sentence_starts_from s (tokens_left a) ≡ starts ∷ sentence_starts_from r (tokens_left b)
+unfolding sentence_starts_from
+starts_from_next s a b x n e f = rw (n, e, f)
 
 -- which entries start a sentence
 abbrev pub starts_of : List (Bool × List ℕ) → List Bool

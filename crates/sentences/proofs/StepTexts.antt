@@ -1,15 +1,15 @@
 -- The refusal of the three texts of a step. Assumes nothing.
 use mathlib.Core.Path.{◌≡◌, refl, sym, ap, ◌∙◌}
-use mathlib.Core.Bool.{Bool, true, false, cond, ◌||◌}
-use mathlib.Core.List.{List}
+use mathlib.Core.Bool.{Bool, true, false, cond, ◌||◌, and-eq-true_iff}
+use mathlib.Core.List.{List, [], ◌∷◌}
 use Prim.Native.Nat.{ℕ, ◌≤◌, ◌<◌, max}
 use native.Mathlib.Omega.{arith}
 use lib.Dec.{ltb}
 use lib.ListN.{length}
-use borrow.Author.Tests.{le-ltb, ltb-false}
+use borrow.Author.Tests.{le-ltb, ltb-true, ltb-false}
 use Rattle.std.specs.Prelude.{Result, Ok, Err, IsErrAnd}
 use Rattle.lists.specs.Bytes.{any}
-use Rattle.admit.specs.Refusals.{answer_number, first_refusal, text_limit, text_tests, text_refusal, in_order, is_not_utf8}
+use Rattle.admit.specs.Refusals.{refusal_number, Test, ◌when◌, answer_number, first_refusal, text_limit, text_tests, text_refusal, in_order, is_not_utf8}
 use Rattle.admit.specs.declared.Refusal.{Refusal}
 use Rattle.admit.specs.declared.Refusal.TheVariants.{TextTooLong, NotUtf8, NoSuchEntry, NameTooLong, BufferTooShort}
 use Rattle.admit.proofs.Calls.{or_else}
@@ -19,6 +19,16 @@ use Rattle.sentences.specs.Calls.{step_tests}
 pub step_in_order : (whitespace name punctuation : List ℕ) → in_order (step_tests whitespace name punctuation) ≡ true
 unfolding text_tests
 step_in_order whitespace name punctuation = refl
+
+-- if tests run in the order of their numbers, what a later one refuses has a larger number than a test before it. So the first
+-- number, which a call answers, is the smallest
+pub later_refusal : (r : Refusal) (holds : Bool) (tests : List Test) → in_order (r when holds ∷ tests) ≡ true → (first_refusal tests ≡ 0 → ⊥)
+    → refusal_number r < first_refusal tests
+later_refusal r holds [] o z = absurd (z refl)
+later_refusal r holds (q when true ∷ tests) o z = ltb-true _ _ ((and-eq-true_iff _ _).0 o).0
+later_refusal r holds (q when false ∷ tests) o z =
+    let k = (and-eq-true_iff (ltb (refusal_number r) (refusal_number q)) (in_order (q when false ∷ tests))).0 o in
+    omega (arith, ltb-true _ _ k.0, later_refusal q false tests k.1 z)
 
 -- if `made` is refused, `?` leaves with its refusal
 pub leaves : {T A : Type 0} {made : Result T Refusal} (result : Result A Refusal) (m : ℕ) {r : Refusal} → made ≡ Err r → IsErrAnd result (λ e. e ≡ r)

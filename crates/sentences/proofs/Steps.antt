@@ -1,4 +1,5 @@
--- The step form, fed the tokens of a text, breaks before the tokens that the whole-text form marks, except the first. Assumes nothing.
+-- The step form, fed the tokens of a text, breaks before the tokens that the whole-text form marks, except the first.
+-- Assumes nothing.
 use mathlib.Core.Path.{◌≡◌, refl, ap, ap₂}
 use mathlib.Core.Bool.{Bool, true, false}
 use mathlib.Core.List.{List, [], ◌∷◌, map}
@@ -16,7 +17,7 @@ use Rattle.sentences.specs.declared.State.{State}
 use Rattle.sentences.proofs.Kept.{breaks_kept}
 use Rattle.sentences.proofs.StepTexts.{step_short}
 
--- "its first step from a fresh state answers no break": whatever else the state holds, and whether the step is accepted or refused
+-- "its first step from a fresh state answers no break": whatever else the state holds, and if the step is refused too
 pub fresh_step : (s : State) (w n p : List ℕ) → is_set s.fresh ≡ true → (step_call s w n p).value.breaks ≡ false
 unfolding step_call
 fresh_step s w n p f = go (first_refusal (step_tests w n p))

@@ -1,5 +1,5 @@
--- The entries that an iterator of entries still gives, and an entry as it gives it. An entry is a pair: whether its token starts a
--- sentence, and its name. Definitions only.
+-- The entries that an iterator of entries still gives, and an entry as it gives it. An entry is a pair: whether its token starts
+-- a sentence, and its name. Definitions only.
 use Rattle.std.specs.Prelude.{Bool, ◌||◌, List, [], ◌∷◌, ℕ}
 use Rattle.tokens.specs.Tokens.{Token}
 use Rattle.tokens.specs.Left.{tokens_left}

@@ -1,5 +1,5 @@
--- Document 01, "Token table and sentences": the step form, fed one token after the other. `steps_tie` uses these definitions to say:
--- "The step form breaks before every other token that does". Definitions only.
+-- Document 01, "Token table and sentences": the step form, fed one token after the other. `steps_tie` uses these definitions to
+-- say: "The step form breaks before every other token that does". Definitions only.
 use Rattle.std.specs.Prelude.{Bool, false, List, [], ◌∷◌}
 use Rattle.admit.specs.Refusals.{Call}
 use Rattle.tokens.specs.Tokens.{Token}

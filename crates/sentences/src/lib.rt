@@ -18,8 +18,9 @@ use std::array;
 use tokens::{Tokens, has_more_tokens};
 
 // What is kept of the last token: its name's length, first five bytes (0 past its end) and last byte (0 if it is empty), and
-// whether its punctuation has each of . : ? and !. A flag is 0 for no and any other byte for yes. It is no `bool`, because C
-// keeps a state and hands it back with whatever bytes it has then.
+// whether its punctuation has each of . : ? and !. The five bytes are an array and no slice, because C keeps a state longer than
+// the text. The five flags `point` to `fresh` are 0 for no and any other byte for yes. They are no `bool`, because C hands a
+// state back with whatever bytes it has then.
 #[repr(C)]
 #[derive(Clone, Copy)]
 pub struct State {
@@ -90,7 +91,8 @@ impl State {
         }
     }
 
-    // One step. The token is given as whitespace, name and punctuation. If the step is refused, the state stays the caller's.
+    // One step. If it is refused, the state stays the caller's. The token is given as three texts, as document 01 and the header
+    // give it: it has no prepunctuation, so it is no `Token`, and other functions take two of the three.
     #[tactic(auto, unfolding(crate::specs::Calls::step_call))]
     pub fn push(self, whitespace: &[u8], name: &[u8], punctuation: &[u8]) -> Result<Step, Refusal>
         ensures { as_step self result ≡ step_call self whitespace.now name.now punctuation.now }
@@ -162,7 +164,8 @@ fn is_sentence_break(state: State, whitespace: &[u8], name: &[u8]) -> bool
     !state.looks_like_abbreviation()
 }
 
-// The tests of the three texts of a step. Of several texts the first test in the order wins, so all lengths are tested first.
+// The tests of the three texts of a step, which `push` is given. Of several texts the first test in the order wins, so all lengths
+// are tested first.
 fn admit_step(whitespace: &[u8], name: &[u8], punctuation: &[u8]) -> Result<(), Refusal>
     ensures { answer_number result ≡ first_refusal (step_tests whitespace.now name.now punctuation.now) }
 {
@@ -235,7 +238,8 @@ fn write_starts(s: &[u8], starts: &mut [u8]) -> usize
     requires { length (tokens s.now) ≤ length starts.old }
     ensures { (result ≡ length (tokens s.now)) × (starts.new ≡ sets starts.old 0 (start_bytes s.now)) }
 {
-    // Each flag is stored by its index: no contract says what a chain over `iter_mut` leaves in the buffer.
+    // Stored by index: after `zip` of `iter_mut` and the entries a proof knows only the buffer's length. And the count is the result
+    // too, which the last index of `enumerate` doesn't give if there is no entry.
     let mut n = 0;
     for entry in Entries::new(s) {
         starts[n] = u8::from(entry.starts);

@@ -2,13 +2,13 @@
 use mathlib.Core.Path.{◌≡◌, refl, sym, ap, ◌∙◌}
 use mathlib.Core.Bool.{Bool, true, false, ◌&&◌}
 use mathlib.Core.List.{List, [], ◌∷◌}
-use Prim.Native.Nat.{ℕ, ◌+◌, ◌≤◌}
+use Prim.Native.Nat.{ℕ, suc, ◌+◌, ◌≤◌, ◌<◌}
 use native.Mathlib.Omega.{arith}
 use lib.Dec.{eqb}
 use lib.ListN.{length, take, drop, length-drop, drop_of_length-le}
 use borrow.Author.Tests.{eq-eqb, ne_eqb}
-use Rattle.lists.specs.Bytes.{all, any, span}
-use Rattle.lists.specs.Classes.{prepunctuation_marks, whitespace, non_whitespace, prepunctuation_mark}
+use Rattle.lists.specs.Bytes.{all, any, span, after_last}
+use Rattle.lists.specs.Classes.{prepunctuation_marks, whitespace, non_whitespace, prepunctuation_mark, non_postpunctuation}
 use Rattle.lists.proofs.Scan.{span_le, all_span, span_within, span_take_while, span_short, one_of_all}
 use Rattle.tokens.specs.Tokens.{name_size, cut, tokens}
 use Rattle.tokens.proofs.Forward.{tokens_none, tokens_more}
@@ -41,6 +41,11 @@ module _ (white run named : List ℕ) (ends : Bool) (m : ℕ) (em : m ≡ span p
       ≡ cut white run ends
   unfolding cut
   cut_peeled h = let e : (ends && all prepunctuation_mark run) ≡ false = sym test_eq ∙ h in rw (e, en, em)
+
+-- the length of the name, as the code finds it: the first byte, and the others up to the last one that is no trailing mark
+pub name_size_lem : (s : List ℕ) → 0 < length s → name_size s ≡ suc (after_last non_postpunctuation (drop 1 s))
+name_size_lem [] h = absurd (omega arith)
+name_size_lem (b ∷ s) h = refl
 
 -- leading marks are no whitespace
 marks_non_whitespace : (b : ℕ) → prepunctuation_mark b ≡ true → non_whitespace b ≡ true

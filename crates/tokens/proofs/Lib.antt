@@ -6,5 +6,6 @@ pub mod Joined
 pub mod Glue
 pub mod Peeled
 pub mod Walks
+pub mod Given
 pub mod Cutting
 pub mod Answers

@@ -1,10 +1,12 @@
 -- The records of a table, one after the other. Assumes nothing.
 use mathlib.Core.Path.{◌≡◌, refl, sym, ap, ◌∙◌}
 use mathlib.Core.List.{List, [], ◌∷◌, ◌++◌, append-nil, flatten}
-use Prim.Native.Nat.{ℕ, ◌+◌, ◌*◌, ◌≤◌}
+use Prim.Native.Nat.{ℕ, zero, suc, ◌+◌, ◌*◌, ◌≤◌, ◌<◌}
+use native.Mathlib.Nat.{add-zero, add_assoc}
 use native.Mathlib.Omega.{arith}
-use lib.ListN.{length, length-append}
-use lib.Seq.{sets}
+use lib.ListN.{length, take, drop, get_or, length-append}
+use lib.Seq.{sets, drop-drop, take-append-le, take-length}
+use Rattle.std.proofs.Common.{drop_at}
 use Rattle.lists.specs.LittleEndian.{le_bytes}
 use Rattle.lists.proofs.Sets.{sets_append}
 use Rattle.word_writer.specs.Writer.{pair_of}
@@ -75,6 +77,22 @@ records_end l n at us u k = ap (λ (vs : List Token). sets l (record_size * n) (
 abbrev pub total_size : List Token → ℕ
 total_size [] = 0
 total_size (t ∷ ts) = token_size t + total_size ts
+
+-- the record of token k stands after 32 * k bytes, and the token starts where those before it end
+pub record_at_lem : (at : ℕ) (ts : List Token) (none : Token) (k : ℕ) → k < length ts
+    → take record_size (drop (record_size * k) (records at ts)) ≡ record_of (at + total_size (take k ts)) (get_or ts k none)
+unfolding records
+record_at_lem at [] none k h = absurd (omega arith)
+record_at_lem at (t ∷ ts) none zero h =
+    let r = record_length at t in
+    rw (add-zero, ← r) (take-append-le (length (record_of at t)) (record_of at t) (records (at + token_size t) ts) (omega arith) ∙ take-length (record_of at t))
+record_at_lem at (t ∷ ts) none (suc k) h =
+    let e : record_size * suc k ≡ record_size + record_size * k = omega arith in
+    let d : drop (record_size * suc k) (records at (t ∷ ts)) ≡ drop (record_size * k) (records (at + token_size t) ts) =
+    ap (λ (i : ℕ). drop i (records at (t ∷ ts))) e ∙ sym (drop-drop (record_size * k) record_size (records at (t ∷ ts)))
+    ∙ ap (drop (record_size * k)) (drop_at (record_of at t) (records (at + token_size t) ts) record_size (record_length at t)) in
+    ap (take record_size) d ∙ record_at_lem (at + token_size t) ts none k (omega arith)
+    ∙ ap (λ (i : ℕ). record_of i (get_or ts k none)) (add_assoc at (token_size t) (total_size (take k ts)))
 
 -- no more than their text has
 pub total_within : (s : List ℕ) → total_size (tokens s) ≤ length s

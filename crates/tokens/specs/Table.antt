@@ -1,5 +1,5 @@
--- Document 01, "Token table and sentences": the token table, and the answer of a call that writes a fixed number of bytes for each
--- token. Definitions only.
+-- Document 01, "Token table and sentences": the token table, and the answer of a call that writes a fixed number of bytes for
+-- each token. Definitions only.
 use Rattle.std.specs.Prelude.{ℕ, zero, suc, ◌+◌, ltb, length, Result}
 use mathlib.Core.List.{List, [], ◌∷◌, ◌++◌, flatten}
 use Rattle.lists.specs.Bytes.{overwrite}

@@ -19,7 +19,8 @@ use Rattle.clear.specs.Test.{last_two, is_exponent_clear, is_fraction_clear, is_
 use Rattle.decoder.specs.Decode.{digit_bytes, decimal_digits, last_word}
 use Rattle.decoder.specs.Sheets.{names}
 
--- not clear: a plus, a leading zero in a figure, an hour with one, full hours, minutes past 59, a wrong suffix or abbreviation, ..
+-- not clear: a plus, a leading zero in a figure, an hour with one, full hours, minutes past 59, a wrong suffix or
+-- abbreviation, ..
 unfoldable pub unclear_sheet : List ℕ
 unclear_sheet =
     bytes

@@ -1,5 +1,5 @@
--- There are sheets to which `call_sheets_distinguish_sheets` applies: a sheet with a name of each kind is accepted and made only of
--- clear entries. Assumes nothing.
+-- There are sheets to which `call_sheets_distinguish_sheets` applies: a sheet with a name of each kind is accepted and made only
+-- of clear entries. Assumes nothing.
 use mathlib.Core.Path.{◌≡◌, refl}
 use mathlib.Core.Bool.{true}
 use mathlib.Core.List.{List}

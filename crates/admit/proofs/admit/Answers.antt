@@ -1,16 +1,11 @@
 use borrow.Author.Tests.{lt-ltb, le-ltb}
 use Rattle.lists.specs.Bytes.{any}
 use Rattle.admit.specs.Refusals.{text_tests}
-use borrow.Author.Rules.{rules}
 use Rattle.admit.proofs.admit.Goals as goal
 
 pub returns-then-limit-s : goal.returns-then-limit-s
 unfolding text_tests any
 returns-then-limit-s c = rw (lt-ltb _ _ c.if-limit-s.true)
-
-pub is_utf8-requires : goal.is_utf8-requires
-unfolding text_tests any
-is_utf8-requires c = search rules
 
 pub returns-then-is_utf8 : goal.returns-then-is_utf8
 unfolding text_tests any
