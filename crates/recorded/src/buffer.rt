@@ -129,8 +129,8 @@ impl Lent<'_> {
     }
 }
 
-// Whether a call answered what is expected and left just its bytes in each buffer. If one was too short, the call is to be refused
-// and to write nothing.
+// Whether a call answered what is expected and left just its bytes in each buffer. If one was too short, the call is to be
+// refused and to write nothing.
 pub fn is_given<T: PartialEq + Drop>(
     answer: Answer<T>,
     expected: &Answer<T>,

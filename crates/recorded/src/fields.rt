@@ -1,5 +1,5 @@
 // A line of a file: its fields, numbers and hex.
-ghost use Rattle.std.specs.Prelude.{◌≡◌, ◌<◌, IfOk, if◌then◌else◌};
+ghost use Rattle.std.specs.Prelude.{◌≡◌, ◌<◌, None, Some, IfOk, MatchOption, MatchResult, if◌then◌else◌};
 ghost use Rattle.std.specs.Option.{option_map_or};
 ghost use Rattle.std.specs.Char.{digit_value};
 ghost use Rattle.std.specs.Str.Parse.{digits_value};
@@ -101,10 +101,10 @@ pub fn refusal(field: &[u8]) -> Result<Option<Refusal>, LineError>
 }
 
 // A value that is there if the field is 1. Else it is the default.
-pub fn option<T: Default + PartialEq + Drop>(
-    field: &[u8],
-    value: T,
-) -> Result<Option<T>, LineError> {
+pub fn option<T: Default + PartialEq + Drop>(field: &[u8], value: T) -> Result<Option<T>, LineError>
+    ensures { let flag = digits_value 10 field.now in
+        IfOk result (λ option. MatchOption option (flag ≡ 0) (λ x. (flag ≡ 1) × (x ≡ value))) }
+{
     if flag(field)? {
         return Ok(Some(value));
     }
@@ -118,7 +118,10 @@ pub fn option<T: Default + PartialEq + Drop>(
 pub fn answer<T: Default + PartialEq + Drop>(
     refusal: Option<Refusal>,
     value: T,
-) -> Result<Answer<T>, LineError> {
+) -> Result<Answer<T>, LineError>
+    ensures { IfOk result (λ answer.
+        MatchResult answer (λ x. (refusal ≡ None) × (x ≡ value)) (λ why. refusal ≡ Some why)) }
+{
     match refusal {
         None => Ok(Ok(value)),
         Some(refusal) if value == T::default() => Ok(Err(refusal)),
