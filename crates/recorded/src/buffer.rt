@@ -1,4 +1,7 @@
 // A lent buffer: what fills it before a call, how much of it is lent, and what the call leaves in it.
+ghost use Rattle.std.specs.Prelude.{◌≡◌, ◌≢◌, ◌↔◌, ◌<◌, ◌++◌, ℕ, List, length, All, IsTrue, OnOk};
+ghost use Rattle.std.specs.Int.{to_le_bytes, w32};
+
 use crate::fields::{Answer, LineError};
 use crate::tally::Report;
 use admit::Refusal;
@@ -15,78 +18,126 @@ pub enum Room {
     Short,
 }
 
-pub const ROOMS: [Room; 3] = [Room::Spare, Room::JustEnough, Room::Short];
+// The rooms of a call that has one buffer.
+const ROOMS: [Room; 3] = [Room::Spare, Room::JustEnough, Room::Short];
 
-// What a call is to answer, and the bytes that it is to leave in the buffer.
-#[derive(Clone, Copy, Debug, PartialEq, Eq)]
-pub struct Expected<'a, T> {
-    pub answer: Answer<T>,
+// A buffer to lend to a call.
+#[derive(Drop)]
+pub struct Lent<'a> {
+    pub buffer: &'a mut [u8],
+    // What the call is to leave in it.
     pub bytes: &'a [u8],
+    // How many bytes more are room to spare.
+    pub spare: usize,
+}
+
+// What a call left in a buffer.
+#[derive(Clone, Copy, Debug, PartialEq, Eq)]
+pub struct Left {
+    // Whether the room was too short for the bytes.
+    is_short: bool,
+    is_unwritten: bool,
+    has_just_its_bytes: bool,
 }
 
 impl Room {
-    // The front of the buffer that is lent for a result of `needed` bytes, if `spare` bytes more are room to spare.
-    pub fn of(self, needed: usize, spare: usize, buffer: &mut [u8]) -> &mut [u8] {
-        let len = match self {
+    // How many bytes are lent for a result of `needed` bytes.
+    fn size(self, needed: usize, spare: usize) -> usize
+        ensures { (result < needed) ↔ ((self ≡ Room.Short) × (needed ≢ 0)) }
+    {
+        match self {
             Room::Spare => needed.saturating_add(spare),
             Room::JustEnough => needed,
             Room::Short => needed.saturating_sub(1),
-        };
-        let lent = len.min(buffer.len());
-        &mut buffer[..lent]
+        }
     }
 
     // Whether a result of `needed` bytes does not fit.
-    pub fn is_short(self, needed: usize) -> bool {
+    fn is_short(self, needed: usize) -> bool
+        ensures { IsTrue result ↔ ((self ≡ Room.Short) × (needed ≢ 0)) }
+    {
         self == Room::Short && needed != 0
     }
 }
 
+// Whether no byte was written since the buffer was filled.
+fn is_unwritten(buffer: &[u8]) -> bool
+    ensures { IsTrue result ↔ All (λ b. b ≡ GUARD) buffer.now }
+{
+    buffer.iter().all(|b| *b == GUARD)
+}
+
 // Whether the bytes are at the buffer's front, and no byte past them was written.
-pub fn has_just(buffer: &[u8], bytes: &[u8]) -> bool {
-    buffer
-        .strip_prefix(bytes)
-        .is_some_and(|rest| rest.iter().all(|b| *b == GUARD))
+fn has_just(buffer: &[u8], bytes: &[u8]) -> bool
+    ensures { IsTrue result ↔ ((rest : List ℕ) × (buffer.now ≡ bytes.now ++ rest) × All (λ b. b ≡ GUARD) rest) }
+{
+    match buffer.strip_prefix(bytes) {
+        Some(rest) => is_unwritten(rest),
+        None => false,
+    }
 }
 
 // Puts a number as a table has it: four bytes, the lowest first.
-pub fn put_number(n: usize, table: &mut Vec<u8>) -> Result<(), LineError> {
+pub fn put_number(n: usize, table: &mut Vec<u8>) -> Result<(), LineError>
+    ensures { OnOk result (table.new.items ≡ table.old.items ++ to_le_bytes w32 n) }
+{
     let bytes = u32::try_from(n)?.to_le_bytes();
     table.extend_from_slice(&bytes)?;
     Ok(())
 }
 
-impl<T: PartialEq + Drop> Expected<'_, T> {
-    // Whether the call, lent this room of the buffer, answers what is expected and leaves just that.
-    fn is_given<F>(&self, room: Room, spare: usize, buffer: &mut [u8], call: &F) -> bool
-    where
-        F: Fn(&mut [u8]) -> Answer<T>,
-        requires { F.IsAlwaysCallable call.now }
+impl Lent<'_> {
+    // Fills the buffer, and lends its front.
+    pub fn front(&mut self, room: Room) -> &mut [u8]
+        ensures { room ≡ Room.Short → length self.old.bytes.now ≢ 0 → length result.now < length self.old.bytes.now }
     {
-        buffer.fill(GUARD);
-        let answer = call(room.of(self.bytes.len(), spare, buffer));
-        if room.is_short(self.bytes.len()) {
-            return answer == Err(Refusal::BufferTooShort) && has_just(buffer, b"");
-        }
-        answer == self.answer && has_just(buffer, self.bytes)
+        self.buffer.fill(GUARD);
+        let size = room.size(self.bytes.len(), self.spare);
+        let lent = size.min(self.buffer.len());
+        &mut self.buffer[..lent]
     }
 
-    // Compares the call in every room.
-    pub fn compare<W, F>(
-        &self,
-        report: &mut Report<W>,
-        what: W,
-        spare: usize,
-        buffer: &mut [u8],
-        call: F,
-    )
+    // What a call that was lent this room left.
+    pub fn left(&self, room: Room) -> Left
+        ensures short { IsTrue result.is_short ↔ ((room ≡ Room.Short) × (length self.now.bytes.now ≢ 0)) }
+        ensures unwritten { IsTrue result.is_unwritten ↔ All (λ b. b ≡ GUARD) self.now.buffer.now }
+        ensures just { IsTrue result.has_just_its_bytes
+            ↔ ((rest : List ℕ) × (self.now.buffer.now ≡ self.now.bytes.now ++ rest) × All (λ b. b ≡ GUARD) rest) }
+    {
+        Left {
+            is_short: room.is_short(self.bytes.len()),
+            is_unwritten: is_unwritten(self.buffer),
+            has_just_its_bytes: has_just(self.buffer, self.bytes),
+        }
+    }
+
+    // Compares a call that is lent this buffer alone, in every room.
+    pub fn compare<W, T, F>(&mut self, what: W, expected: Answer<T>, call: F) -> Report<W>
     where
         W: Copy,
+        T: PartialEq + Drop,
         F: Fn(&mut [u8]) -> Answer<T> + Drop,
         requires { F.IsAlwaysCallable call }
     {
+        let mut report = Report::new();
         for room in ROOMS {
-            report.count(what, self.is_given(room, spare, buffer, &call));
+            let answer = call(self.front(room));
+            let agrees = is_given(answer, &expected, &[self.left(room)]);
+            report = report.and(Report::of(what, agrees));
         }
+        report
     }
+}
+
+// Whether a call answered what is expected and left just its bytes in each buffer. If one was too short, the call is to be
+// refused and to write nothing.
+pub fn is_given<T: PartialEq + Drop>(
+    answer: Answer<T>,
+    expected: &Answer<T>,
+    left: &[Left],
+) -> bool {
+    if left.iter().any(|left| left.is_short) {
+        return answer == Err(Refusal::BufferTooShort) && left.iter().all(|left| left.is_unwritten);
+    }
+    answer == *expected && left.iter().all(|left| left.has_just_its_bytes)
 }

@@ -1,4 +1,10 @@
 // A line of a file: its fields, numbers and hex.
+ghost use Rattle.std.specs.Prelude.{◌≡◌, ◌<◌, None, Some, IfOk, MatchOption, MatchResult, if◌then◌else◌};
+ghost use Rattle.std.specs.Option.{option_map_or};
+ghost use Rattle.std.specs.Char.{digit_value};
+ghost use Rattle.std.specs.Str.Parse.{digits_value};
+ghost use Rattle.admit.specs.Refusals.{refusal_number};
+
 use admit::Refusal;
 use std::alloc::{AllocError, AllocFailed, Global};
 use std::num::{ParseIntError, TryFromIntError};
@@ -60,7 +66,9 @@ pub fn fields(alloc: Global, line: &[u8], end: u8) -> Result<Vec<&[u8]>, AllocEr
 }
 
 // The decimal number of a field, which has at most nine digits.
-pub fn number(field: &[u8]) -> Result<usize, LineError> {
+pub fn number(field: &[u8]) -> Result<usize, LineError>
+    ensures { IfOk result (λ n. n ≡ digits_value 10 field.now) }
+{
     if 9 < field.len() || !field.iter().all(u8::is_ascii_digit) {
         return Err(LineError::Malformed);
     }
@@ -68,7 +76,9 @@ pub fn number(field: &[u8]) -> Result<usize, LineError> {
 }
 
 // Whether the field is 1. Else it is 0.
-pub fn flag(field: &[u8]) -> Result<bool, LineError> {
+pub fn flag(field: &[u8]) -> Result<bool, LineError>
+    ensures { IfOk result (λ is. digits_value 10 field.now ≡ (if is then 1 else 0)) }
+{
     match number(field)? {
         0 => Ok(false),
         1 => Ok(true),
@@ -77,7 +87,9 @@ pub fn flag(field: &[u8]) -> Result<bool, LineError> {
 }
 
 // The refusal with the field's number, none for 0.
-pub fn refusal(field: &[u8]) -> Result<Option<Refusal>, LineError> {
+pub fn refusal(field: &[u8]) -> Result<Option<Refusal>, LineError>
+    ensures { IfOk result (λ refusal. digits_value 10 field.now ≡ option_map_or refusal_number refusal 0) }
+{
     match number(field)? {
         0 => Ok(None),
         number => REFUSALS
@@ -89,10 +101,10 @@ pub fn refusal(field: &[u8]) -> Result<Option<Refusal>, LineError> {
 }
 
 // A value that is there if the field is 1. Else it is the default.
-pub fn option<T: Default + PartialEq + Drop>(
-    field: &[u8],
-    value: T,
-) -> Result<Option<T>, LineError> {
+pub fn option<T: Default + PartialEq + Drop>(field: &[u8], value: T) -> Result<Option<T>, LineError>
+    ensures { let flag = digits_value 10 field.now in
+        IfOk result (λ option. MatchOption option (flag ≡ 0) (λ x. (flag ≡ 1) × (x ≡ value))) }
+{
     if flag(field)? {
         return Ok(Some(value));
     }
@@ -106,7 +118,10 @@ pub fn option<T: Default + PartialEq + Drop>(
 pub fn answer<T: Default + PartialEq + Drop>(
     refusal: Option<Refusal>,
     value: T,
-) -> Result<Answer<T>, LineError> {
+) -> Result<Answer<T>, LineError>
+    ensures { IfOk result (λ answer.
+        MatchResult answer (λ x. (refusal ≡ None) × (x ≡ value)) (λ why. refusal ≡ Some why)) }
+{
     match refusal {
         None => Ok(Ok(value)),
         Some(refusal) if value == T::default() => Ok(Err(refusal)),
@@ -114,7 +129,10 @@ pub fn answer<T: Default + PartialEq + Drop>(
     }
 }
 
-fn hex_digit(b: u8) -> Result<u8, LineError> {
+fn hex_digit(b: u8) -> Result<u8, LineError>
+    ensures value { IfOk result (λ n. n ≡ digit_value b) }
+    ensures below { IfOk result (λ n. n < 16) }
+{
     match b {
         b'0'..=b'9' => Ok(b - b'0'),
         b'a'..=b'f' => Ok(b - b'a' + 10),
@@ -123,11 +141,13 @@ fn hex_digit(b: u8) -> Result<u8, LineError> {
 }
 
 // The byte of a field that is one hex pair.
-pub fn byte_of(pair: &[u8]) -> Result<u8, LineError> {
+pub fn byte_of(pair: &[u8]) -> Result<u8, LineError>
+    ensures { IfOk result (λ b. b ≡ digits_value 16 pair.now) }
+{
     let [high, low] = pair else {
         return Err(LineError::Malformed);
     };
-    Ok(hex_digit(*high)? << 4 | hex_digit(*low)?)
+    Ok(hex_digit(*high)? * 16 + hex_digit(*low)?)
 }
 
 // The bytes of hex pairs, at least one.

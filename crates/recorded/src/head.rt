@@ -1,4 +1,6 @@
 // What every line begins with: a text, and the refusal of that text.
+ghost use Rattle.std.specs.Prelude.{◌≤◌, vec_len, IfOk};
+
 use crate::fields::{LineError, byte_of, bytes_of, number, refusal};
 use admit::Refusal;
 use std::alloc::Global;
@@ -14,7 +16,9 @@ pub struct Head {
 }
 
 // The text of `count` times a byte and what follows.
-fn text_of(alloc: Global, count: usize, byte: u8, tail: &[u8]) -> Result<Vec<u8>, LineError> {
+fn text_of(alloc: Global, count: usize, byte: u8, tail: &[u8]) -> Result<Vec<u8>, LineError>
+    ensures { IfOk result (λ text. vec_len text ≤ LONGEST) }
+{
     if LONGEST < count.saturating_add(tail.len()) {
         return Err(LineError::Malformed);
     }
@@ -25,7 +29,9 @@ fn text_of(alloc: Global, count: usize, byte: u8, tail: &[u8]) -> Result<Vec<u8>
 
 impl Head {
     // The fields REPEAT BYTE TAIL REFUSAL: the text is BYTE repeated, and then TAIL.
-    pub fn parse(alloc: Global, fields: &[&[u8]]) -> Result<Head, LineError> {
+    pub fn parse(alloc: Global, fields: &[&[u8]]) -> Result<Head, LineError>
+        ensures { IfOk result (λ head. vec_len head.text ≤ LONGEST) }
+    {
         let [repeat, byte, tail, number_of_refusal] = fields else {
             return Err(LineError::Malformed);
         };

@@ -1,7 +1,7 @@
 // A file of recorded lines, each compared.
 use crate::fields::LineError;
 use crate::tally::{Report, Tally};
-use std::alloc::AllocError;
+use std::alloc::{AllocError, Global};
 use std::fmt::Display;
 use std::fs::File;
 use std::io;
@@ -31,36 +31,42 @@ fn load<R: Files + Print + AllocGlobal>(rt: &R, name: &str) -> io::Result<Option
 }
 
 // Counts a text that was compared.
-pub fn add<W: Copy + Display>(
+fn add<W: Copy + Display>(
     rt: &impl Print,
     tally: &mut Tally,
     compared: Result<Report<W>, LineError>,
 ) -> io::Result<()> {
     match compared {
         Ok(report) => tally.add(rt, report),
-        Err(LineError::Malformed) => {
-            let mut report = Report::new();
-            report.count("malformed", false);
-            tally.add(rt, report)
-        }
+        Err(LineError::Malformed) => tally.add(rt, Report::of("malformed", false)),
         Err(LineError::OutOfMemory) => Err(io::Error::from(AllocError)),
     }
 }
 
-// Compares every line of the file. The answer is nothing if the file can't be read whole.
-pub fn replay<R, W, F>(rt: &R, name: &str, compare_line: F) -> io::Result<Option<Tally>>
+// Compares every line of the file, adds the text at the limit if there is one, and says the tally. If the file can't be read
+// whole, it only says why.
+pub fn replay<R, W, F>(
+    rt: &R,
+    name: &str,
+    compare_line: F,
+    limit: Option<Result<Report<W>, LineError>>,
+) -> io::Result<()>
 where
     R: Files + Print + AllocGlobal,
     W: Copy + Display,
-    F: Fn(&[u8]) -> Result<Report<W>, LineError>,
+    F: Fn(Global, &[u8]) -> Result<Report<W>, LineError>,
     requires { F.IsAlwaysCallable compare_line }
 {
     let Some(lines) = load(rt, name)? else {
-        return Ok(None);
+        return Ok(());
     };
     let mut tally = Tally::default();
     for line in lines.split(|b| *b == b'\n') {
-        add(rt, &mut tally, compare_line(line))?;
+        add(rt, &mut tally, compare_line(rt.alloc(), line))?;
     }
-    Ok(Some(tally))
+    let Some(compared) = limit else {
+        return tally.say(rt, name);
+    };
+    add(rt, &mut tally, compared)?;
+    tally.say(rt, format_args!("{name} and the limit"))
 }

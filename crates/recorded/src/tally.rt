@@ -1,11 +1,14 @@
 // What was compared, and how much of it differs.
+ghost use Rattle.std.specs.Prelude.{◌≡◌, ◌+◌, ◌-◌, ◌^◌, min, None, Some, if◌then◌else◌};
+ghost use Rattle.std.specs.Option.{option_or};
+
 use std::fmt::Display;
 use std::io;
 
 // The most texts that are printed because they differ.
 const NAMED: usize = 10;
 
-// For one text: how many answers were compared, how many of them differ, and what differs first.
+// How many answers were compared, how many of them differ, and what differs first.
 #[derive(Clone, Copy, Debug, PartialEq, Eq)]
 pub struct Report<W> {
     answers: usize,
@@ -23,6 +26,7 @@ pub struct Tally {
 }
 
 impl<W: Copy> Report<W> {
+    // The report of no comparison.
     pub fn new() -> Report<W> {
         Report {
             answers: 0,
@@ -31,12 +35,37 @@ impl<W: Copy> Report<W> {
         }
     }
 
-    // One comparison more.
-    pub fn count(&mut self, what: W, agrees: bool) {
-        self.answers = self.answers.saturating_add(1);
-        if !agrees {
-            self.differ = self.differ.saturating_add(1);
-            self.first = self.first.or(Some(what));
+    // The report of one comparison.
+    pub fn of(what: W, agrees: bool) -> Report<W>
+        ensures answers { result.answers ≡ 1 }
+        ensures differ { result.differ ≡ (if agrees then 0 else 1) }
+        ensures first { result.first ≡ (if agrees then None else Some what) }
+    {
+        if agrees {
+            Report {
+                answers: 1,
+                differ: 0,
+                first: None,
+            }
+        } else {
+            Report {
+                answers: 1,
+                differ: 1,
+                first: Some(what),
+            }
+        }
+    }
+
+    // This report and that of what was compared next.
+    pub fn and(self, next: Report<W>) -> Report<W>
+        ensures answers { result.answers ≡ min (self.answers + next.answers) (2 ^ 64 - 1) }
+        ensures differ { result.differ ≡ min (self.differ + next.differ) (2 ^ 64 - 1) }
+        ensures first { result.first ≡ option_or self.first next.first }
+    {
+        Report {
+            answers: self.answers.saturating_add(next.answers),
+            differ: self.differ.saturating_add(next.differ),
+            first: self.first.or(next.first),
         }
     }
 }
@@ -59,7 +88,7 @@ impl Tally {
         println!(rt; "line {line}: {first}")
     }
 
-    pub fn say(self, rt: &impl Print, name: &str) -> io::Result<()> {
+    pub fn say(self, rt: &impl Print, name: impl Display + Drop) -> io::Result<()> {
         let Tally {
             texts,
             answers,

@@ -4,7 +4,7 @@ use crate::line::{Line, bytes_in};
 use admit::Refusal;
 use calls::{CalledEntry, CalledSheet, call_entry, call_sheet};
 use clear::is_clear;
-use recorded::buffer::{Expected, GUARD};
+use recorded::buffer::{GUARD, Lent};
 use recorded::fields::{Answer, LineError};
 use recorded::tally::Report;
 use std::alloc::Global;
@@ -14,105 +14,105 @@ const SPARE: usize = 32;
 
 const MARGIN: usize = 64;
 
-// Compares a call in every room.
-pub fn compare_call<T, F>(
-    report: &mut Report<Compared>,
-    what: Compared,
-    alloc: Global,
-    expected: Expected<T>,
-    call: F,
-) -> Result<(), LineError>
-where
-    T: PartialEq + Drop,
-    F: Fn(&mut [u8]) -> Answer<T> + Drop,
-    requires { F.IsAlwaysCallable call }
-{
-    let len = expected.bytes.len().saturating_add(MARGIN);
-    let mut buffer = vec![in alloc; GUARD; len]?;
-    expected.compare(report, what, SPARE, &mut buffer, call);
-    Ok(())
+// A sheet, and what allocates the buffers of its calls.
+#[derive(Clone, Copy)]
+pub struct Sheet<'a> {
+    pub text: &'a [u8],
+    pub alloc: Global,
 }
 
-pub fn compare_sheet(
-    report: &mut Report<Compared>,
-    alloc: Global,
-    text: &[u8],
-    expected: Expected<CalledSheet>,
-) -> Result<(), LineError> {
-    compare_call(report, Compared::CallSheet, alloc, expected, |out| {
-        call_sheet(text, out)
-    })
-}
+impl Sheet<'_> {
+    // Compares a call in every room. It is to leave these bytes in its buffer.
+    fn compare_call<T, F>(
+        &self,
+        what: Compared,
+        expected: Answer<T>,
+        bytes: &[u8],
+        call: F,
+    ) -> Result<Report<Compared>, LineError>
+    where
+        T: PartialEq + Drop,
+        F: Fn(&mut [u8]) -> Answer<T> + Drop,
+        requires { F.IsAlwaysCallable call }
+    {
+        let len = bytes.len().saturating_add(MARGIN);
+        let mut buffer = vec![in self.alloc; GUARD; len]?;
+        let mut lent = Lent {
+            buffer: &mut buffer,
+            bytes,
+            spare: SPARE,
+        };
+        Ok(lent.compare(what, expected, call))
+    }
 
-// The call of entry k.
-pub fn compare_entry(
-    report: &mut Report<Compared>,
-    what: Compared,
-    alloc: Global,
-    text: &[u8],
-    k: usize,
-    expected: Expected<CalledEntry>,
-) -> Result<(), LineError> {
-    compare_call(report, what, alloc, expected, |out| {
-        call_entry(text, k, out)
-    })
+    pub fn compare_whole(
+        &self,
+        expected: Answer<CalledSheet>,
+        lines: &[u8],
+    ) -> Result<Report<Compared>, LineError> {
+        let text = self.text;
+        self.compare_call(Compared::CallSheet, expected, lines, |out| {
+            call_sheet(text, out)
+        })
+    }
+
+    // The call of entry k.
+    pub fn compare_entry(
+        &self,
+        k: usize,
+        expected: Answer<CalledEntry>,
+        line: &[u8],
+    ) -> Result<Report<Compared>, LineError> {
+        let text = self.text;
+        self.compare_call(Compared::CallEntry, expected, line, |out| {
+            call_entry(text, k, out)
+        })
+    }
+
+    // The same if there is no entry k.
+    fn compare_no_entry(&self, k: usize, refusal: Refusal) -> Result<Report<Compared>, LineError> {
+        let text = self.text;
+        self.compare_call(Compared::CallNoEntry, Err(refusal), b"", |out| {
+            call_entry(text, k, out)
+        })
+    }
 }
 
 // Each entry, whose line is a part of the lines.
-fn compare_entries(
-    report: &mut Report<Compared>,
-    alloc: Global,
-    line: &Line,
-) -> Result<(), LineError> {
-    let text = line.head.text.as_slice();
+fn compare_entries(sheet: &Sheet, line: &Line) -> Result<Report<Compared>, LineError> {
     let mut rest = line.lines.as_slice();
+    let mut report = Report::new();
     for (k, answer) in line.entries.iter().enumerate() {
         let (bytes, others) = rest.split_at(bytes_in(*answer).min(rest.len()));
         rest = others;
-        let expected = Expected {
-            answer: *answer,
-            bytes,
-        };
-        compare_entry(report, Compared::CallEntry, alloc, text, k, expected)?;
+        report = report.and(sheet.compare_entry(k, *answer, bytes)?);
     }
-    Ok(())
+    Ok(report)
 }
 
 // The calls of two entries that are not there: the one after the last, and one with a number that no entry has.
-fn compare_no_entries(
-    report: &mut Report<Compared>,
-    alloc: Global,
-    line: &Line,
-) -> Result<(), LineError> {
+fn compare_no_entries(sheet: &Sheet, line: &Line) -> Result<Report<Compared>, LineError> {
     let refusal = line.head.refusal.unwrap_or(Refusal::NoSuchEntry);
-    for k in [line.entries.len(), usize::MAX] {
-        let expected = Expected {
-            answer: Err(refusal),
-            bytes: b"",
-        };
-        let text = line.head.text.as_slice();
-        compare_entry(report, Compared::CallNoEntry, alloc, text, k, expected)?;
-    }
-    Ok(())
+    let next = sheet.compare_no_entry(line.entries.len(), refusal)?;
+    let last = sheet.compare_no_entry(usize::MAX, refusal)?;
+    Ok(next.and(last))
 }
 
 // The verdict on the text as a name.
-fn compare_clear(report: &mut Report<Compared>, line: &Line) {
+fn compare_clear(line: &Line) -> Report<Compared> {
     let verdict = is_clear(line.head.text.as_slice());
-    report.count(Compared::IsClear, verdict == line.clear);
+    Report::of(Compared::IsClear, verdict == line.clear)
 }
 
 // Every answer about the text of a line, compared with the line.
 pub fn compare_line(alloc: Global, line: &[u8]) -> Result<Report<Compared>, LineError> {
     let line = Line::parse(alloc, line)?;
-    let mut report = Report::new();
-    compare_clear(&mut report, &line);
-    let sheet = Expected {
-        answer: line.sheet,
-        bytes: line.call_sheet(),
+    let sheet = Sheet {
+        text: line.head.text.as_slice(),
+        alloc,
     };
-    compare_sheet(&mut report, alloc, line.head.text.as_slice(), sheet)?;
-    compare_entries(&mut report, alloc, &line)?;
-    compare_no_entries(&mut report, alloc, &line)?;
-    Ok(report)
+    let whole = sheet.compare_whole(line.sheet, line.call_sheet())?;
+    let entries = compare_entries(&sheet, &line)?;
+    let no_entries = compare_no_entries(&sheet, &line)?;
+    Ok(compare_clear(&line).and(whole).and(entries).and(no_entries))
 }

@@ -2,7 +2,7 @@
 use crate::compared::Compared;
 use crate::line::{Line, READINGS, Reading};
 use admit::Refusal;
-use recorded::buffer::{GUARD, Room, has_just};
+use recorded::buffer::{Lent, Room, is_given};
 use recorded::fields::LineError;
 use recorded::tally::Report;
 use std::alloc::Global;
@@ -24,76 +24,70 @@ const STORE: usize = 11 * 65;
 
 const TABLE: usize = 8 * 64;
 
-impl Reading {
-    // Whether the call, lent these rooms of store and table, answers what is expected and leaves just that. Room to spare is all.
-    fn is_given(
-        &self,
-        rooms: (Room, Room),
-        read: Read,
-        text: &[u8],
-        store: &mut [u8],
-        table: &mut [u8],
-    ) -> bool
+// A text, and the two buffers that a reading of it is lent. Room to spare is all of a buffer.
+#[derive(Drop)]
+pub struct Calls<'a> {
+    pub text: &'a [u8],
+    pub store: &'a mut [u8],
+    pub table: &'a mut [u8],
+}
+
+impl Calls<'_> {
+    // One reading in all rooms.
+    fn compare(&mut self, what: Compared, read: Read, reading: &Reading) -> Report<Compared>
         requires { IsAlwaysCallable read }
     {
-        let (store_room, table_room) = rooms;
-        store.fill(GUARD);
-        table.fill(GUARD);
-        let bytes = self.words.store.as_slice();
-        let pairs = self.words.table.as_slice();
-        let answer = read(
-            text,
-            store_room.of(bytes.len(), usize::MAX, store),
-            table_room.of(pairs.len(), usize::MAX, table),
-        );
-        if store_room.is_short(bytes.len()) || table_room.is_short(pairs.len()) {
-            return answer == Err(Refusal::BufferTooShort)
-                && has_just(store, b"")
-                && has_just(table, b"");
+        let mut store = Lent {
+            buffer: &mut *self.store,
+            bytes: reading.words.store.as_slice(),
+            spare: usize::MAX,
+        };
+        let mut table = Lent {
+            buffer: &mut *self.table,
+            bytes: reading.words.table.as_slice(),
+            spare: usize::MAX,
+        };
+        let mut report = Report::new();
+        for (store_room, table_room) in ROOMS {
+            let answer = read(self.text, store.front(store_room), table.front(table_room));
+            let left = [store.left(store_room), table.left(table_room)];
+            let agrees = is_given(answer, &reading.answer, &left);
+            report = report.and(Report::of(what, agrees));
         }
-        answer == self.answer && has_just(store, bytes) && has_just(table, pairs)
+        report
+    }
+
+    // The six readings that give words.
+    pub fn compare_readings(&mut self, readings: &[Reading]) -> Report<Compared> {
+        let calls: [(Compared, Read); READINGS] = [
+            (Compared::Cardinal, numbers::cardinal),
+            (Compared::Ordinal, numbers::ordinal),
+            (Compared::Year, numbers::year),
+            (Compared::Digits, numbers::digits),
+            (Compared::Real, numbers::real),
+            (Compared::Letters, numbers::letters),
+        ];
+        let mut report = Report::new();
+        for ((what, read), reading) in calls.into_iter().zip(readings) {
+            report = report.and(self.compare(what, read, reading));
+        }
+        report
     }
 }
 
-// The six readings that give words.
-pub fn compare_readings(
-    report: &mut Report<Compared>,
-    readings: &[Reading],
-    text: &[u8],
-    store: &mut [u8],
-    table: &mut [u8],
-) {
-    let calls: [(Compared, Read); READINGS] = [
-        (Compared::Cardinal, numbers::cardinal),
-        (Compared::Ordinal, numbers::ordinal),
-        (Compared::Year, numbers::year),
-        (Compared::Digits, numbers::digits),
-        (Compared::Real, numbers::real),
-        (Compared::Letters, numbers::letters),
-    ];
-    for ((what, read), reading) in calls.into_iter().zip(readings) {
-        for rooms in ROOMS {
-            report.count(what, reading.is_given(rooms, read, text, store, table));
-        }
-    }
-}
-
-fn compare_roman(report: &mut Report<Compared>, line: &Line) {
+fn compare_roman(line: &Line) -> Report<Compared> {
     let answer = numbers::roman_value(line.head.text.as_slice());
-    report.count(Compared::RomanValue, answer == line.roman_value);
+    Report::of(Compared::RomanValue, answer == line.roman_value)
 }
 
 // Every reading of the text of a line, compared with the line.
 pub fn compare_line(alloc: Global, line: &[u8]) -> Result<Report<Compared>, LineError> {
     let line = Line::parse(alloc, line)?;
-    let mut report = Report::new();
-    compare_readings(
-        &mut report,
-        line.readings.as_slice(),
-        line.head.text.as_slice(),
-        &mut [0; STORE],
-        &mut [0; TABLE],
-    );
-    compare_roman(&mut report, &line);
-    Ok(report)
+    let mut calls = Calls {
+        text: line.head.text.as_slice(),
+        store: &mut [0; STORE],
+        table: &mut [0; TABLE],
+    };
+    let words = calls.compare_readings(line.readings.as_slice());
+    Ok(words.and(compare_roman(&line)))
 }

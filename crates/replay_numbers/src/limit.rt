@@ -1,5 +1,5 @@
 // The longest text that is admitted: 65,536 fives. A text of one five more is refused, and has a line in numbers.txt.
-use crate::answers::compare_readings;
+use crate::answers::Calls;
 use crate::compared::Compared;
 use crate::line::Reading;
 use crate::words::Words;
@@ -60,13 +60,10 @@ pub fn compare_limit(alloc: Global) -> Result<Report<Compared>, LineError> {
     let text = vec![in alloc; b'5'; LIMIT]?;
     let mut store = vec![in alloc; 0; ROOM]?;
     let mut table = vec![in alloc; 0; ROOM]?;
-    let mut report = Report::new();
-    compare_readings(
-        &mut report,
-        readings(alloc)?.as_slice(),
-        text.as_slice(),
-        &mut store,
-        &mut table,
-    );
-    Ok(report)
+    let mut calls = Calls {
+        text: text.as_slice(),
+        store: &mut store,
+        table: &mut table,
+    };
+    Ok(calls.compare_readings(readings(alloc)?.as_slice()))
 }

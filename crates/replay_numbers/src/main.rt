@@ -9,15 +9,10 @@ mod words;
 
 use answers::compare_line;
 use limit::compare_limit;
-use recorded::replay::{add, replay};
+use recorded::replay::replay;
 use std::io;
 
-// The file, and after its lines the text at the limit.
 fn main(rt: HostRuntime) -> io::Result<()> {
-    let alloc = rt.alloc();
-    let Some(mut tally) = replay(&rt, "numbers.txt", |line| compare_line(alloc, line))? else {
-        return Ok(());
-    };
-    add(&rt, &mut tally, compare_limit(alloc))?;
-    tally.say(&rt, "numbers.txt and the limit")
+    let limit = compare_limit(rt.alloc());
+    replay(&rt, "numbers.txt", compare_line, Some(limit))
 }

@@ -7,7 +7,8 @@ use word_writer::WordCounts;
 // The bytes of a pair of the table.
 const PAIR: usize = 8;
 
-// What a call leaves in its two buffers: the words' bytes, and for each word where it starts there and its length.
+// What a call leaves in the two buffers of the C interface: the words' bytes, and for each word where it starts there and its
+// length.
 #[derive(Drop)]
 pub struct Words {
     pub store: Vec<u8>,

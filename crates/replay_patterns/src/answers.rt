@@ -1,7 +1,7 @@
 // The answers of the crate patterns for one text, each compared with the recorded one.
 use crate::compared::Compared;
 use crate::line::{Line, SHAPES};
-use recorded::buffer::{Expected, GUARD};
+use recorded::buffer::{GUARD, Lent};
 use recorded::fields::{Answer, LineError};
 use recorded::tally::Report;
 use std::alloc::Global;
@@ -14,7 +14,7 @@ const STORE: usize = 16;
 type IsShape = fn(&[u8]) -> Answer<bool>;
 
 // The sixteen shapes.
-fn compare_shapes(report: &mut Report<Compared>, line: &Line) {
+fn compare_shapes(line: &Line) -> Report<Compared> {
     let shapes: [(Compared, IsShape); SHAPES] = [
         (Compared::IsDigits, patterns::is_digits),
         (Compared::IsAlpha, patterns::is_alpha),
@@ -42,48 +42,54 @@ fn compare_shapes(report: &mut Report<Compared>, line: &Line) {
             patterns::is_digits_dash_digits,
         ),
     ];
+    let text = line.head.text.as_slice();
+    let mut report = Report::new();
     for ((what, is_shape), wanted) in shapes.into_iter().zip(&line.verdicts) {
-        report.count(what, is_shape(line.head.text.as_slice()) == *wanted);
+        report = report.and(Report::of(what, is_shape(text) == *wanted));
     }
+    report
 }
 
 // is_n_digits of 0 to 9 and of the text's length.
-fn compare_digits(report: &mut Report<Compared>, line: &Line) {
+fn compare_digits(line: &Line) -> Report<Compared> {
     let text = line.head.text.as_slice();
     let counts = (0..=9).chain(iter::once(text.len()));
+    let mut report = Report::new();
     for (n, wanted) in counts.zip(line.verdicts.iter().skip(SHAPES)) {
-        report.count(
-            Compared::IsNDigits,
-            patterns::is_n_digits(text, n) == *wanted,
-        );
+        let agrees = patterns::is_n_digits(text, n) == *wanted;
+        report = report.and(Report::of(Compared::IsNDigits, agrees));
     }
+    report
+}
+
+// The parts of a time and of a unit.
+fn compare_parts(line: &Line) -> Report<Compared> {
+    let text = line.head.text.as_slice();
+    let time = patterns::split_time_meridiem(text) == line.time;
+    let unit = patterns::split_unit(text) == line.unit;
+    Report::of(Compared::SplitTimeMeridiem, time).and(Report::of(Compared::SplitUnit, unit))
 }
 
 // The unit's word in every room.
-fn compare_word(report: &mut Report<Compared>, line: &Line) {
+fn compare_word(line: &Line) -> Report<Compared> {
     let text = line.head.text.as_slice();
-    let expected = Expected {
-        answer: line.word_len,
+    let mut lent = Lent {
+        buffer: &mut [GUARD; STORE],
         bytes: line.word.as_slice(),
+        spare: STORE,
     };
-    let mut store = [GUARD; STORE];
-    expected.compare(report, Compared::UnitWord, STORE, &mut store, |store| {
+    lent.compare(Compared::UnitWord, line.word_len, |store| {
         patterns::unit_word(text, store)
-    });
+    })
 }
 
 // Every answer for the text of a line, compared with the line.
 pub fn compare_line(alloc: Global, line: &[u8]) -> Result<Report<Compared>, LineError> {
     let line = Line::parse(alloc, line)?;
-    let mut report = Report::new();
-    compare_shapes(&mut report, &line);
-    compare_digits(&mut report, &line);
-    let text = line.head.text.as_slice();
-    report.count(
-        Compared::SplitTimeMeridiem,
-        patterns::split_time_meridiem(text) == line.time,
-    );
-    report.count(Compared::SplitUnit, patterns::split_unit(text) == line.unit);
-    compare_word(&mut report, &line);
-    Ok(report)
+    Ok(
+        compare_shapes(&line)
+            .and(compare_digits(&line))
+            .and(compare_parts(&line))
+            .and(compare_word(&line)),
+    )
 }

@@ -10,9 +10,5 @@ use recorded::replay::replay;
 use std::io;
 
 fn main(rt: HostRuntime) -> io::Result<()> {
-    let alloc = rt.alloc();
-    match replay(&rt, "patterns.txt", |line| compare_line(alloc, line))? {
-        Some(tally) => tally.say(&rt, "patterns.txt"),
-        None => Ok(()),
-    }
+    replay(&rt, "patterns.txt", compare_line, None)
 }
