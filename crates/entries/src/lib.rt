@@ -17,8 +17,8 @@ pub const NAME_LIMIT: usize = 4096;
 const LONG_RUN_SIZE: usize = NAME_LIMIT + 1;
 
 // Whether a run of bytes without whitespace is longer than a name may be. From each place LONG_RUN_SIZE bytes are searched for
-// whitespace, the last one first. The next place is after the whitespace that is found, so few bytes are read; no iterator of the
-// library goes so.
+// whitespace, from their end. The next place is after the whitespace that is found, so few bytes are read. No iterator of the
+// library takes such steps.
 fn has_long_run(s: &[u8]) -> bool
     ensures { result ≡ false → any_long (entries s.now) ≡ false }
 {

@@ -102,7 +102,7 @@ pub fn span<C: ByteClass>(s: &[u8], class: C) -> usize
 }
 
 // The place after the last byte of the class, 0 if there is none.
-// It is no Option: 0 is the length of nothing, and of six callers three ask for the front of that length and one adds to it.
+// It is no Option: 0 is the length of nothing, and most callers ask for the front of that length or add to it.
 pub fn last_end<C: ByteClass>(s: &[u8], class: C) -> usize
     ensures { result ≡ after_last (C.contains class) s.now }
 {

@@ -18,8 +18,8 @@ pub struct UnitPart {
     pub len: usize,
 }
 
-// Each verdict stays a function of its own. By a generic one each would still be a line, and a clause about the closure would
-// come on top.
+// Each verdict is a function of its own. Through a generic one it would still take a line, and the generic one a clause about the
+// function that it is given.
 pub fn is_digits(s: &[u8]) -> Result<bool, Refusal>
     ensures { as_verdict result ≡ verdict_call s.now (is_digits s.now) }
 {

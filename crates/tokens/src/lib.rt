@@ -97,8 +97,8 @@ fn cut_run<'a>(whitespace: &'a [u8], run: &'a [u8], marks: usize, ends: bool) ->
 }
 
 // How many tokens s has. A byte that is no whitespace starts one if it is the first byte or follows whitespace.
-// With `Tokens::new(s).nth(n).is_some()` in place of this count `tokenize` of a mixed sheet of 64 KiB takes 1.37 of the instructions
-// and `sentences` 1.25, if the buffer is just large enough. A chain over `windows(2)` would test each byte twice.
+// With `Tokens::new(s).nth(n).is_some()` in place of this count `tokenize` of a mixed sheet of 64 KiB takes 1.37 of the
+// instructions and `sentences` 1.25, if the buffer is just large enough. A chain over `windows(2)` would test each byte twice.
 #[tactic(auto, using(crate::proofs::Count::runs_tokens))]
 fn count_tokens(s: &[u8]) -> usize
     ensures { result ≡ length (tokens s.now) }

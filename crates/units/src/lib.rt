@@ -49,7 +49,8 @@ fn unit_key(u: &[u8]) -> Option<u32>
     }
 }
 
-// Where the first of the keys is that equals `key`. A function by itself, since what it finds is then said of any keys.
+// Where the first of the keys is that equals `key`. A function of its own, so that its contract speaks of any keys, and of no
+// table.
 fn first_equal(key: u32, keys: &[u32]) -> Option<usize>
     ensures { result ≡ position (λ k. k == key) keys.now }
 {
