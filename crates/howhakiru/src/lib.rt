@@ -27,7 +27,7 @@ ghost use Rattle.howhakiru.specs.AtC.{as_verdict_at_c, as_unit_at_c, as_unit_wor
 use admit::Refusal;
 use calls::{CalledEntry, CalledSheet};
 use patterns::UnitPart;
-use sentences::{State, Step};
+use sentences::{RefusedStep, State, Step};
 use shapes::TimeSplit;
 use word_writer::WordCounts;
 
@@ -266,19 +266,22 @@ impl From<Result<CalledSheet, Refusal>> for HwkSheet {
     }
 }
 
-// The answer of a step from the state `given`, which a refused step hands back.
-fn step_at_c(answer: Result<Step, Refusal>, given: State) -> HwkStep
-    ensures { as_step_at_c result ≡ as_step given answer }
-{
-    let none = Step {
-        breaks: false,
-        state: given,
-    };
-    let Step { breaks, state } = answer.unwrap_or(none);
-    HwkStep {
-        refusal: refusal_at_c(answer),
-        breaks,
-        state,
+impl From<Result<Step, RefusedStep>> for HwkStep {
+    ghost from_gives = { λ answer step. as_step_at_c step ≡ as_step answer };
+
+    fn from(answer: Result<Step, RefusedStep>) -> HwkStep {
+        match answer {
+            Ok(Step { breaks, state }) => HwkStep {
+                refusal: 0,
+                breaks,
+                state,
+            },
+            Err(refused) => HwkStep {
+                refusal: u8::from(refused.refusal),
+                breaks: false,
+                state: refused.state,
+            },
+        }
     }
 }
 
@@ -544,7 +547,7 @@ pub extern "C" fn hwk_push(
 ) -> HwkStep
     ensures { as_step_at_c result ≡ step_call state whitespace.now name.now punctuation.now }
 {
-    step_at_c(state.push(whitespace, name, punctuation), state)
+    HwkStep::from(state.push(whitespace, name, punctuation))
 }
 
 #[unsafe(no_mangle)]

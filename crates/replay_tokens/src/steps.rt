@@ -3,7 +3,7 @@ use crate::compared::Compared;
 use crate::line::Line;
 use admit::Refusal;
 use recorded::tally::Report;
-use sentences::{State, Step};
+use sentences::{RefusedStep, State, Step};
 
 // The tokens of the text, one step each. A step breaks if its token starts a sentence, but never before the first token.
 pub fn compare_steps(line: &Line) -> Report<Compared> {
@@ -19,16 +19,17 @@ pub fn compare_steps(line: &Line) -> Report<Compared> {
         );
         let agrees = step.is_ok_and(|step| step.breaks == breaks);
         report = report.and(Report::of(Compared::Push, agrees));
-        state = step.map_or(state, |step| step.state);
+        state = step.map_or_else(|refused| refused.state, |step| step.state);
     }
     report
 }
 
-// Whether the step is refused so. Without a refusal, whether it is accepted and its state is no longer fresh.
-fn agrees(refusal: Option<Refusal>, step: Result<Step, Refusal>) -> bool {
+// Whether the step from this state is refused so, and hands the state back. Without a refusal, whether it is accepted and its state
+// is no longer fresh.
+fn agrees(refusal: Option<Refusal>, state: State, step: Result<Step, RefusedStep>) -> bool {
     match step {
         Ok(step) => refusal.is_none() && step.state.fresh == 0,
-        Err(given) => refusal == Some(given),
+        Err(refused) => refusal == Some(refused.refusal) && refused.state == state,
     }
 }
 
@@ -49,7 +50,7 @@ fn compare_from(line: &Line, state: State, other: &[u8]) -> Report<Compared> {
     let mut report = Report::new();
     for (whitespace, name, punctuation) in places {
         let step = state.push(whitespace, name, punctuation);
-        report = report.and(Report::of(Compared::PushOfText, agrees(refusal, step)));
+        report = report.and(Report::of(Compared::PushOfText, agrees(refusal, state, step)));
     }
     report
 }

@@ -1,11 +1,11 @@
 -- What the calls of the whole-text form and the step form answer. Definitions only.
-use Rattle.std.specs.Prelude.{Bool, false, List, [], ◌∷◌, ℕ, Result}
-use Rattle.admit.specs.Refusals.{Test, first_refusal, text_limit, text_tests, Call, call, answered}
-use Rattle.admit.specs.declared.Refusal.{Refusal}
+use Rattle.std.specs.Prelude.{Bool, false, List, [], ◌∷◌, ℕ, Result, Ok, Err}
+use Rattle.admit.specs.Refusals.{refusal_number, Test, first_refusal, text_limit, text_tests, Call, call}
 use Rattle.tokens.specs.Tokens.{tokens}
 use Rattle.sentences.specs.Sentences.{sentence_starts, flag, kept, breaks}
 use Rattle.sentences.specs.declared.State.{State}
 use Rattle.sentences.specs.declared.Step.{Step}
+use Rattle.sentences.specs.declared.RefusedStep.{RefusedStep}
 
 -- a byte for each token: 1 if it starts a sentence, else 0
 unfoldable pub flags : List Bool → List ℕ
@@ -31,6 +31,7 @@ step_call s whitespace name punctuation =
     (first_refusal (step_tests whitespace name punctuation))
     (record { breaks = breaks s whitespace name; state = kept name punctuation })
 
--- the answer of a step from the state s
-abbrev pub as_step : State → Result Step Refusal → Call StepResult
-as_step s r = answered (record { breaks = false; state = s }) (λ t. record { breaks = t.breaks; state = t.state }) r
+-- the answer of a step
+abbrev pub as_step : Result Step RefusedStep → Call StepResult
+as_step (Ok t) = record { refusal = 0; value = record { breaks = t.breaks; state = t.state } }
+as_step (Err r) = record { refusal = refusal_number r.refusal; value = record { breaks = false; state = r.state } }

@@ -22,7 +22,7 @@ use tokens::{Tokens, has_more_tokens};
 // the text. The five flags `point` to `fresh` are 0 for no and any other byte for yes. They are no `bool`, because C hands a
 // state back with whatever bytes it has then.
 #[repr(C)]
-#[derive(Clone, Copy)]
+#[derive(Clone, Copy, Debug, PartialEq, Eq)]
 pub struct State {
     pub len: usize,
     pub head: [u8; 5],
@@ -39,6 +39,13 @@ pub struct State {
 #[derive(Clone, Copy)]
 pub struct Step {
     pub breaks: bool,
+    pub state: State,
+}
+
+// A step that is refused: why, and the state that it was given.
+#[derive(Clone, Copy)]
+pub struct RefusedStep {
+    pub refusal: Refusal,
     pub state: State,
 }
 
@@ -91,13 +98,23 @@ impl State {
         }
     }
 
-    // One step. If it is refused, the state stays the caller's. The token is given as three texts, as document 01 and the header
-    // give it: it has no prepunctuation, so it is no `Token`, and other functions take two of the three.
+    // One step. If it is refused, it hands back the state that it was given. The token is given as three texts, as document 01 and
+    // the header give it: it has no prepunctuation, so it is no `Token`, and other functions take two of the three.
     #[tactic(auto, unfolding(crate::specs::Calls::step_call))]
-    pub fn push(self, whitespace: &[u8], name: &[u8], punctuation: &[u8]) -> Result<Step, Refusal>
-        ensures { as_step self result ≡ step_call self whitespace.now name.now punctuation.now }
+    pub fn push(
+        self,
+        whitespace: &[u8],
+        name: &[u8],
+        punctuation: &[u8],
+    ) -> Result<Step, RefusedStep>
+        ensures { as_step result ≡ step_call self whitespace.now name.now punctuation.now }
     {
-        admit_step(whitespace, name, punctuation)?;
+        if let Err(refusal) = admit_step(whitespace, name, punctuation) {
+            return Err(RefusedStep {
+                refusal,
+                state: self,
+            });
+        }
         Ok(Step {
             breaks: !is_set(self.fresh) & is_sentence_break(self, whitespace, name),
             state: State::kept(name, punctuation),
