@@ -31,7 +31,9 @@ use sentences::{RefusedStep, State, Step};
 use shapes::TimeSplit;
 use word_writer::WordCounts;
 
-// A shape's verdict for C, which takes no enum: the refusal's number or 0, and the verdict, which is no if the call is refused.
+// The structs for C, which takes no enum: each has a refusal's number, and a flag where a value may be missing.
+
+// A shape's verdict: the refusal's number or 0, and the verdict, which is no if the call is refused.
 #[repr(C)]
 #[derive(Clone, Copy)]
 pub struct HwkVerdict {

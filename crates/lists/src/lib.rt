@@ -56,6 +56,7 @@ pub fn without_back(s: &[u8], k: usize) -> &[u8]
     front(s, s.len().saturating_sub(k))
 }
 
+// These four, and `equal` below, are the library's under a contract that speaks of the definitions.
 pub fn starts_with(s: &[u8], c: u8) -> bool
     ensures { result ≡ starts_with c s.now }
 {
@@ -150,6 +151,7 @@ pub fn put(out: &mut [u8], at: usize, src: &[u8])
 }
 
 // Stores src, A to Z lowered, from index `at` on, as far as it falls within out. By index, as `put`.
+// It differs from `put` in one line; one function for both would need a trait of what is stored, and be longer.
 pub fn put_lowered(out: &mut [u8], at: usize, src: &[u8])
     ensures { out.new ≡ sets out.old at (map to_lower src.now) }
 {

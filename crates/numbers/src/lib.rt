@@ -33,7 +33,7 @@ pub enum SayAs {
     Letters,
 }
 
-// The words of n bytes take at most n + 1 times this many bytes of the store and of the table.
+// The words of n bytes take at most n + 1 times so many bytes of the store, and of the table.
 const STORE_ROOM: usize = 11;
 
 const TABLE_ROOM: usize = 16;

@@ -29,7 +29,7 @@ impl<'a> DigitValues<'a> {
         byte_at(self.values, i)
     }
 
-    // The first k values, or all of them if there are fewer.
+    // The first k values, or all of them if there are fewer. This and `tail` are a line each, over the functions of lists.
     pub fn front(self, k: usize) -> DigitValues<'a>
         ensures { result.values.now ≡ take k self.entry.values.now }
     {

@@ -22,7 +22,8 @@ fn is_zero_group(ds: DigitValues) -> bool
     (ds.len() == 2 || ds.len() == 3) && all(ds.values, Byte(0))
 }
 
-// The largest scale with fewer digits than n: 3 for billion, 2 for million, 1 for thousand.
+// The largest scale with fewer digits than n: 3 for billion, 2 for million, 1 for thousand. A number, since the digits after the
+// scale are three times as many.
 fn scale_for(n: usize) -> u8
     ensures { (result ≡ scale_for n) × (result ≤ 3) }
 {

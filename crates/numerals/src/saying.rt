@@ -33,7 +33,7 @@ pub fn say_digits(s: &[u8], out: &mut Writer)
     }
 }
 
-// The value of a digit; 0 for a byte below the digits.
+// The value of a digit; 0 for a byte below the digits. It is no Option, because its callers have found a digit.
 pub fn digit_value(b: u8) -> u8
     ensures { result ≡ digit_value b }
 {

@@ -23,8 +23,8 @@ fn letter_value(b: u8) -> Option<u32>
     }
 }
 
-// The value of a roman numeral; 0 if a byte is no roman letter, or if more is subtracted than added. The length of s must be
-// admitted, at most 65,536 bytes, so that no sum overflows.
+// The value of a roman numeral; 0 if a byte is no roman letter, or if more is subtracted than added. It is no Option, because
+// document 01 has this answer. The length of s must be admitted, at most 65,536 bytes, so that no sum overflows.
 pub fn roman_value(s: &[u8]) -> u32
     requires { length s.now ≤ 65536 }
     ensures { result ≡ roman_value s.now }

@@ -146,6 +146,7 @@ pub fn read_by_row(name: &[u8], out: &mut Writer) -> Row
         return Row::CommaInt;
     }
     if is_time(name) {
+        // The name has a colon: `split_once` would have a case for none, which can't be.
         let at = span(name, Not(Byte(b':')));
         say_clock(front(name, at), tail(tail(name, at), 1), out);
         return Row::Time;

@@ -98,8 +98,8 @@ impl State {
         }
     }
 
-    // One step. If it is refused, it hands back the state that it was given. The token is given as three texts, as document 01 and
-    // the header give it: it has no prepunctuation, so it is no `Token`, and other functions take two of the three.
+    // One step. If it is refused, it hands back the state that it was given. The token is given as three texts, as document 01
+    // and the header give it: it has no prepunctuation, so it is no `Token`, and other functions take two of the three.
     #[tactic(auto, unfolding(crate::specs::Calls::step_call))]
     pub fn push(
         self,
@@ -181,8 +181,8 @@ fn is_sentence_break(state: State, whitespace: &[u8], name: &[u8]) -> bool
     !state.looks_like_abbreviation()
 }
 
-// The tests of the three texts of a step, which `push` is given. Of several texts the first test in the order wins, so all lengths
-// are tested first.
+// The tests of the three texts of a step, which `push` is given. Of several texts the first test in the order wins, so all
+// lengths are tested first.
 fn admit_step(whitespace: &[u8], name: &[u8], punctuation: &[u8]) -> Result<(), Refusal>
     ensures { answer_number result ≡ first_refusal (step_tests whitespace.now name.now punctuation.now) }
 {
@@ -255,8 +255,8 @@ fn write_starts(s: &[u8], starts: &mut [u8]) -> usize
     requires { length (tokens s.now) ≤ length starts.old }
     ensures { (result ≡ length (tokens s.now)) × (starts.new ≡ sets starts.old 0 (start_bytes s.now)) }
 {
-    // Stored by index: after `zip` of `iter_mut` and the entries a proof knows only the buffer's length. And the count is the result
-    // too, which the last index of `enumerate` doesn't give if there is no entry.
+    // Stored by index: after `zip` of `iter_mut` and the entries a proof knows only the buffer's length. And the count is the
+    // result too, which the last index of `enumerate` doesn't give if there is no entry.
     let mut n = 0;
     for entry in Entries::new(s) {
         starts[n] = u8::from(entry.starts);

@@ -24,7 +24,7 @@ static SMALL_ROMANS: [&[u8]; 9] = [
 ];
 
 // What split_time_meridiem finds: where the hour ends, where the minute starts, and where the minute ends and the meridiem
-// starts.
+// starts. Offsets and no slices, because the public function and C are answered by offsets.
 #[derive(Clone, Copy, Debug, PartialEq, Eq)]
 pub struct TimeSplit {
     pub hour: usize,

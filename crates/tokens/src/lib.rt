@@ -15,7 +15,7 @@ use lists::{ByteClass, Not, Postpunctuation, Prepunctuation, Whitespace, last_en
 use word_writer::{PAIR_SIZE, Pair};
 
 // The bytes of a token's record in the table.
-const RECORD_SIZE: usize = 32;
+const RECORD_SIZE: usize = 4 * PAIR_SIZE;
 
 // A token: its four parts, which follow each other in the text.
 #[derive(Clone, Copy)]
@@ -145,8 +145,8 @@ fn write_records(s: &[u8], table: &mut [u8]) -> usize
     requires { record_size * length (tokens s.now) ≤ length table.old }
     ensures { (result ≡ length (tokens s.now)) × (table.new ≡ sets table.old 0 (records 0 (tokens s.now))) }
 {
-    // Stored by index: after `zip` of `chunks_exact_mut` and the tokens a proof knows only the table's length. And the count is the
-    // result too, which the last index of `enumerate` doesn't give if there is no token.
+    // Stored by index: after `zip` of `chunks_exact_mut` and the tokens a proof knows only the table's length. And the count is
+    // the result too, which the last index of `enumerate` doesn't give if there is no token.
     let mut n = 0;
     let mut at = 0;
     for token in Tokens::new(s) {

@@ -81,14 +81,14 @@ text_same a u p q = go (eqb (length a) (length u)) refl
 abbrev keyed : List ℕ → Bool
 keyed u = leb 2 (length u) && leb (length u) 3
 
--- of texts of 2 or 3 bytes, two have the same key exactly if they are the same
-key_same : (a u : List ℕ) → keyed a ≡ true → bytesb a ≡ true → keyed u ≡ true → Bytes u → eqb (key a) (key u) ≡ same a u
+-- two texts of less than 256 bytes have the same key exactly if they are the same
+pub key_same : (a u : List ℕ) → length a < 256 → length u < 256 → bytesb a ≡ true → Bytes u → eqb (key a) (key u) ≡ same a u
 unfolding key le_value
-key_same a u k p l q =
-    let x = (and-eq-true_iff (leb 2 (length a)) (leb (length a) 3)).0 k in
-    let y = (and-eq-true_iff (leb 2 (length u)) (leb (length u) 3)).0 l in
-    digit_same 256 (length a) (length u) (le_value a) (le_value u) (omega (arith, leb-true _ _ x.1)) (omega (arith, leb-true _ _ y.1))
-    ∙ text_same a u p q
+key_same a u h g p q = digit_same 256 (length a) (length u) (le_value a) (le_value u) h g ∙ text_same a u p q
+
+-- a text of 2 or 3 bytes has less than 256
+keyed_short : (u : List ℕ) → keyed u ≡ true → length u < 256
+keyed_short u k = omega (arith, leb-true _ _ ((and-eq-true_iff (leb 2 (length u)) (leb (length u) 3)).0 k).1)
 
 -- an abbreviation: its bytes are such, and it has 2 or 3
 abbrev short_text : List ℕ → Bool
@@ -102,7 +102,7 @@ index_of_key u [] l b t = refl
 index_of_key u (a ∷ ss) l b t =
     let x = (and-eq-true_iff (short_text a) (all short_text ss)).0 t in
     let y = (and-eq-true_iff (keyed a) (bytesb a)).0 x.0 in
-    rw (key_same a u y.0 y.1 l b, index_of_key u ss l b x.1) (go (same a u))
+    rw (key_same a u (keyed_short a y.0) (keyed_short u l) y.1 b, index_of_key u ss l b x.1) (go (same a u))
   where
     go : (t : Bool) → cond (not t) (1 + index_of u ss) 0 ≡ cond t 0 (suc (index_of u ss))
     go true = refl

@@ -1,3 +1,4 @@
+-- An answer and no attribute, because the attribute with these definitions would have more than 200 columns.
 use Rattle.std.proofs.Common.{rules}
 use Rattle.units.specs.Units.{unit_abbreviations, unit_words, index_of, word_numbers}
 use Rattle.vocabulary.proofs.Laws.{unfold_vocabulary}
