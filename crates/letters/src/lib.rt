@@ -30,8 +30,8 @@ pub fn say_letter(c: &[u8], out: &mut Writer)
     }
 }
 
-// Says one word per character of s. A text that is no UTF-8 has characters here too, so that it is no `str`. How long a character is
-// is known when it is split off, so the loop keeps what is left.
+// Says one word per character of s. A text that is no UTF-8 has characters here too, so that it is no `str`. How long a
+// character is, is known when it is split off, so the loop keeps what is left.
 pub fn say_letters(s: &[u8], out: &mut Writer)
     ensures { Says (spelled (letters s.now)) out.old out.new }
 {

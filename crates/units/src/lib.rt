@@ -64,8 +64,8 @@ pub fn unit_index(u: &[u8]) -> Option<usize>
     first_equal(unit_key(u)?, &UNIT_KEYS)
 }
 
-// The number, in the vocabulary, of row k's word; 0 if there is no row k. It is no Option: the callers go on with that number, and a
-// test of clear with the 0 past the table. Rows 0 to 3 share a word, and so do 4 and 5, and 12 to 14.
+// The number, in the vocabulary, of row k's word; 0 if there is no row k. It is no Option: the callers go on with that number,
+// and a test of clear with the 0 past the table. Rows 0 to 3 share a word, and so do 4 and 5, and 12 to 14.
 pub fn word_number(k: usize) -> usize
     ensures { result ≡ get_or word_numbers k 0 }
 {
