@@ -77,7 +77,7 @@ for path in sorted(glob.glob(os.path.join(top, "crates/*/src/**/*.rt"), recursiv
         parameters = head.split("requires")[0].split("ensures")[0]
         if re.search(r"store: &mut \[u8\]", parameters) and "table: &mut" in parameters:
             place(5, "functions of store and table", where)
-        for m in re.finditer(r"requires(?: \w+)? \{(.*?)\}\n", head, re.S):
+        for m in re.finditer(r"requires(?: \w+)? \{(.*?)\}\n", head + "\n", re.S):
             for fact in re.split(r"\) × \(", m.group(1).strip().strip("()")):
                 fact = re.sub(r"\b(cursor|s|ds|name|left)\b\.?(now|old)?", "x", fact)
                 fact = re.sub(r"\(.*∷ \[\]\)", "x", re.sub(r"\s+", " ", fact)).replace("x.now", "x").strip("() ")
