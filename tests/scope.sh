@@ -25,7 +25,7 @@ has_theorem() {
 has_code() {
     local type=${2%%::*}
     [ "$type" != "$2" ] || type=
-    awk -v type="$type" -v call="fn ${2##*::}(" '
+    awk -v type="$type" -v call="fn ${2##*::}" '
         /^impl/ {
             owner = $0
             sub(/^impl(<[^>]*>)? /, "", owner)
@@ -33,7 +33,7 @@ has_code() {
             sub(/[<{ ].*/, "", owner)
         }
         /^}/ { owner = "" }
-        owner == type && index($0, call) { found = 1 }
+        owner == type && (index($0, call "(") || index($0, call "<")) { found = 1 }
         END { exit !found }' crates/"$1"/src/*.rt 2>/dev/null
 }
 
