@@ -1,5 +1,5 @@
--- Document 01: "A program, `callsheet`, reads up to 4,096 bytes from standard input, leaves any further bytes unread, and writes the
--- call sheet, or one line of "refused", a space and the number." Definitions only.
+-- Document 01: "A program, `callsheet`, reads up to 4,096 bytes from standard input, leaves any further bytes unread, and writes
+-- the call sheet, or one line of "refused", a space and the number." Definitions only.
 use Rattle.std.specs.Prelude.{◌≡◌, ◌≤◌, ◌⊎◌, false, List, ◌++◌, ℕ, zero, suc, length, OnOk}
 use Rattle.std.specs.Fmt.{decimal}
 use Rattle.std.specs.declared.option.Option.{Option}
@@ -14,7 +14,8 @@ use Rattle.call_spec.specs.Calls.{sheet_tests}
 abbrev pub sheet_limit : ℕ
 sheet_limit = 4096
 
--- s was read from an input that had the bytes `old` left, and now has `new`. If no read failed, s is full or the input at its end.
+-- s was read from an input that had the bytes `old` left and now has `new`: "leaves any further bytes unread". If no read
+-- failed, s is full or the input is at its end.
 pub record ReadsSheet {V E : Type 0} (old new : Option (List ℕ)) (reading : Result V E) (s : List ℕ) : Type 0 where
   pub limit : length s ≤ sheet_limit
   pub unread : Consumes old new s
