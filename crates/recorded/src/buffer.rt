@@ -111,8 +111,8 @@ impl Lent<'_> {
         }
     }
 
-    // Compares a call that is lent this buffer alone, in each of these rooms. Here and in each other function that takes a closure,
-    // `requires` says that it can be called: only where a closure is passed can that be known.
+    // Compares a call that is lent this buffer alone, in each of these rooms. Here and in each other function that takes a
+    // closure, `requires` says that it can be called: only where a closure is passed can that be known.
     pub fn compare<W, T, F>(
         &mut self,
         rooms: &[Room],
