@@ -1,5 +1,5 @@
 // A lent buffer: what fills it before a call, how much of it is lent, and what the call leaves in it.
-ghost use Rattle.std.specs.Prelude.{◌≡◌, ◌≢◌, ◌↔◌, ◌<◌, ◌++◌, ℕ, List, length, All, IsTrue, OnOk};
+ghost use Rattle.std.specs.Prelude.{◌≡◌, ◌≢◌, ◌↔◌, ◌<◌, ◌++◌, ℕ, List, length, All, Any, Err, IsTrue, OnOk};
 ghost use Rattle.std.specs.Int.{to_le_bytes, w32};
 
 use crate::fields::{Answer, LineError};
@@ -19,7 +19,7 @@ pub enum Room {
 }
 
 // The rooms of a call that has one buffer.
-const ROOMS: [Room; 3] = [Room::Spare, Room::JustEnough, Room::Short];
+pub const ROOMS: [Room; 3] = [Room::Spare, Room::JustEnough, Room::Short];
 
 // A buffer to lend to a call.
 #[derive(Drop)]
@@ -111,8 +111,15 @@ impl Lent<'_> {
         }
     }
 
-    // Compares a call that is lent this buffer alone, in every room.
-    pub fn compare<W, T, F>(&mut self, what: W, expected: Answer<T>, call: F) -> Report<W>
+    // Compares a call that is lent this buffer alone, in each of these rooms. Here and in each other function that takes a
+    // closure, `requires` says that it can be called: only where a closure is passed can that be known.
+    pub fn compare<W, T, F>(
+        &mut self,
+        rooms: &[Room],
+        what: W,
+        expected: Answer<T>,
+        call: F,
+    ) -> Report<W>
     where
         W: Copy,
         T: PartialEq + Drop,
@@ -120,9 +127,9 @@ impl Lent<'_> {
         requires { F.IsAlwaysCallable call }
     {
         let mut report = Report::new();
-        for room in ROOMS {
-            let answer = call(self.front(room));
-            let agrees = is_given(answer, &expected, &[self.left(room)]);
+        for room in rooms {
+            let answer = call(self.front(*room));
+            let agrees = is_given(answer, &expected, &[self.left(*room)]);
             report = report.and(Report::of(what, agrees));
         }
         report
@@ -131,11 +138,11 @@ impl Lent<'_> {
 
 // Whether a call answered what is expected and left just its bytes in each buffer. If one was too short, the call is to be
 // refused and to write nothing.
-pub fn is_given<T: PartialEq + Drop>(
-    answer: Answer<T>,
-    expected: &Answer<T>,
-    left: &[Left],
-) -> bool {
+pub fn is_given<T: PartialEq + Drop>(answer: Answer<T>, expected: &Answer<T>, left: &[Left]) -> bool
+    ensures short { Any (λ l. IsTrue l.is_short) left.now →
+        (IsTrue result ↔ ((answer ≡ Err Refusal.BufferTooShort) × All (λ l. IsTrue l.is_unwritten) left.now)) }
+    ensures fits { (Any (λ l. IsTrue l.is_short) left.now → ⊥) → IsTrue result → All (λ l. IsTrue l.has_just_its_bytes) left.now }
+{
     if left.iter().any(|left| left.is_short) {
         return answer == Err(Refusal::BufferTooShort) && left.iter().all(|left| left.is_unwritten);
     }

@@ -52,6 +52,7 @@ impl From<Utf8Error> for LineError {
 // What a call answers.
 pub type Answer<T> = Result<T, Refusal>;
 
+// Searched by number in place of a TryFrom: the enum is another crate's, so this crate can't implement the trait for it.
 const REFUSALS: [Refusal; 5] = [
     Refusal::TextTooLong,
     Refusal::NotUtf8,
@@ -75,7 +76,7 @@ pub fn number(field: &[u8]) -> Result<usize, LineError>
     Ok(str::from_utf8(field)?.parse()?)
 }
 
-// Whether the field is 1. Else it is 0.
+// Whether the field is 1. It must be 0 else.
 pub fn flag(field: &[u8]) -> Result<bool, LineError>
     ensures { IfOk result (λ is. digits_value 10 field.now ≡ (if is then 1 else 0)) }
 {
@@ -100,7 +101,7 @@ pub fn refusal(field: &[u8]) -> Result<Option<Refusal>, LineError>
     }
 }
 
-// A value that is there if the field is 1. Else it is the default.
+// A value that is there if the field is 1. The field must be 0 else, and the value the default.
 pub fn option<T: Default + PartialEq + Drop>(field: &[u8], value: T) -> Result<Option<T>, LineError>
     ensures { let flag = digits_value 10 field.now in
         IfOk result (λ option. MatchOption option (flag ≡ 0) (λ x. (flag ≡ 1) × (x ≡ value))) }
@@ -129,6 +130,7 @@ pub fn answer<T: Default + PartialEq + Drop>(
     }
 }
 
+// Not `to_digit`, which reads capital letters too: a recorded digit is in lower case.
 fn hex_digit(b: u8) -> Result<u8, LineError>
     ensures value { IfOk result (λ n. n ≡ digit_value b) }
     ensures below { IfOk result (λ n. n < 16) }

@@ -8,7 +8,7 @@ use std::io;
 use std::io::Read;
 use std::rt::Files;
 
-// A file of so many bytes may be longer.
+// The reader takes at most this many bytes, so a file that fills them may be longer.
 const TOO_LONG: u64 = 524_296;
 
 // The file's bytes, nothing if they are not whole lines. A line says why.

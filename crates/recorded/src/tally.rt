@@ -1,5 +1,5 @@
 // What was compared, and how much of it differs.
-ghost use Rattle.std.specs.Prelude.{◌≡◌, ◌+◌, ◌-◌, ◌^◌, min, None, Some, if◌then◌else◌};
+ghost use Rattle.std.specs.Prelude.{◌≡◌, ◌+◌, ◌-◌, ◌*◌, ◌^◌, min, None, Some, if◌then◌else◌};
 ghost use Rattle.std.specs.Option.{option_or};
 
 use std::fmt::Display;
@@ -27,7 +27,11 @@ pub struct Tally {
 
 impl<W: Copy> Report<W> {
     // The report of no comparison.
-    pub fn new() -> Report<W> {
+    pub fn new() -> Report<W>
+        ensures answers { result.answers ≡ 0 }
+        ensures differ { result.differ ≡ 0 }
+        ensures first { result.first ≡ None }
+    {
         Report {
             answers: 0,
             differ: 0,
@@ -66,6 +70,19 @@ impl<W: Copy> Report<W> {
             answers: self.answers.saturating_add(next.answers),
             differ: self.differ.saturating_add(next.differ),
             first: self.first.or(next.first),
+        }
+    }
+
+    // The same report, if each answer is so many numbers, which are counted one by one.
+    pub fn counted_by(self, numbers: usize) -> Report<W>
+        ensures answers { result.answers ≡ min (self.answers * numbers) (2 ^ 64 - 1) }
+        ensures differ { result.differ ≡ self.differ }
+        ensures first { result.first ≡ self.first }
+    {
+        Report {
+            answers: self.answers.saturating_mul(numbers),
+            differ: self.differ,
+            first: self.first,
         }
     }
 }

@@ -4,7 +4,7 @@ use crate::line::{Line, bytes_in};
 use admit::Refusal;
 use calls::{CalledEntry, CalledSheet, call_entry, call_sheet};
 use clear::is_clear;
-use recorded::buffer::{GUARD, Lent};
+use recorded::buffer::{GUARD, Lent, ROOMS};
 use recorded::fields::{Answer, LineError};
 use recorded::tally::Report;
 use std::alloc::Global;
@@ -42,7 +42,7 @@ impl Sheet<'_> {
             bytes,
             spare: SPARE,
         };
-        Ok(lent.compare(what, expected, call))
+        Ok(lent.compare(&ROOMS, what, expected, call))
     }
 
     pub fn compare_whole(

@@ -6,6 +6,7 @@ use recorded::head::{Head, LONGEST};
 use rows::{Entry, Row, Sign};
 use std::alloc::Global;
 
+// Searched by number in place of a TryFrom: the enum is another crate's, so this crate can't implement the trait for it.
 const ROWS: [Row; 13] = [
     Row::Empty,
     Row::Dotted,

@@ -1,7 +1,7 @@
 // The answers of the crate patterns for one text, each compared with the recorded one.
 use crate::compared::Compared;
 use crate::line::{Line, SHAPES};
-use recorded::buffer::{GUARD, Lent};
+use recorded::buffer::{GUARD, Lent, ROOMS, Room};
 use recorded::fields::{Answer, LineError};
 use recorded::tally::Report;
 use std::alloc::Global;
@@ -9,6 +9,18 @@ use std::iter;
 
 // The size of a store.
 const STORE: usize = 16;
+
+// The numbers of an answer, each of which counts. A verdict has a refusal and whether the text has the shape.
+const VERDICT_NUMBERS: usize = 2;
+
+// A refusal, whether there is a time, and its three offsets.
+const TIME_NUMBERS: usize = 5;
+
+// A refusal, whether there is a unit, its offset and its length.
+const UNIT_NUMBERS: usize = 4;
+
+// A refusal, whether there is a word, its length, and the store.
+const WORD_NUMBERS: usize = 4;
 
 // A call about a text's shape.
 type IsShape = fn(&[u8]) -> Answer<bool>;
@@ -67,10 +79,13 @@ fn compare_parts(line: &Line) -> Report<Compared> {
     let text = line.head.text.as_slice();
     let time = patterns::split_time_meridiem(text) == line.time;
     let unit = patterns::split_unit(text) == line.unit;
-    Report::of(Compared::SplitTimeMeridiem, time).and(Report::of(Compared::SplitUnit, unit))
+    let time = Report::of(Compared::SplitTimeMeridiem, time);
+    let unit = Report::of(Compared::SplitUnit, unit);
+    time.counted_by(TIME_NUMBERS)
+        .and(unit.counted_by(UNIT_NUMBERS))
 }
 
-// The unit's word in every room.
+// The unit's word in every room. If there is none, any room is enough, and the call is lent room to spare.
 fn compare_word(line: &Line) -> Report<Compared> {
     let text = line.head.text.as_slice();
     let mut lent = Lent {
@@ -78,17 +93,24 @@ fn compare_word(line: &Line) -> Report<Compared> {
         bytes: line.word.as_slice(),
         spare: STORE,
     };
-    lent.compare(Compared::UnitWord, line.word_len, |store| {
+    let rooms: &[Room] = if line.word.is_empty() {
+        &[Room::Spare]
+    } else {
+        &ROOMS
+    };
+    let words = lent.compare(rooms, Compared::UnitWord, line.word_len, |store| {
         patterns::unit_word(text, store)
-    })
+    });
+    words.counted_by(WORD_NUMBERS)
 }
 
 // Every answer for the text of a line, compared with the line.
 pub fn compare_line(alloc: Global, line: &[u8]) -> Result<Report<Compared>, LineError> {
     let line = Line::parse(alloc, line)?;
+    let verdicts = compare_shapes(&line).and(compare_digits(&line));
     Ok(
-        compare_shapes(&line)
-            .and(compare_digits(&line))
+        verdicts
+            .counted_by(VERDICT_NUMBERS)
             .and(compare_parts(&line))
             .and(compare_word(&line)),
     )

@@ -2,7 +2,7 @@
 use crate::compared::Compared;
 use crate::line::{Line, MOST};
 use crate::steps::{compare_parts, compare_steps};
-use recorded::buffer::{GUARD, Lent};
+use recorded::buffer::{GUARD, Lent, ROOMS};
 use recorded::fields::{Answer, LineError};
 use recorded::tally::Report;
 use std::alloc::Global;
@@ -22,7 +22,7 @@ where
         bytes,
         spare: BUFFER,
     };
-    lent.compare(what, line.answer, |out| call(text, out))
+    lent.compare(&ROOMS, what, line.answer, |out| call(text, out))
 }
 
 // The token table and the sentence starts.

@@ -24,8 +24,8 @@ pub fn compare_steps(line: &Line) -> Report<Compared> {
     report
 }
 
-// Whether the step from this state is refused so, and hands the state back. Without a refusal, whether it is accepted and its state
-// is no longer fresh.
+// Whether the step from this state is refused so, and hands the state back. Without a refusal, whether it is accepted and its
+// state is no longer fresh.
 fn agrees(refusal: Option<Refusal>, state: State, step: Result<Step, RefusedStep>) -> bool {
     match step {
         Ok(step) => refusal.is_none() && step.state.fresh == 0,
