@@ -2,7 +2,10 @@
 use recorded::buffer::put_number;
 use recorded::fields::{LineError, byte_of};
 use std::alloc::Global;
-use word_writer::{PAIR_SIZE, WordCounts};
+use word_writer::WordCounts;
+
+// The bytes of a pair of the table.
+const PAIR: usize = 8;
 
 // What a call leaves in the two buffers of the C interface: the words' bytes, and for each word where it starts there and its
 // length.
@@ -37,7 +40,7 @@ impl Words {
     // How many words and bytes there are.
     pub fn counts(&self) -> WordCounts {
         WordCounts {
-            words: self.table.len() / PAIR_SIZE,
+            words: self.table.len() / PAIR,
             bytes: self.store.len(),
         }
     }
