@@ -6,11 +6,12 @@ use crate::words::Words;
 use recorded::fields::LineError;
 use recorded::tally::Report;
 use std::alloc::Global;
+use word_writer::PAIR_SIZE;
 
 const LIMIT: usize = 65_536;
 
-// The size of a store and of a table: more than any reading of the text takes.
-const ROOM: usize = 524_296;
+// The size of a store and of a table: a table of one word more than the text has bytes, which no reading of it takes.
+const ROOM: usize = (LIMIT + 1) * PAIR_SIZE;
 
 // A reading whose words come in rounds.
 #[derive(Clone, Copy, Debug, PartialEq, Eq)]

@@ -2,10 +2,7 @@
 use recorded::buffer::put_number;
 use recorded::fields::{LineError, byte_of};
 use std::alloc::Global;
-use word_writer::WordCounts;
-
-// The bytes of a pair of the table.
-const PAIR: usize = 8;
+use word_writer::{PAIR_SIZE, WordCounts};
 
 // What a call leaves in the two buffers of the C interface: the words' bytes, and for each word where it starts there and its
 // length.
@@ -40,7 +37,7 @@ impl Words {
     // How many words and bytes there are.
     pub fn counts(&self) -> WordCounts {
         WordCounts {
-            words: self.table.len() / PAIR,
+            words: self.table.len() / PAIR_SIZE,
             bytes: self.store.len(),
         }
     }

@@ -1,4 +1,4 @@
-use Rattle.std.proofs.Common.{rules, IsTrue}
+use Rattle.std.proofs.Common.{rules}
 use Rattle.recorded.proofs.buffer.is_given.Goals as goal
 
 pub returns-then-any-clause-fits : goal.returns-then-any-clause-fits
