@@ -1,5 +1,6 @@
 // Every function that C calls. Each calls one function of the library, and may put its answer into a form for C.
-// include/howhakiru.h is the same list for C.
+// include/howhakiru.h is the same list for C. Parameters are the header's: store and table are two buffers of the caller, and a
+// step's token is three texts.
 #![tactic(auto)]
 
 ghost use Rattle.std.specs.Prelude.{◌≡◌, List, ℕ, ◌-◌, length};

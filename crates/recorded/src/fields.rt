@@ -66,7 +66,7 @@ pub fn fields(alloc: Global, line: &[u8], end: u8) -> Result<Vec<&[u8]>, AllocEr
     line.split(|b| *b == end).collect(alloc)
 }
 
-// The decimal number of a field, which has at most nine digits.
+// The decimal number of a field, which has at most nine digits: `parse` alone would take a sign, and more digits.
 pub fn number(field: &[u8]) -> Result<usize, LineError>
     ensures { IfOk result (λ n. n ≡ digits_value 10 field.now) }
 {
@@ -76,7 +76,7 @@ pub fn number(field: &[u8]) -> Result<usize, LineError>
     Ok(str::from_utf8(field)?.parse()?)
 }
 
-// Whether the field is 1. It must be 0 else.
+// Whether the field is 1. It must be 0 else. No library call reads a flag so.
 pub fn flag(field: &[u8]) -> Result<bool, LineError>
     ensures { IfOk result (λ is. digits_value 10 field.now ≡ (if is then 1 else 0)) }
 {
