@@ -19,10 +19,9 @@ use Rattle.numerals.specs.Cardinal.{cardinal, digits}
 use Rattle.reals.specs.Real.{real}
 use Rattle.rows.specs.Rows.{read_step, read_with}
 use Rattle.rows.proofs.Laws.{step_eq}
-use Rattle.rows.proofs.Taken.{untaken, double_byte, meridiem_last, double_bytes, PastTimes, past_times}
+use Rattle.rows.proofs.Taken.{digit_no_letter, untaken, double_byte, meridiem_last, double_bytes, PastTimes, past_times}
 use Rattle.clear.specs.Clear.{plain, OptionalMinus, no_minus, a_minus, Fraction, no_point, a_point, Exponent, no_exponent, an_exponent}
 use Rattle.clear.proofs.Figures.{plain_digits, strip_sign_lem, exponent_front, exponent_point}
-use Rattle.decoder.proofs.Suffixed.{digit_no_letter}
 use Rattle.clear.proofs.Cuts.{span_seam, starts_with_digits}
 use Rattle.decoder.proofs.Real.{real_digits, minus_words, fraction_words, exponent_words, real_figure}
 

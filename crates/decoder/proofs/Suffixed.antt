@@ -1,13 +1,12 @@
 -- Digits with letters after them: the rows that do not take such a name, and what it is read as by the others. Assumes nothing.
 use mathlib.Core.Path.{◌≡◌, refl, sym, ◌∙◌}
-use mathlib.Core.Bool.{Bool, true, false, ◌&&◌, ◌||◌, and-false, and-eq-true_iff, or-true, true≢false}
+use mathlib.Core.Bool.{Bool, true, false, ◌&&◌, ◌||◌, and-false, or-true, true≢false}
 use mathlib.Core.List.{List, [], ◌∷◌, ◌++◌}
-use Prim.Native.Nat.{ℕ, ◌-◌, ◌≤◌, ◌<◌}
+use Prim.Native.Nat.{ℕ, ◌-◌, ◌<◌}
 use Prim.Native.Char.{code}
 use native.Mathlib.Omega.{arith}
-use lib.Dec.{leb, ltb}
+use lib.Dec.{ltb}
 use lib.ListN.{length, take, drop, get_or, length-append, get_or-append}
-use borrow.Author.Tests.{leb-true, lt-leb}
 use Rattle.lists.specs.Bytes.{all, starts_with}
 use Rattle.lists.specs.Classes.{digit, letter}
 use Rattle.lists.proofs.Scan.{all_append, all_within, all_at}
@@ -19,13 +18,7 @@ use Rattle.numerals.specs.Cardinal.{cardinal}
 use Rattle.numerals.specs.Ordinal.{ordinal}
 use Rattle.rows.specs.Rows.{read_step, read_with}
 use Rattle.rows.proofs.Laws.{step_eq}
-use Rattle.rows.proofs.Taken.{untaken, double_byte, double_bytes, digit_double, no_meridiem, no_ending, PastTimes, past_times}
-
--- a digit is no letter
-pub digit_no_letter : (b : ℕ) → digit b ≡ true → letter b ≡ false
-digit_no_letter b h =
-    let e : b ≤ code "9" = leb-true b (code "9") ((and-eq-true_iff (leb (code "0") b) (leb b (code "9"))).0 h).1 in
-    rw (lt-leb (code "A") b (omega arith), lt-leb (code "a") b (omega arith))
+use Rattle.rows.proofs.Taken.{digit_no_letter, untaken, double_byte, double_bytes, digit_double, no_meridiem, no_ending, PastTimes, past_times}
 
 abbrev letter_or_digit : ℕ → Bool
 letter_or_digit b = letter b || digit b

@@ -1,7 +1,7 @@
 -- What the readers of rows answer. Assumes nothing.
 use mathlib.Core.Path.{◌≡◌, refl, sym, ap, ◌∙◌}
 use mathlib.Core.Bool.{Bool, true, false, not, ◌&&◌, and-eq-true_iff, or-false, true≢false, cond}
-use mathlib.Core.List.{List, [], ◌∷◌, ◌++◌, map, map-append}
+use mathlib.Core.List.{List, [], ◌∷◌, ◌++◌, map, map-append, append-nil}
 use Prim.Native.Nat.{ℕ, ◌-◌, ◌<◌}
 use Prim.Native.Char.{code}
 use lib.Dec.{eqb}
@@ -19,6 +19,7 @@ use Rattle.shapes.proofs.Laws.{split_unit_some}
 use Rattle.shapes.specs.Times.{parts_of_time, is_meridiem_time, time_parts, time_split, time_parts_at, SplitsTime}
 use Rattle.shapes.specs.declared.TimeSplit.{TimeSplit}
 use Rattle.vocabulary.specs.Vocabulary.{word_of}
+use Rattle.vocabulary.proofs.Laws.{unfold_vocabulary}
 use Rattle.numerals.specs.Words.{Word, other, spell, spelled}
 use Rattle.numerals.specs.Cardinal.{cardinal}
 use Rattle.numerals.proofs.Digits.{spelled_append}
@@ -28,7 +29,7 @@ use Rattle.letters.specs.Letters.{letter_word, letters}
 use Rattle.word_writer.specs.Writer.{Says}
 use Rattle.word_writer.specs.declared.Writer.{Writer}
 use Rattle.word_writer.proofs.Saying.{says_nothing, says_same}
-use Rattle.rows.specs.Rows.{Reading, by, clock, clock_letters, is_percent, read_step, read}
+use Rattle.rows.specs.Rows.{Reading, by, clock, full_hour, clock_letters, is_percent, read_step, read}
 use Rattle.rows.specs.declared.Row.{Row}
 use Rattle.rows.specs.declared.Row.TheVariants.{Meridiem, Unit, OneWord}
 use Rattle.rows.proofs.Laws.{read_eq}
@@ -70,6 +71,18 @@ pub clock_said : (hour minute : List ℕ) → same minute (bytes "00") ≡ false
     → Says (spelled (cardinal hour)) p q → Says (spelled (year minute)) q r → Says (spelled (clock hour minute)) p r
 unfolding clock
 clock_said hour minute e a b = says_more (cardinal hour) (year minute) (rw e) a b
+
+-- a full hour is said with its word
+pub full_hour_said : (hour minute : List ℕ) → same minute (bytes "00") ≡ true → {p q r : Writer}
+    → Says (spelled (clock hour minute)) p q → Says (word_of 91 ∷ []) q r → Says (spelled (clock hour minute ++ full_hour minute)) p r
+unfolding full_hour spelled spell unfold_vocabulary
+full_hour_said hour minute e a b = says_more (clock hour minute) (full_hour minute) refl a (rw e b)
+
+-- after any other minute there is no such word
+pub other_minute_said : (hour minute : List ℕ) → same minute (bytes "00") ≡ false → {p q : Writer}
+    → Says (spelled (clock hour minute)) p q → Says (spelled (clock hour minute ++ full_hour minute)) p q
+unfolding full_hour
+other_minute_said hour minute e a = rw (e, append-nil (clock hour minute)) a
 
 -- if the split finds nothing, row 5 does not take the name
 pub no_time : (s : List ℕ) {r : Option TimeSplit} → SplitsTime s r → r ≡ None → rows_after 4 s ≡ rows_after 5 s

@@ -1,10 +1,10 @@
 // The rows that read a name once: all but row 10.
 #![tactic(auto)]
 
-ghost use Rattle.std.specs.Prelude.{◌≡◌, ◌∷◌, [], option_copied};
+ghost use Rattle.std.specs.Prelude.{◌≡◌, ◌∷◌, ◌++◌, [], option_copied};
 ghost use Rattle.word_writer.specs.Writer.{Says};
 ghost use Rattle.numerals.specs.Words.{spelled};
-ghost use Rattle.rows.specs.Rows.{sign_of, clock};
+ghost use Rattle.rows.specs.Rows.{sign_of, clock, full_hour};
 ghost use Rattle.row_readers.specs.Walk.{Reads, initials, word_of_unit, rows_after};
 
 use letters::{say_letter, say_letters};
@@ -20,7 +20,7 @@ use shapes::{
     is_ordinal, is_time, split_time_meridiem, split_unit,
 };
 use units::{unit_index, word_number};
-use vocabulary::word;
+use vocabulary::{OCLOCK, word};
 use word_writer::Writer;
 use years::say_year;
 
@@ -42,6 +42,16 @@ fn say_clock(hour: &[u8], minute: &[u8], out: &mut Writer)
     say_cardinal(hour, out);
     if !equal(minute, b"00") {
         say_year(minute, out);
+    }
+}
+
+// Row 4: says the hour and the minute, and one word more if the hour is full.
+fn say_time(hour: &[u8], minute: &[u8], out: &mut Writer)
+    ensures { Says (spelled (clock hour.now minute.now ++ full_hour minute.now)) out.old out.new }
+{
+    say_clock(hour, minute, out);
+    if equal(minute, b"00") {
+        out.put_word(word(OCLOCK));
     }
 }
 
@@ -148,7 +158,7 @@ pub fn read_by_row(name: &[u8], out: &mut Writer) -> Row
     if is_time(name) {
         // The name has a colon: `split_once` would have a case for none, which can't be.
         let at = span(name, Not(Byte(b':')));
-        say_clock(front(name, at), tail(tail(name, at), 1), out);
+        say_time(front(name, at), tail(tail(name, at), 1), out);
         return Row::Time;
     }
     from_meridiem(name, out)

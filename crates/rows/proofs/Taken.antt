@@ -2,13 +2,13 @@
 use mathlib.Core.Path.{◌≡◌, refl, sym, ap, ◌∙◌}
 use mathlib.Core.Bool.{Bool, true, false, cond, not, ◌&&◌, ◌||◌, and-false, and_assoc, and-eq-true_iff, or-true, false≢true}
 use mathlib.Core.List.{List, [], ◌∷◌}
-use Prim.Native.Nat.{ℕ, zero, suc, ◌+◌, ◌-◌, ◌<◌}
+use Prim.Native.Nat.{ℕ, zero, suc, ◌+◌, ◌-◌, ◌≤◌, ◌<◌}
 use Prim.Native.Char.{code}
 use native.Mathlib.Omega.{arith}
 use lib.Dec.{eqb, leb, ltb}
 use lib.ListN.{length, take, drop, get_or, take-append-drop, drop_of_length-le}
 use lib.Seq.{get_or-drop}
-use borrow.Author.Tests.{eqb-true, ltb-true, ltb-false, leb-true, not-false, le-ltb, ne_eqb}
+use borrow.Author.Tests.{eqb-true, ltb-true, ltb-false, leb-true, lt-leb, not-false, le-ltb, ne_eqb}
 use Rattle.lists.specs.Bytes.{bytes, all, span, elem, split, onto, same_by, uppercase, lowercase, to_lower, starts_with, ends_with, strip_suffix, ends_with_by, any}
 use Rattle.lists.specs.Classes.{digit, letter, digit_or_comma, not_colon_or_point, except}
 use Rattle.lists.proofs.Scan.{all_append, all_more, all_within, span_all, span_fails, all_span, all_split, all_at, class_apart}
@@ -42,6 +42,12 @@ outside shape p c s f h k = untaken shape (λ e. false≢true (sym (lacks p c s 
 -- if a shape's names all have the byte c, the shape takes no text of a class without c
 pub needs_other : (shape : Bool) (p : ℕ → Bool) (c : ℕ) (s : List ℕ) → (shape ≡ true → elem c s ≡ true) → p c ≡ false → all p s ≡ true → shape ≡ false
 needs_other shape p c s f h k = untaken shape (λ e. false≢true (sym (lacks p c s h (f e)) ∙ k))
+
+-- a digit is no letter
+pub digit_no_letter : (b : ℕ) → digit b ≡ true → letter b ≡ false
+digit_no_letter b h =
+    let e : b ≤ code "9" = leb-true b (code "9") ((and-eq-true_iff (leb (code "0") b) (leb b (code "9"))).0 h).1 in
+    rw (lt-leb (code "A") b (omega arith), lt-leb (code "a") b (omega arith))
 
 -- the bytes of each shape's names
 abbrev pub dotted_byte : ℕ → Bool
@@ -186,14 +192,19 @@ comma_needed s h = elem_span (code ",") s ∙ go (ltb (span (except (code ",")) 
 
 -- ---- times
 
--- hour and minute are digits
-hour_minute_digits : (h m : List ℕ) → is_hour_minute h m ≡ true → (all digit h ≡ true) × (all digit m ≡ true)
+-- an hour is digits, and a minute is two of them
+pub hour_minute_parts : (h m : List ℕ) → is_hour_minute h m ≡ true → (is_digits h ≡ true) × (is_n_digits 2 m ≡ true)
 unfolding is_hour_minute
-hour_minute_digits h m e =
+hour_minute_parts h m e =
     let bound = leb 1 (length h) && leb (length h) 2 in
     let a = ((and-eq-true_iff (bound && is_digits h && is_n_digits 2 m) (leb (get_or m 0 0) (code "5"))).0 e).0 in
     let b = (and-eq-true_iff (bound && is_digits h) (is_n_digits 2 m)).0 a in
-    (digits_all h ((and-eq-true_iff bound (is_digits h)).0 b.0).1, digits_all m ((and-eq-true_iff (eqb (length m) 2) (is_digits m)).0 b.1).1)
+    (((and-eq-true_iff bound (is_digits h)).0 b.0).1, b.1)
+
+hour_minute_digits : (h m : List ℕ) → is_hour_minute h m ≡ true → (all digit h ≡ true) × (all digit m ≡ true)
+hour_minute_digits h m e =
+    let p = hour_minute_parts h m e in
+    (digits_all h p.0, digits_all m ((and-eq-true_iff (eqb (length m) 2) (is_digits m)).0 p.1).1)
 
 -- an hour, the byte at which a scan by q stops, and a minute: all these bytes are of the class p
 all_clock : (p q : ℕ → Bool) → ((b : ℕ) → digit b ≡ true → p b ≡ true) → ((b : ℕ) → q b ≡ false → p b ≡ true) → (s : List ℕ)

@@ -1,4 +1,4 @@
--- Document 01, "Call sheet": the twelve rows. Definitions only.
+-- Document 01, "Call sheet": the twelve rows; document 02, A1, adds a word to row 4. Definitions only.
 use Rattle.std.specs.Prelude.{Bool, true, cond, List, [], ◌∷◌, ◌++◌, map, ℕ, ◌-◌, eqb, length, take, drop, Option, Some, None}
 use Prim.Native.Char.{code}
 use Rattle.lists.specs.Bytes.{bytes, filter_if, to_lower, take_while, drop_while, same, starts_with, ends_with}
@@ -64,6 +64,10 @@ sign_of s = cond (starts_with (code "-") s) Minus Plus
 unfoldable pub clock : List ℕ → List ℕ → List Word
 clock hour minute = cardinal hour ++ cond (same minute (bytes "00")) [] (year minute)
 
+-- 02, A1: "In row 4 a minute of "00" shall add the word "o'clock" after the hour."
+unfoldable pub full_hour : List ℕ → List Word
+full_hour minute = cond (same minute (bytes "00")) (other (bytes "o'clock") ∷ []) []
+
 -- the parts of a time before and after its colon
 abbrev pub hour_of : List ℕ → List ℕ
 hour_of s = take_while (except (code ":")) s
@@ -71,7 +75,7 @@ hour_of s = take_while (except (code ":")) s
 abbrev pub minute_of : List ℕ → List ℕ
 minute_of s = drop 1 (drop_while (except (code ":")) s)
 
--- "as 4, then `letters` of the meridiem"
+-- "as 4, then `letters` of the meridiem"; 02, A1: "Row 5 keeps its reading", so a full hour adds nothing
 unfoldable pub clock_letters : TimeParts → List Word
 clock_letters (parts_of_time hour minute meridiem) = clock hour minute ++ letters meridiem
 clock_letters no_parts_of_time = []
@@ -111,7 +115,7 @@ rows word again s =
     eqb (length s) 0 reads by Empty []
     ∷ is_dotted_abbrev s reads by Dotted (letters (filter_if (except (code ".")) s))
     ∷ is_comma_int s reads by CommaInt (cardinal s)
-    ∷ is_time s reads by Time (clock (hour_of s) (minute_of s))
+    ∷ is_time s reads by Time (clock (hour_of s) (minute_of s) ++ full_hour (minute_of s))
     ∷ is_meridiem_time s reads by Meridiem (clock_letters (time_parts s))
     ∷ is_leading_zero_digits s reads by LeadingZero (digits s)
     ∷ is_digits s reads by Digits (cardinal s)

@@ -19,7 +19,7 @@ unfolding unit_vocabulary ones teens tens scales ordinal_ones ordinal_teens ordi
 unfold_vocabulary = tt
 
 -- past the last word there is none
-pub no_word : (k : ℕ) → 91 ≤ k → word_of k ≡ []
+pub no_word : (k : ℕ) → length vocabulary ≤ k → word_of k ≡ []
 unfolding word_of vocabulary unit_vocabulary ones teens tens scales ordinal_ones ordinal_teens ordinal_tens ordinal_scales others cardinals ordinals
 no_word k h = get_or-eq_default vocabulary [] {n = k} h
 
@@ -30,5 +30,6 @@ is_short_word k = leb (length (word_of k)) 11
 pub word_short : (k : ℕ) → length (word_of k) ≤ 11
 unfolding is_short_word unfold_vocabulary
 word_short k =
-    ⊎_elim (λ (h : 91 ≤ k). rw (no_word k h) (omega arith)) (λ (h : k < 91). leb-true (length (word_of k)) 11 (below is_short_word 91 refl k h))
-    (le_or_lt 91 k)
+    ⊎_elim (λ (h : length vocabulary ≤ k). rw (no_word k h) (omega arith))
+    (λ (h : k < length vocabulary). leb-true (length (word_of k)) 11 (below is_short_word (length vocabulary) refl k h))
+    (le_or_lt (length vocabulary) k)

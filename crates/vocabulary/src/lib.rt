@@ -1,4 +1,4 @@
-// The words of units, of number readings and of row 10, by number.
+// The words of units, of number readings, and of rows 4 and 10, by number.
 #![tactic(auto)]
 
 ghost use Rattle.std.specs.Prelude.{◌≡◌};
@@ -30,8 +30,10 @@ pub const PER: usize = 89;
 
 pub const CENT: usize = 90;
 
+pub const OCLOCK: usize = 91;
+
 // Every word, by number. A `static` lies in read-only memory, and no word is copied from there.
-static WORDS: [&[u8]; 91] = [
+static WORDS: [&[u8]; 92] = [
     b"pounds",
     b"feet",
     b"kilograms",
@@ -123,6 +125,7 @@ static WORDS: [&[u8]; 91] = [
     b"e",
     b"per",
     b"cent",
+    b"o'clock",
 ];
 
 // The word of a number; an empty text if there is none. It is no Option, because each caller's number has a word.

@@ -4,9 +4,10 @@ use Rattle.vocabulary.proofs.Table.{now_at}
 use Rattle.vocabulary.proofs.word.Goals as goal
 
 -- the goal becomes an equation of two lists, which antt computes
-pub returns-then-k-lt91 : goal.returns-then-k-lt91
+pub returns-then-k-lt92 : goal.returns-then-k-lt92
 unfolding unfold_vocabulary
-returns-then-k-lt91 c = rw now_at
+returns-then-k-lt92 c = rw now_at
 
-pub returns-else-k-lt91 : goal.returns-else-k-lt91
-returns-else-k-lt91 c = sym (no_word c.args.k (omega arith))
+pub returns-else-k-lt92 : goal.returns-else-k-lt92
+unfolding unfold_vocabulary
+returns-else-k-lt92 c = sym (no_word c.args.k (omega arith))
