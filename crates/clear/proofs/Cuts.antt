@@ -11,7 +11,6 @@ use borrow.Author.Tests.{eqb-true, eq-eqb, ne_eqb}
 use Rattle.lists.specs.Bytes.{all, span, same_by, same, starts_with, ends_with, take_while, drop_while}
 use Rattle.lists.specs.Classes.{digit}
 use Rattle.lists.proofs.Scan.{span_append, class_apart, starts_with_first}
-use Rattle.lists.proofs.Table.{same_true}
 use Rattle.shapes.specs.Shapes.{is_digits}
 use Rattle.shapes.proofs.Laws.{digits_all}
 
@@ -22,14 +21,6 @@ pub same_self : (s : List ℕ) → same s s ≡ true
 unfolding same_by
 same_self [] = refl
 same_self (b ∷ s) = rw (eq-eqb b b refl, same_self s)
-
--- texts that differ fail the test
-pub same_false : (s t : List ℕ) → (s ≡ t → ⊥) → same s t ≡ false
-same_false s t n = go (same s t) refl
-  where
-    go : (b : Bool) → same s t ≡ b → same s t ≡ false
-    go true e = absurd (n (same_true s t e))
-    go false e = e
 
 -- ---- at the front
 

@@ -37,7 +37,7 @@ pub clear_test : (s : List ℕ) → Clear s → is_clear s ≡ true
 unfolding is_clear
 clear_test s (clear_number t n) = rw (number_test t n)
 clear_test s (clear_percent t n) = rw (percent_test t n, or-true)
-clear_test s (clear_time h m p q n) = rw (time_test h m p q n, or-true)
+clear_test s (clear_time h m p q) = rw (time_test h m p q, or-true)
 clear_test s (clear_meridiem h m x p q r) = rw (meridiem_test h m x p q r, or-true)
 clear_test s (clear_ordinal t h) = rw (ordinal_test t h, or-true)
 clear_test s (clear_unit t k h l w) = rw (unit_test t k h l w, or-true)

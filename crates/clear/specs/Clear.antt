@@ -1,4 +1,5 @@
--- Document 01, "Clear entries": clear names, kind by kind, in the paper's order. Definitions only.
+-- Document 01, "Clear entries", with the full hours of document 02, A1: clear names, kind by kind, in the paper's order.
+-- Definitions only.
 use Rattle.std.specs.Prelude.{◌≡◌, Bool, true, false, cond, not, ◌&&◌, List, [], ◌∷◌, ◌++◌, map, ℕ, ◌-◌, ◌≤◌, ◌<◌, leb, ltb, eqb, length, get_or}
 use Prim.Native.Char.{code}
 use Rattle.lists.specs.Bytes.{bytes, all, listed, uppercase, lowercase}
@@ -81,8 +82,8 @@ pub data Clear : List ℕ → Type 0 where
   clear_number : (s : List ℕ) → Number s → Clear s
   -- "either of these with one %"
   clear_percent : (s : List ℕ) → Number s → Clear (s ++ bytes "%")
-  -- "plain hour of 1 or 2 digits, colon, minute 01 to 59"
-  clear_time : (h m : List ℕ) → is_hour h ≡ true → is_minute m ≡ true → (m ≡ bytes "00" → ⊥) → Clear (h ++ (bytes ":" ++ m))
+  -- "plain hour of 1 or 2 digits, colon, minute 01 to 59"; 02, A1: "A plain hour with ":00" becomes a clear entry"
+  clear_time : (h m : List ℕ) → is_hour h ≡ true → is_minute m ≡ true → Clear (h ++ (bytes ":" ++ m))
   -- `such an hour, colon, minute 00 to 59, then "am" or "pm"`
   clear_meridiem : (h m x : List ℕ) → is_hour h ≡ true → is_minute m ≡ true → AmPm x → Clear (h ++ (bytes ":" ++ (m ++ x)))
   -- "plain digits with the right suffix"

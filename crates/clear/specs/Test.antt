@@ -30,11 +30,8 @@ abbrev pub is_percent_clear : List ℕ → Bool
 is_percent_clear s = ends_with (code "%") s && is_number_clear (take (length s - 1) s)
 
 -- a time whose hour is plain; `is_time` tests the rest
-abbrev pub is_plain_time : List ℕ → Bool
-is_plain_time s = is_time s && plain (take_while (except (code ":")) s)
-
 abbrev pub is_time_clear : List ℕ → Bool
-is_time_clear s = is_plain_time s && not (same (drop 1 (drop_while (except (code ":")) s)) (bytes "00"))
+is_time_clear s = is_time s && plain (take_while (except (code ":")) s)
 
 -- all but the last two bytes, and the last two
 abbrev pub but_last_two : List ℕ → List ℕ
@@ -44,7 +41,7 @@ abbrev pub last_two : List ℕ → List ℕ
 last_two s = drop (length s - 2) s
 
 abbrev pub is_meridiem_clear : List ℕ → Bool
-is_meridiem_clear s = (same (last_two s) (bytes "am") || same (last_two s) (bytes "pm")) && is_plain_time (but_last_two s)
+is_meridiem_clear s = (same (last_two s) (bytes "am") || same (last_two s) (bytes "pm")) && is_time_clear (but_last_two s)
 
 abbrev pub is_ordinal_clear : List ℕ → Bool
 is_ordinal_clear s = plain (but_last_two s) && same (last_two s) (suffix (but_last_two s))

@@ -1,12 +1,11 @@
 // The tests of a clear name, for names that are already admitted, kind by kind in document 01's order. Each test works on any
 // bytes, so nothing is demanded of the caller.
-ghost use Rattle.std.specs.Prelude.{◌≡◌, ◌&&◌, [], ltb, eqb, length, drop, get_or};
-ghost use Rattle.lists.specs.Bytes.{lowercase, drop_while, listed};
-ghost use Rattle.lists.specs.Classes.{except};
+ghost use Rattle.std.specs.Prelude.{◌≡◌, ◌&&◌, [], ltb, eqb, length, get_or};
+ghost use Rattle.lists.specs.Bytes.{lowercase, listed};
 ghost use Rattle.units.specs.Units.{abbreviations, unit_words, index_of};
 ghost use Rattle.clear.specs.Clear.{plain, suffix, suffix_for, table_words};
-ghost use Rattle.clear.specs.Test.{uppercase_or_point, is_exponent_clear, is_fraction_clear, is_figure_clear, is_number_clear, is_percent_clear, is_plain_time};
-ghost use Rattle.clear.specs.Test.{is_time_clear, is_meridiem_clear, is_ordinal_clear, is_unit_clear, is_initials_clear, is_word_clear, is_clear};
+ghost use Rattle.clear.specs.Test.{uppercase_or_point, is_exponent_clear, is_fraction_clear, is_figure_clear, is_number_clear, is_percent_clear, is_time_clear};
+ghost use Rattle.clear.specs.Test.{is_meridiem_clear, is_ordinal_clear, is_unit_clear, is_initials_clear, is_word_clear, is_clear};
 
 use lists::{
     Byte, ByteClass, Digit, Not, all, back, ends_with, equal, front, last_end, span, starts_with,
@@ -93,30 +92,17 @@ pub fn is_percent_clear(s: &[u8]) -> bool
 }
 
 // A time whose hour is plain.
-fn is_plain_time(s: &[u8]) -> bool
-    ensures { result ≡ is_plain_time s.now }
-{
-    is_time(s) && is_plain(front(s, span(s, Not(Byte(b':')))))
-}
-
-// What follows the first colon, nothing if there is none.
-fn after_colon(s: &[u8]) -> &[u8]
-    ensures { result.now ≡ drop 1 (drop_while (except 58) s.now) }
-{
-    tail(tail(s, span(s, Not(Byte(b':')))), 1)
-}
-
 pub fn is_time_clear(s: &[u8]) -> bool
     ensures { result ≡ is_time_clear s.now }
 {
-    is_plain_time(s) && !equal(after_colon(s), b"00")
+    is_time(s) && is_plain(front(s, span(s, Not(Byte(b':')))))
 }
 
 pub fn is_meridiem_clear(s: &[u8]) -> bool
     ensures { result ≡ is_meridiem_clear s.now }
 {
     let meridiem = back(s, 2);
-    (equal(meridiem, b"am") | equal(meridiem, b"pm")) && is_plain_time(without_back(s, 2))
+    (equal(meridiem, b"am") | equal(meridiem, b"pm")) && is_time_clear(without_back(s, 2))
 }
 
 // The suffix for a last digit b, if the digit before it is not 1.

@@ -56,7 +56,7 @@ once_taken c both a b f p =
     rw (lt-ltb n (length (a ++ (c ∷ b))) (omega (arith, e, length-append a (c ∷ b))), take_at a (c ∷ b) n (sym e), m, p)
 
 -- a separator that is no digit does not stand among digits
-no_separator : (c : ℕ) → digit c ≡ false → (s : List ℕ) → is_digits s ≡ true → all (except c) s ≡ true
+pub no_separator : (c : ℕ) → digit c ≡ false → (s : List ℕ) → is_digits s ≡ true → all (except c) s ≡ true
 no_separator c e s h = all_within digit (except c) (λ b k. rw (class_apart digit c b e k)) s (digits_all s h)
 
 -- n digits are digits
