@@ -14,7 +14,7 @@ use Rattle.decoder.proofs.OneWord.{lowercase_lowered, word_decoded}
 pub clear_decoded : (n : List ℕ) → Clear n → Decoded n
 clear_decoded n (clear_number s a) = number_decoded s a
 clear_decoded n (clear_percent s a) = percent_decoded s a
-clear_decoded n (clear_time h m a b c) = time_decoded h m a b c
+clear_decoded n (clear_time h m a b) = time_decoded h m a b
 clear_decoded n (clear_meridiem h m x a b c) = meridiem_decoded h m x a b c
 clear_decoded n (clear_ordinal s a) = ordinal_decoded s a
 clear_decoded n (clear_unit s k a b c) = unit_decoded s k a b c

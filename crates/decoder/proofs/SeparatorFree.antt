@@ -2,7 +2,7 @@
 use mathlib.Core.Path.{◌≡◌, refl, sym, ap, ◌∙◌}
 use mathlib.Core.Bool.{Bool, true, false, cond, not, ◌&&◌, and-eq-true_iff}
 use mathlib.Core.Logic.{⊎_elim}
-use mathlib.Core.List.{List, [], ◌∷◌, map, flatten}
+use mathlib.Core.List.{List, [], ◌∷◌, ◌++◌, map, flatten}
 use Prim.Native.Nat.{ℕ, ◌+◌, ◌-◌, ◌%◌, ◌≤◌, ◌<◌}
 use Prim.Native.Char.{code}
 use native.Mathlib.Omega.{arith}
@@ -30,7 +30,7 @@ use Rattle.years.specs.Year.{zero_at, year_step, year_of, year}
 use Rattle.reals.specs.Real.{point_at, e_at, pointed, real_step, real}
 use Rattle.letters.specs.Letters.{chars, letter_word, letters}
 use Rattle.letters.proofs.LetterLaws.{chars_join}
-use Rattle.rows.specs.Rows.{no_reading, Reading, per_cent, clock, hour_of, minute_of, clock_letters, read_step, read_with}
+use Rattle.rows.specs.Rows.{no_reading, Reading, per_cent, clock, full_hour, hour_of, minute_of, clock_letters, read_step, read_with}
 use Rattle.rows.proofs.Laws.{ends_some, shorter}
 use Rattle.decoder.proofs.Decoded.{separator_free}
 
@@ -204,6 +204,12 @@ clock_separator_free hour minute =
     every_append SeparatorFreeWord (cardinal hour) _ (cardinal_separator_free hour)
     (cond_elim (Every SeparatorFreeWord) (same minute (bytes "00")) (λ e. tt) (λ e. year_separator_free minute))
 
+time_separator_free : (hour minute : List ℕ) → Every SeparatorFreeWord (clock hour minute ++ full_hour minute)
+unfolding full_hour all spell
+time_separator_free hour minute =
+    every_append SeparatorFreeWord (clock hour minute) _ (clock_separator_free hour minute)
+    (cond_elim (Every SeparatorFreeWord) (same minute (bytes "00")) (λ e. (refl, tt)) (λ e. tt))
+
 meridiem_separator_free : (s : List ℕ) → SeparatorFree s → Every SeparatorFreeWord (clock_letters (time_parts s))
 unfolding clock_letters time_parts
 meridiem_separator_free s h =
@@ -226,7 +232,7 @@ read_separator_free word k s h =
         cond_elim P (eqb (length s) 0) (λ e. tt) (λ e.
         cond_elim P (is_dotted_abbrev s) (λ e. letters_separator_free (filter_if (except (code ".")) s) (filter_if_separator_free (except (code ".")) s h)) (λ e.
         cond_elim P (is_comma_int s) (λ e. cardinal_separator_free s) (λ e.
-        cond_elim P (is_time s) (λ e. clock_separator_free (hour_of s) (minute_of s)) (λ e.
+        cond_elim P (is_time s) (λ e. time_separator_free (hour_of s) (minute_of s)) (λ e.
         cond_elim P (is_meridiem_time s) (λ e. meridiem_separator_free s h) (λ e.
         cond_elim P (is_leading_zero_digits s) (λ e. digits_separator_free s) (λ e.
         cond_elim P (is_digits s) (λ e. cardinal_separator_free s) (λ e.

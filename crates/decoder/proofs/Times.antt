@@ -13,11 +13,12 @@ use Rattle.lists.proofs.Table.{upto, below}
 use Rattle.lists.proofs.Scan.{all_append, any_append}
 use Rattle.shapes.specs.Shapes.{is_digits, is_n_digits}
 use Rattle.shapes.proofs.Laws.{digits_all}
-use Rattle.numerals.specs.Words.{Word}
+use Rattle.numerals.specs.Words.{Word, other}
 use Rattle.numerals.specs.Cardinal.{digit_value, digit_values, pair_words, join_at_scale, by_scale, cardinal_step, short_cardinal, cardinal_of, cardinal}
 use Rattle.numerals.specs.Value.{decimal_from, decimal}
 use Rattle.years.specs.Year.{year_step, year_of, year}
-use Rattle.rows.specs.Rows.{clock}
+use Rattle.rows.specs.Rows.{clock, full_hour}
+use Rattle.rows.proofs.Times.{time_words}
 use Rattle.clear.specs.Clear.{is_hour, is_minute}
 use Rattle.numerals.specs.Walk.{BelowTen}
 use Rattle.numerals.proofs.NumberWords.{digit_values_below_ten}
@@ -98,26 +99,44 @@ is_minute_of k (v ∷ ws) = not (is_one v) && eqb (decode_minute (v ∷ ws)) k
 abbrev minutely : ℕ → List Word → Bool
 minutely k ws = all is_below_hundred ws && is_minute_of k ws
 
-abbrev minute_words : List ℕ → List Word
-minute_words m = cond (same m (bytes "00")) [] (year m)
+-- what is said after the hour; `full` is said if the minute is "00"
+abbrev minute_words : List Word → List ℕ → List Word
+minute_words full m = cond (same m (bytes "00")) full (year m)
+
+abbrev oclock : List Word
+oclock = other (bytes "o'clock") ∷ []
+
+-- all minutes pass the test, if a full hour is told by these words
+abbrev AllMinutes : (List Word → ℕ → Bool) → List Word → Type 0
+AllMinutes f full = upto (λ k. f (minute_words full (minute_bytes k)) k) 60 ≡ true
 
 hours : upto (λ k. hourly k (cardinal (hour_bytes k))) 100 ≡ true
 unfolding is_hour_of digit_bytes decimal_digits digit_values filter_if pair_words join_at_scale by_scale cardinal_step short_cardinal cardinal_of cardinal recur recur_at value_below_hundred digit_of all
 hours = refl
 
-minutes : upto (λ k. minutely k (minute_words (minute_bytes k))) 60 ≡ true
+minutes : AllMinutes (λ ws k. minutely k ws) []
 unfolding is_minute_of same_by digit_bytes digit_values filter_if pair_words cardinal_step short_cardinal cardinal_of recur recur_at year_step year_of year decode_minute value_below_hundred digit_of all
 minutes = refl
+
+minutes_or_oclock : AllMinutes (λ ws k. minutely k ws) oclock
+unfolding is_minute_of same_by digit_bytes digit_values filter_if pair_words cardinal_step short_cardinal cardinal_of recur recur_at year_step year_of year decode_minute value_below_hundred digit_of all
+minutes_or_oclock = refl
+
+-- if "o'clock" is said, every minute has a word that only a minute has
+minutes_only : AllMinutes (λ ws k. any is_minute_only ws) oclock
+unfolding same_by digit_bytes digit_values filter_if pair_words cardinal_step short_cardinal cardinal_of recur recur_at year_step year_of year value_below_hundred digit_of any
+minutes_only = refl
 
 hour_words : (h : List ℕ) → is_hour h ≡ true → (k : ℕ) × (h ≡ hour_bytes k) × (hourly k (cardinal h) ≡ true)
 hour_words h p =
     let (k, l, e) = hour_number h p in
     (k, e, ap (λ s. hourly k (cardinal s)) e ∙ below (λ k. hourly k (cardinal (hour_bytes k))) 100 hours k l)
 
-minute_words_lem : (m : List ℕ) → is_minute m ≡ true → (k : ℕ) × (m ≡ minute_bytes k) × (minutely k (minute_words m) ≡ true)
-minute_words_lem m p =
+minute_words_lem : (f : List Word → ℕ → Bool) (full : List Word) → AllMinutes f full → (m : List ℕ) → is_minute m ≡ true
+    → (k : ℕ) × (m ≡ minute_bytes k) × (f (minute_words full m) k ≡ true)
+minute_words_lem f full all_minutes m p =
     let (k, l, e) = minute_number m p in
-    (k, e, ap (λ s. minutely k (minute_words s)) e ∙ below (λ k. minutely k (minute_words (minute_bytes k))) 60 minutes k l)
+    (k, e, ap (λ s. f (minute_words full s) k) e ∙ below (λ k. f (minute_words full (minute_bytes k)) k) 60 all_minutes k l)
 
 -- ---- a time is decoded
 
@@ -147,39 +166,38 @@ hour_minute_decoded h m (w ∷ v ∷ u ∷ ws) vs p q = absurd (false≢true p)
 minute_only_append : (ws vs : List Word) → any is_minute_only vs ≡ true → any is_minute_only (ws ++ vs) ≡ true
 minute_only_append ws vs q = rw (any_append is_minute_only ws vs, q) (or-true (any is_minute_only ws))
 
--- a minute other than 0 has a word that only a minute has
-some_minute_only : (m : ℕ) (vs : List Word) → minutely m vs ≡ true → (m ≡ 0 → ⊥) → any is_minute_only vs ≡ true
-unfolding is_minute_of all any
-some_minute_only m [] q n = absurd (n (sym (eqb-true 0 m q)))
-some_minute_only m (v ∷ vs) q n =
-    let s = ((and-eq-true_iff (ltb (value_below_hundred v) 100) (all is_below_hundred vs)).0 ((and-eq-true_iff (all is_below_hundred (v ∷ vs)) _).0 q).0).0 in
-    let o = ((and-eq-true_iff (not (is_one v)) _).0 ((and-eq-true_iff (all is_below_hundred (v ∷ vs)) _).0 q).1).0 in
-    rw (s, o)
-
-some_time_like : (h m : ℕ) (ws vs : List Word) → hourly h ws ≡ true → minutely m vs ≡ true → (m ≡ 0 → ⊥) → time_like (ws ++ vs) ≡ true
+some_time_like : (h m : ℕ) (ws vs : List Word) → hourly h ws ≡ true → minutely m vs ≡ true → any is_minute_only vs ≡ true → time_like (ws ++ vs) ≡ true
 unfolding is_hour_of all
-some_time_like h m [] vs p q n = absurd (false≢true p)
-some_time_like h m (w ∷ ws) vs p q n =
+some_time_like h m [] vs p q o = absurd (false≢true p)
+some_time_like h m (w ∷ ws) vs p q o =
     let x = ((and-eq-true_iff (all is_below_hundred (w ∷ ws)) _).0 p).0 in
     let y = ((and-eq-true_iff (all is_below_hundred vs) _).0 q).0 in
     let s : all is_below_hundred (w ∷ ws ++ vs) ≡ true = all_append is_below_hundred (w ∷ ws) vs ∙ rw (x, y) in
-    rw (s, minute_only_append ws vs (some_minute_only m vs q n))
+    rw (s, minute_only_append ws vs o)
 
 module _ (h m : List ℕ) (p : is_hour h ≡ true) (q : is_minute m ≡ true) where
-  -- the words of a time are decoded as the time
-  pub time_words_decoded : decode_time (clock h m) ≡ h ++ (bytes ":" ++ m)
-  unfolding clock
-  time_words_decoded =
+  -- an hour and what is said after it are decoded as the time
+  words_decoded : (full : List Word) → AllMinutes (λ ws k. minutely k ws) full → decode_time (cardinal h ++ minute_words full m) ≡ h ++ (bytes ":" ++ m)
+  words_decoded full all_minutes =
       let (k, e, hs) = hour_words h p in
-      let (i, f, ms) = minute_words_lem m q in
-      hour_minute_decoded k i (cardinal h) (minute_words m) ((and-eq-true_iff (all is_below_hundred (cardinal h)) _).0 hs).1
-      ((and-eq-true_iff (all is_below_hundred (minute_words m)) _).0 ms).1
+      let (i, f, ms) = minute_words_lem (λ ws k. minutely k ws) full all_minutes m q in
+      hour_minute_decoded k i (cardinal h) (minute_words full m) ((and-eq-true_iff (all is_below_hundred (cardinal h)) _).0 hs).1
+      ((and-eq-true_iff (all is_below_hundred (minute_words full m)) _).0 ms).1
       ∙ ap₂ (λ x y. x ++ (bytes ":" ++ y)) (sym e) (sym f)
 
-  -- if the minute is not 00, the words are like those of a time
-  pub time_like_lem : (m ≡ bytes "00" → ⊥) → time_like (clock h m) ≡ true
-  unfolding clock digit_bytes
-  time_like_lem n =
+  -- so are the words of row 5 before the letters
+  pub clock_decoded : decode_time (clock h m) ≡ h ++ (bytes ":" ++ m)
+  unfolding clock
+  clock_decoded = words_decoded [] minutes
+
+  -- and those of row 4
+  pub time_words_decoded : decode_time (clock h m ++ full_hour m) ≡ h ++ (bytes ":" ++ m)
+  time_words_decoded = rw (time_words h m) (words_decoded oclock minutes_or_oclock)
+
+  -- the words of row 4 are like those of a time
+  pub time_like_lem : time_like (clock h m ++ full_hour m) ≡ true
+  time_like_lem =
       let (k, e, hs) = hour_words h p in
-      let (i, f, ms) = minute_words_lem m q in
-      some_time_like k i (cardinal h) (minute_words m) hs ms (λ z. n (rw z at f))
+      let (i, f, ms) = minute_words_lem (λ ws k. minutely k ws) oclock minutes_or_oclock m q in
+      let (j, g, os) = minute_words_lem (λ ws k. any is_minute_only ws) oclock minutes_only m q in
+      rw (time_words h m) (some_time_like k i (cardinal h) (minute_words oclock m) hs ms os)

@@ -103,20 +103,20 @@ decode_figure ws = decode_after_symbol 0 (decode_from_right ws).pending ++ (deco
 
 -- ---- hour and minute
 
--- the value of a word if it is below 100, 0 for "oh", and 100 for any other word
+-- the value of a word if it is below 100, 0 for "oh" and "o'clock", and 100 for any other word
 unfoldable pub value_below_hundred : Word → ℕ
 value_below_hundred (one d) = d
 value_below_hundred (teen d) = 10 + d
 value_below_hundred (ten d) = 10 * d
 value_below_hundred hundred = 100
 value_below_hundred (scale k) = 100
-value_below_hundred (other w) = cond (same w (bytes "oh")) 0 100
+value_below_hundred (other w) = cond (same w (bytes "oh") || same w (bytes "o'clock")) 0 100
 
--- a word of a value below 100, or "oh"
+-- a word of a value below 100, "oh" or "o'clock"
 abbrev pub is_below_hundred : Word → Bool
 is_below_hundred w = ltb (value_below_hundred w) 100
 
--- a teen, a ten or "oh": if all words are below a hundred, only a minute has such a word after the first one
+-- a teen, a ten, "oh" or "o'clock": if all words are below a hundred, only a minute has such a word after the first one
 abbrev pub is_minute_only : Word → Bool
 is_minute_only w = is_below_hundred w && not (is_one w)
 
