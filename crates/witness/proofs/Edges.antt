@@ -19,12 +19,12 @@ use Rattle.clear.specs.Test.{last_two, is_exponent_clear, is_fraction_clear, is_
 use Rattle.decoder.specs.Decode.{digit_bytes, decimal_digits, last_word}
 use Rattle.decoder.specs.Sheets.{names}
 
--- not clear: a plus, a leading zero in a figure, an hour with one, full hours, minutes past 59, a wrong suffix or
--- abbreviation, ..
+-- not clear: a plus, a leading zero in a figure, an hour with one or of three digits, minutes past 59, a time with %, a wrong
+-- suffix or abbreviation, ..
 unfoldable pub unclear_sheet : List ℕ
 unclear_sheet =
     bytes
-    "+5 05.5 .5 5e05 5E3 5%% 09:30 9:00 9:60 9:5 9:60am 9:30PM 9.30am 09:00am 11st 21th 01st 5lb 5lbs 05mm A AB A.b A..B a Rack thousand first three zeroth"
+    "+5 05.5 .5 5e05 5E3 5%% 09:30 09:00 00:00 100:00 9:60 9:5 9:00% 9:60am 9:30PM 9.30am 09:00am 11st 21th 01st 5lb 5lbs 05mm A AB A.b A..B a Rack thousand first three zeroth"
 
 -- none of its names is clear
 pub unclear_names : any is_clear (names unclear_sheet) ≡ false
@@ -34,7 +34,7 @@ unclear_names = refl
 unfoldable pub clear_sheet : List ℕ
 clear_sheet =
     bytes
-    "0 12 007 -1 1.05 1e5 -1.50e+3 2e-7 007% -2.5% 0:01 23:59 9:30 9:00am 12:59pm 1st 2nd 3rd 4th 11th 12th 13th 21st 111th 5LB 5ft 5kg 5mm 5hz 5KHz A.B X.Y.Z rack hundred"
+    "0 12 007 -1 1.05 1e5 -1.50e+3 2e-7 007% -2.5% 0:00 0:01 23:59 9:00 9:30 99:00 9:00am 12:59pm 1st 2nd 3rd 4th 11th 12th 13th 21st 111th 5LB 5ft 5kg 5mm 5hz 5KHz A.B X.Y.Z rack hundred"
 
 -- all its names are clear
 pub clear_names : all is_clear (names clear_sheet) ≡ true
