@@ -93,7 +93,7 @@ pub fn doubling() {
 
 /// One entry of a sheet of one name, beside the Rust's reading of it and its line.
 pub fn entry_rows() -> Vec<Row> {
-    let names = ["12", "1984", "777777777777", "9:30", "12:05pm", "5mm", "21st", "-1.5", "12.5%", "A.B.C", "0005", "Rack"];
+    let names = ["12", "1984", "777777777777", "9:30", "9:00", "12:05pm", "5mm", "21st", "-1.5", "12.5%", "A.B.C", "0005", "Rack"];
     let mut out = vec![0; AMPLE];
     let mut rows = Vec::new();
     for name in names {

@@ -363,8 +363,10 @@ hwk_step hwk_push(hwk_state state, const uint8_t *whitespace, size_t whitespace_
  *    1  an empty name                     no words
  *    2  hwk_is_dotted_abbrev              hwk_letters of the name without its points: "U.S" is u s
  *    3  hwk_is_comma_int                  hwk_cardinal
- *    4  hwk_is_time                       hwk_cardinal of the hour; then hwk_year of the minute, unless the minute is "00"
- *    5  hwk_split_time_meridiem           the same, then hwk_letters of the meridiem: "9:30am" is nine thirty _a m
+ *    4  hwk_is_time                       hwk_cardinal of the hour; then hwk_year of the minute, or o'clock if the minute is
+ *                                         "00": "9:30" is nine thirty, "9:00" is nine o'clock, "00:00" is o'clock alone
+ *    5  hwk_split_time_meridiem           as row 4, but without o'clock; then hwk_letters of the meridiem: "9:30am" is
+ *                                         nine thirty _a m, "9:00am" is nine _a m
  *    6  hwk_is_leading_zero_digits        hwk_digits
  *    7  hwk_is_digits                     hwk_cardinal
  *    8  hwk_is_double                     hwk_real
@@ -372,7 +374,7 @@ hwk_step hwk_push(hwk_state state, const uint8_t *whitespace, size_t whitespace_
  *   10  a name that ends in %             what stands before the sign, from row 1 on; then per cent
  *   11  hwk_split_unit                    hwk_cardinal of the number, then hwk_unit_word of the unit
  *   12  any other                         the name as one word, A to Z in lower case
- * A line may have no words: an empty name, "00:00", "000,000". */
+ * A line may have no words: an empty name, "000,000". */
 typedef struct hwk_entry {
     uint8_t refusal; /* HWK_ACCEPTED or a refusal's number; if it is a refusal's, every field below is 0 */
     uint8_t row;     /* the row that took the name, 1 to 12 */
@@ -417,14 +419,14 @@ hwk_sheet hwk_call_sheet(const uint8_t *s, size_t s_len, uint8_t *out, size_t ou
  *   - plain digits; there may be a minus before them, a point with digits behind them, and at the end an e with plain digits,
  *     which may have a + or a - before them: "-1.50e+3"
  *   - either of these with one % behind it
- *   - a plain hour of 1 or 2 digits, a colon, and a minute of 01 to 59; or of 00 to 59 and then am or pm
+ *   - a plain hour of 1 or 2 digits, a colon, and a minute of 00 to 59: "9:00", "12:05"; am or pm may follow: "9:00am"
  *   - plain digits and their right suffix: "1st", "11th", "22nd"
  *   - plain digits and one of  LB ft kg km cm mm ml oz hz KHz MHz GHz KB GB MB TB
  *   - two or more capitals with single points between: "A.B"
  *   - two or more letters a to z, but not zero to nineteen, twenty, thirty, to ninety, their ordinal forms, thousand, million or
  *     billion: "rack", "to", "hundred", but not "one", "first", "thousand"
- * A name that is not clear may have the same words as one that is: "9:00" as "9", "5lb" as "5LB". Reads `s`, a name and not a
- * sheet, and writes nothing.
+ * A name that is not clear may have the same words as one that is: "09:00" as "9:00", "5lb" as "5LB". Reads `s`, a name and
+ * not a sheet, and writes nothing.
  * Tests: HWK_TEXT_TOO_LONG, HWK_NOT_UTF8. */
 hwk_verdict hwk_is_clear(const uint8_t *s, size_t s_len);
 

@@ -21,7 +21,8 @@ check 'the example of document 01' '+ bar\n- twelve\n- at\n- nine thirty\n+ rack
     < <(printf 'Bar 12 at 9:30. Rack 5mm (21st)\n')
 check 'nothing' '' </dev/null
 check 'whitespace alone' '' < <(printf ' \n\t')
-check 'lines without words' '+\n-\n-\n' < <(printf '00:00 " 000,000')
+check 'lines without words' '+\n-\n' < <(printf '" 000,000')
+check 'full hours' "+ nine o'clock\\n- nine\\n- o'clock\\n- nine o'clock per cent\\n- nine _a m\\n" < <(printf '9:00 9 00:00 9:00%% 9:00am')
 check 'a byte that is no UTF-8' 'refused 2\n' < <(printf 'a\377')
 check 'a name of 4,096 bytes' "+ $(printf '%04096d' 0 | tr 0 x)\\n" < <(printf '%04096d' 0 | tr 0 X)
 check 'a byte past 4,096 is not read' "+ $(printf '%04096d' 0 | tr 0 x)\\n" < <(printf '%04096d!? a' 0 | tr 0 X)

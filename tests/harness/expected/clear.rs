@@ -1,5 +1,5 @@
-//! Clear names, as document 01's list has them. No function of the reference or of the library is used; the words of the tables
-//! are written out here.
+//! Clear names, as document 01's list has them, with the full hours that document 02, A1, adds. No function of the reference or
+//! of the library is used; the words of the tables are written out here.
 
 /// ONES, TEENS, TENS and their ordinal forms, and SCALES. No other word is by itself an answer of `cardinal` or `ordinal`.
 #[rustfmt::skip]
@@ -58,19 +58,14 @@ fn is_number(name: &str) -> bool {
 }
 
 /// The hour is plain and has 1 or 2 digits, the minute is 00 to 59.
-fn clock(text: &str) -> Option<&str> {
-    let (hour, minute) = text.split_once(':')?;
-    let minute_clear = minute.len() == 2 && is_digits(minute) && minute < "60";
-    (is_plain(hour) && hour.len() <= 2 && minute_clear).then_some(minute)
-}
-
 fn is_time(name: &str) -> bool {
-    clock(name).is_some_and(|minute| minute != "00")
+    name.split_once(':').is_some_and(|(hour, minute)| {
+        is_plain(hour) && hour.len() <= 2 && minute.len() == 2 && is_digits(minute) && minute < "60"
+    })
 }
 
 fn is_meridiem(name: &str) -> bool {
-    let time = name.strip_suffix("am").or_else(|| name.strip_suffix("pm"));
-    time.is_some_and(|time| clock(time).is_some())
+    name.strip_suffix("am").or_else(|| name.strip_suffix("pm")).is_some_and(is_time)
 }
 
 /// th after a tens digit 1, else st, nd, rd for 1, 2, 3, else th.

@@ -57,10 +57,10 @@ pub fn read(name: &str) -> Reading {
     }
     if patterns::is_time(name) {
         let (hour, minute) = name.split_once(':').expect("a time has a colon");
-        return reading(4, read_clock(hour, minute));
+        return reading(4, read_clock(hour, minute, Some("o'clock")));
     }
     if let Some((hour, minute, meridiem)) = patterns::split_time_meridiem(name) {
-        return reading(5, joined(read_clock(hour, minute), numbers::letters(meridiem)));
+        return reading(5, joined(read_clock(hour, minute, None), numbers::letters(meridiem)));
     }
     if patterns::is_leading_zero_digits(name) {
         return reading(6, numbers::digits(name));
@@ -90,11 +90,14 @@ fn joined(mut words: Vec<String>, more: Vec<String>) -> Vec<String> {
     words
 }
 
-/// `read_clock` of normalize.rs, which the reference does not make public.
-fn read_clock(hour: &str, minute: &str) -> Vec<String> {
+/// `read_clock` of normalize.rs, which the reference does not make public, and the word for a minute of "00" that document 02, A1,
+/// adds to row 4.
+fn read_clock(hour: &str, minute: &str, full: Option<&str>) -> Vec<String> {
     let mut out = numbers::cardinal(hour);
     if minute != "00" {
         out.extend(numbers::year(minute));
+    } else {
+        out.extend(full.map(str::to_string));
     }
     out
 }

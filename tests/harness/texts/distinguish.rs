@@ -14,7 +14,7 @@ use crate::texts::exhaustive::each_text;
 #[rustfmt::skip]
 const ALPHABETS: &[(usize, &[&str])] = &[
     (5, &["0", "1", "2", "10", "12", ".", "-", "+", "e", "%"]),
-    (5, &["0", "1", "2", "5", "9", ":", "am", "pm", "%", "10", "20"]),
+    (5, &["0", "1", "2", "5", "9", ":", "am", "pm", "%", "10", "20", "00"]),
     (4, &["0", "1", "2", "3", "11", "100", "000", "st", "nd", "rd", "th", "mm", "kg", "LB"]),
     (5, &["A", "B", "Z", ".", "a", "zz", "oh", "one", "cent", "per", "hundred", "point", "e", "m", "p"]),
 ];
@@ -22,7 +22,7 @@ const ALPHABETS: &[(usize, &[&str])] = &[
 #[rustfmt::skip]
 const WORDS: &[&str] = &[
     "aa", "zz", "bar", "rack", "to", "oh", "per", "cent", "point", "minus", "plus", "am", "pm", "mm", "pounds", "feet", "hertz", "hundred",
-    "hundredth", "thousandth", "millionth", "eth", "teen", "oneone",
+    "hundredth", "thousandth", "millionth", "eth", "teen", "oneone", "clock", "oclock",
 ];
 
 /// Every clear name of a few pieces: no two have the same line.
@@ -79,8 +79,9 @@ pub fn sheets(comparison: &mut Comparison, random: &mut Random, pairs: usize) {
 fn neighbour(random: &mut Random, name: &str) -> String {
     let changes = [
         format!("{name}%"), format!("{name}0"), format!("0{name}"), format!("-{name}"), format!("{name}.0"), format!("{name}e0"),
-        format!("{name}th"), format!("{name}:01"), format!("{name}:00am"), format!("{name}mm"), name.replace('1', "2"),
-        name.replace('0', ""), name.replace('%', ""), name.replace("am", "pm"),
+        format!("{name}th"), format!("{name}:00"), format!("{name}:01"), format!("{name}:00am"), format!("{name}am"), format!("{name}mm"),
+        name.replace('1', "2"), name.replace('0', ""), name.replace('%', ""), name.replace("am", "pm"), name.replace(":00", ""),
+        name.replace(":00am", ":00"),
     ];
     let changed = random.one_of(&changes);
     if clear::is_clear(changed) { changed.clone() } else { name.to_string() }
@@ -93,16 +94,17 @@ fn some_name(random: &mut Random) -> String {
             (0..len).map(|_| char::from(*random.one_of(b"0001257"))).collect()
         };
         let (a, b) = (digits(random), digits(random));
-        let name = match random.below(10) {
+        let name = match random.below(11) {
             0 => a,
             1 => format!("{a}%"),
             2 => format!("-{a}"),
             3 => format!("{a}.{b}"),
             4 => format!("{a}e{}{b}", random.one_of(&["", "+", "-"])),
             5 => format!("{}:{:02}{}", random.below(100), random.below(60), random.one_of(&["", "am", "pm"])),
-            6 => format!("{a}{}", random.one_of(&["st", "nd", "rd", "th"])),
-            7 => format!("{a}{}", random.one_of(UNITS)),
-            8 => (0..2 + random.below(3)).map(|_| random.one_of(&["A", "B", "E", "M", "P", "Z"]).to_string()).collect::<Vec<_>>().join("."),
+            6 => format!("{}:00{}", random.below(100), random.one_of(&["", "", "am", "pm"])),
+            7 => format!("{a}{}", random.one_of(&["st", "nd", "rd", "th"])),
+            8 => format!("{a}{}", random.one_of(UNITS)),
+            9 => (0..2 + random.below(3)).map(|_| random.one_of(&["A", "B", "E", "M", "P", "Z"]).to_string()).collect::<Vec<_>>().join("."),
             _ => random.one_of(WORDS).to_string(),
         };
         if clear::is_clear(&name) {
