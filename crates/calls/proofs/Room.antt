@@ -42,7 +42,7 @@ use Rattle.reals.proofs.Room.{real_room}
 use Rattle.letters.proofs.Room.{letters_room}
 use Rattle.rows.specs.Rows.{Reading, no_reading, per_cent, clock, full_hour, hour_of, minute_of, clock_letters, read_step, read_with, read}
 use Rattle.rows.proofs.Laws.{ends_some, shorter}
-use Rattle.rows.proofs.Times.{time_words}
+use Rattle.rows.proofs.Times.{oclock_word, time_words}
 use Rattle.call_spec.specs.Sheet.{SheetEntry, entries_of, words_of, spaced_words, line_of, call_sheet}
 use Rattle.call_spec.specs.Calls.{name_limit, any_long, sheet_tests, SheetResult, sheet_call}
 use Rattle.calls.specs.Answers.{as_sheet}
@@ -87,14 +87,13 @@ clock_room hour minute n l =
     cond_elim P (same minute (bytes "00")) (λ e. omega (arith, together (cardinal hour) []))
     (λ e. omega (arith, together (cardinal hour) (year minute), year_room minute))
 
--- so do those of row 4: there is a byte for "o'clock" too
+-- so do those of row 4: the byte between the two gives room for "o'clock"
 time_words_room : (hour minute : List ℕ) (n : ℕ) → length hour + length minute < n → RoomForNumber n (clock hour minute ++ full_hour minute)
 unfolding spell
 time_words_room hour minute n l =
     let P : List Word → Type 0 = λ ws. RoomForNumber n (cardinal hour ++ ws) in
-    let oclock : List Word = other (bytes "o'clock") ∷ [] in
     let hours = cardinal_room hour in
-    rw (time_words hour minute) (cond_elim P (same minute (bytes "00")) (λ e. omega (arith, together (cardinal hour) oclock))
+    rw (time_words hour minute) (cond_elim P (same minute (bytes "00")) (λ e. omega (arith, together (cardinal hour) (oclock_word ∷ [])))
     (λ e. omega (arith, together (cardinal hour) (year minute), year_room minute)))
 
 time_room : (s : List ℕ) → is_time s ≡ true → RoomForNumber (length s) (clock (hour_of s) (minute_of s) ++ full_hour (minute_of s))

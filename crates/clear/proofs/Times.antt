@@ -8,7 +8,7 @@ use lib.Dec.{leb}
 use lib.ListN.{length, get_or, take-append-drop}
 use lib.Seq.{take_at}
 use borrow.Author.Tests.{leb-true, le-leb}
-use Rattle.lists.specs.Bytes.{bytes, span, same_by, same, take_while}
+use Rattle.lists.specs.Bytes.{bytes, all, span, same_by, same, take_while}
 use Rattle.lists.specs.Classes.{except}
 use Rattle.lists.proofs.Scan.{all_span, span_before}
 use Rattle.lists.proofs.Table.{same_true}
@@ -30,7 +30,7 @@ record Timed (s : List ℕ) : Type 0 where
   minutes : is_minute minute ≡ true
   whole : hour ++ (bytes ":" ++ minute) ≡ s
 
--- what stands before the first colon, if digits do
+-- what stands before the first colon is the hour, if the hour is digits
 before_colon : (h m : List ℕ) → is_digits h ≡ true → take_while (except (code ":")) (h ++ (bytes ":" ++ m)) ≡ h
 before_colon h m d =
     let at : span (except (code ":")) (h ++ (bytes ":" ++ m)) ≡ length h =
@@ -75,6 +75,11 @@ time_test h m p q =
 -- a name that passes the test is clear
 pub test_time : (s : List ℕ) → is_time_clear s ≡ true → Clear s
 test_time s e = let t = timed s e in rw t.whole at (clear_time t.hour t.minute t.hours t.minutes)
+
+-- 02, A1: "A plain hour with ":00" becomes a clear entry"
+pub full_hour_clear : (h : List ℕ) → plain h ≡ true → length h ≤ 2 → Clear (h ++ bytes ":00")
+unfolding is_digits all
+full_hour_clear h p l = clear_time h (bytes "00") (rw (p, le-leb (length h) 2 l)) refl
 
 -- ---- with "am" or "pm"
 

@@ -1,4 +1,4 @@
--- The rows that take a clear time, with or without am or pm, and what its words are decoded as. Assumes nothing.
+-- Clear times, with or without am or pm: what rows 4 and 5 say is decoded as the name. Assumes nothing.
 use mathlib.Core.Path.{◌≡◌, refl, ap}
 use mathlib.Core.Bool.{true}
 use mathlib.Core.List.{List, ◌++◌}
@@ -15,6 +15,7 @@ use Rattle.decoder.proofs.Decoded.{DecodedWith}
 use Rattle.decoder.proofs.Dispatch.{decoded}
 use Rattle.decoder.proofs.TimeWords.{time_read, meridiem_read}
 
+-- "am" and "pm" are meridiems
 am_pm_meridiem : (x : List ℕ) → AmPm x → is_meridiem x ≡ true
 unfolding same_by
 am_pm_meridiem x am = refl

@@ -24,6 +24,7 @@ use Rattle.years.specs.Year.{year_of, year}
 use Rattle.letters.specs.Letters.{chars, letter_word, letters}
 use Rattle.years.proofs.YearLaws.{year_two}
 use Rattle.rows.specs.Rows.{clock, full_hour}
+use Rattle.rows.proofs.Times.{oclock_word}
 use Rattle.clear.specs.Clear.{is_hour, is_minute, AmPm, am, pm}
 use Rattle.clear.proofs.Times.{hour_parts}
 use Rattle.decoder.specs.Decode.{parse_word, parse_word_in, parse_words, first_word, last_word, is_letter_word, time_like, decode_time, decode, is_below_hundred}
@@ -31,14 +32,11 @@ use Rattle.decoder.proofs.DecimalDigits.{digit_values_length}
 use Rattle.numerals.proofs.NumberWords.{NumberWord, number_word_test, cardinal_number_words, digits_number_words}
 use Rattle.decoder.proofs.NumberWords.{number_word_parsed, every_parsed, plain_some}
 use Rattle.decoder.proofs.Dispatch.{not_one_word, but_last_lem}
-use Rattle.decoder.proofs.Times.{minute_parts, time_like_lem, clock_decoded, time_words_decoded}
+use Rattle.decoder.proofs.Times.{minute_parts, clock_decoded, time_words_decoded}
 
--- the words that times are read with besides those of numbers
+-- the word of a minute below 10
 abbrev oh_word : Word
 oh_word = other (bytes "oh")
-
-abbrev oclock_word : Word
-oclock_word = other (bytes "o'clock")
 
 -- a word that times are read with
 abbrev TimeWord : Word → Type 0
@@ -132,7 +130,7 @@ module _ (ws : List Word) (t : Every TimeWord ws) where
       (every_at (λ w. not (p w) ≡ true) (spelled ws) i [] (rw spelled_length l) (words_test (λ w. not (p w)) a b c))
 
 module _ (h m : List ℕ) (p : is_hour h ≡ true) (q : is_minute m ≡ true) where
-  -- the words of rows 4 and 5 are such words
+  -- the words of an hour and a minute are such words
   clock_words : Every TimeWord (clock h m)
   unfolding clock
   clock_words =
@@ -140,6 +138,7 @@ module _ (h m : List ℕ) (p : is_hour h ≡ true) (q : is_minute m ≡ true) wh
       (every_imply NumberWord TimeWord (λ w n. inl n) (cardinal h) (cardinal_number_words h))
       (cond_elim (Every TimeWord) (same m (bytes "00")) (λ e. tt) (λ e. minute_time_words m q))
 
+  -- so is the word of a full hour
   full_hour_words : Every TimeWord (full_hour m)
   unfolding full_hour
   full_hour_words = cond_elim (Every TimeWord) (same m (bytes "00")) (λ e. (inr (inr refl), tt)) (λ e. tt)
@@ -151,7 +150,7 @@ module _ (h m : List ℕ) (p : is_hour h ≡ true) (q : is_minute m ≡ true) wh
       let vs = clock h m ++ full_hour m in
       let ws = spelled vs in
       let every : Every TimeWord vs = every_append TimeWord (clock h m) (full_hour m) clock_words full_hour_words in
-      let t : time_like vs ≡ true = time_like_lem h m p q in
+      let (d, t) = time_words_decoded h m p q in
       let e : length ws ≡ length vs = spelled_length vs in
       let l : 2 ≤ length vs = two_words vs t in
       let i = length ws - 1 in
@@ -165,7 +164,7 @@ module _ (h m : List ℕ) (p : is_hour h ≡ true) (q : is_minute m ≡ true) wh
         words_fail vs every (λ w. listed w (map bytes ordinals)) refl refl refl i k,
         words_parsed vs every,
         t,
-      ) (time_words_decoded h m p q)
+      ) d
 
   -- so are the words of a time with am or pm
   pub meridiem_read : (x : List ℕ) → AmPm x → decode (spelled (clock h m ++ letters x)) ≡ h ++ (bytes ":" ++ (m ++ x))

@@ -1,4 +1,4 @@
--- Hours and minutes as numbers, and what their words are decoded as: a test of each hour and one of each minute. Assumes nothing.
+-- Hours and minutes as numbers, and what their words are decoded as: tests of each hour and of each minute. Assumes nothing.
 use mathlib.Core.Path.{◌≡◌, refl, sym, ap, ap₂, ◌∙◌}
 use mathlib.Core.Bool.{Bool, true, false, cond, not, ◌&&◌, and-false, and-eq-true_iff, or-true, false≢true}
 use mathlib.Core.List.{List, [], ◌∷◌, ◌++◌, map}
@@ -13,12 +13,12 @@ use Rattle.lists.proofs.Table.{upto, below}
 use Rattle.lists.proofs.Scan.{all_append, any_append}
 use Rattle.shapes.specs.Shapes.{is_digits, is_n_digits}
 use Rattle.shapes.proofs.Laws.{digits_all}
-use Rattle.numerals.specs.Words.{Word, other}
+use Rattle.numerals.specs.Words.{Word}
 use Rattle.numerals.specs.Cardinal.{digit_value, digit_values, pair_words, join_at_scale, by_scale, cardinal_step, short_cardinal, cardinal_of, cardinal}
 use Rattle.numerals.specs.Value.{decimal_from, decimal}
 use Rattle.years.specs.Year.{year_step, year_of, year}
 use Rattle.rows.specs.Rows.{clock, full_hour}
-use Rattle.rows.proofs.Times.{time_words}
+use Rattle.rows.proofs.Times.{oclock_word, time_words}
 use Rattle.clear.specs.Clear.{is_hour, is_minute}
 use Rattle.numerals.specs.Walk.{BelowTen}
 use Rattle.numerals.proofs.NumberWords.{digit_values_below_ten}
@@ -103,40 +103,36 @@ minutely k ws = all is_below_hundred ws && is_minute_of k ws
 abbrev minute_words : List Word → List ℕ → List Word
 minute_words full m = cond (same m (bytes "00")) full (year m)
 
-abbrev oclock : List Word
-oclock = other (bytes "o'clock") ∷ []
+-- the words of the minute k, of which one is a minute's only
+abbrev minute_only_words : ℕ → List Word → Bool
+minute_only_words k ws = minutely k ws && any is_minute_only ws
 
--- all minutes pass the test, if a full hour is told by these words
-abbrev AllMinutes : (List Word → ℕ → Bool) → List Word → Type 0
-AllMinutes f full = upto (λ k. f (minute_words full (minute_bytes k)) k) 60 ≡ true
+-- what is said for each minute k passes the test f, if `full` is said for "00"
+abbrev AllMinutes : (ℕ → List Word → Bool) → List Word → Type 0
+AllMinutes f full = upto (λ k. f k (minute_words full (minute_bytes k))) 60 ≡ true
 
 hours : upto (λ k. hourly k (cardinal (hour_bytes k))) 100 ≡ true
 unfolding is_hour_of digit_bytes decimal_digits digit_values filter_if pair_words join_at_scale by_scale cardinal_step short_cardinal cardinal_of cardinal recur recur_at value_below_hundred digit_of all
 hours = refl
 
-minutes : AllMinutes (λ ws k. minutely k ws) []
+minutes : AllMinutes minutely []
 unfolding is_minute_of same_by digit_bytes digit_values filter_if pair_words cardinal_step short_cardinal cardinal_of recur recur_at year_step year_of year decode_minute value_below_hundred digit_of all
 minutes = refl
 
-minutes_or_oclock : AllMinutes (λ ws k. minutely k ws) oclock
-unfolding is_minute_of same_by digit_bytes digit_values filter_if pair_words cardinal_step short_cardinal cardinal_of recur recur_at year_step year_of year decode_minute value_below_hundred digit_of all
+minutes_or_oclock : AllMinutes minute_only_words (oclock_word ∷ [])
+unfolding is_minute_of same_by digit_bytes digit_values filter_if pair_words cardinal_step short_cardinal cardinal_of recur recur_at year_step year_of year decode_minute value_below_hundred digit_of all any
 minutes_or_oclock = refl
-
--- if "o'clock" is said, every minute has a word that only a minute has
-minutes_only : AllMinutes (λ ws k. any is_minute_only ws) oclock
-unfolding same_by digit_bytes digit_values filter_if pair_words cardinal_step short_cardinal cardinal_of recur recur_at year_step year_of year value_below_hundred digit_of any
-minutes_only = refl
 
 hour_words : (h : List ℕ) → is_hour h ≡ true → (k : ℕ) × (h ≡ hour_bytes k) × (hourly k (cardinal h) ≡ true)
 hour_words h p =
     let (k, l, e) = hour_number h p in
     (k, e, ap (λ s. hourly k (cardinal s)) e ∙ below (λ k. hourly k (cardinal (hour_bytes k))) 100 hours k l)
 
-minute_words_lem : (f : List Word → ℕ → Bool) (full : List Word) → AllMinutes f full → (m : List ℕ) → is_minute m ≡ true
-    → (k : ℕ) × (m ≡ minute_bytes k) × (f (minute_words full m) k ≡ true)
+minute_words_lem : (f : ℕ → List Word → Bool) (full : List Word) → AllMinutes f full → (m : List ℕ) → is_minute m ≡ true
+    → (k : ℕ) × (m ≡ minute_bytes k) × (f k (minute_words full m) ≡ true)
 minute_words_lem f full all_minutes m p =
     let (k, l, e) = minute_number m p in
-    (k, e, ap (λ s. f (minute_words full s) k) e ∙ below (λ k. f (minute_words full (minute_bytes k)) k) 60 all_minutes k l)
+    (k, e, ap (λ s. f k (minute_words full s)) e ∙ below (λ k. f k (minute_words full (minute_bytes k))) 60 all_minutes k l)
 
 -- ---- a time is decoded
 
@@ -166,6 +162,7 @@ hour_minute_decoded h m (w ∷ v ∷ u ∷ ws) vs p q = absurd (false≢true p)
 minute_only_append : (ws vs : List Word) → any is_minute_only vs ≡ true → any is_minute_only (ws ++ vs) ≡ true
 minute_only_append ws vs q = rw (any_append is_minute_only ws vs, q) (or-true (any is_minute_only ws))
 
+-- the words of an hour, and behind them one that only a minute has, are like those of a time
 some_time_like : (h m : ℕ) (ws vs : List Word) → hourly h ws ≡ true → minutely m vs ≡ true → any is_minute_only vs ≡ true → time_like (ws ++ vs) ≡ true
 unfolding is_hour_of all
 some_time_like h m [] vs p q o = absurd (false≢true p)
@@ -177,10 +174,10 @@ some_time_like h m (w ∷ ws) vs p q o =
 
 module _ (h m : List ℕ) (p : is_hour h ≡ true) (q : is_minute m ≡ true) where
   -- an hour and what is said after it are decoded as the time
-  words_decoded : (full : List Word) → AllMinutes (λ ws k. minutely k ws) full → decode_time (cardinal h ++ minute_words full m) ≡ h ++ (bytes ":" ++ m)
-  words_decoded full all_minutes =
+  words_decoded : (full : List Word) (k : ℕ) → m ≡ minute_bytes k → minutely k (minute_words full m) ≡ true
+      → decode_time (cardinal h ++ minute_words full m) ≡ h ++ (bytes ":" ++ m)
+  words_decoded full i f ms =
       let (k, e, hs) = hour_words h p in
-      let (i, f, ms) = minute_words_lem (λ ws k. minutely k ws) full all_minutes m q in
       hour_minute_decoded k i (cardinal h) (minute_words full m) ((and-eq-true_iff (all is_below_hundred (cardinal h)) _).0 hs).1
       ((and-eq-true_iff (all is_below_hundred (minute_words full m)) _).0 ms).1
       ∙ ap₂ (λ x y. x ++ (bytes ":" ++ y)) (sym e) (sym f)
@@ -188,16 +185,13 @@ module _ (h m : List ℕ) (p : is_hour h ≡ true) (q : is_minute m ≡ true) wh
   -- so are the words of row 5 before the letters
   pub clock_decoded : decode_time (clock h m) ≡ h ++ (bytes ":" ++ m)
   unfolding clock
-  clock_decoded = words_decoded [] minutes
+  clock_decoded = let (k, e, ms) = minute_words_lem minutely [] minutes m q in words_decoded [] k e ms
 
-  -- and those of row 4
-  pub time_words_decoded : decode_time (clock h m ++ full_hour m) ≡ h ++ (bytes ":" ++ m)
-  time_words_decoded = rw (time_words h m) (words_decoded oclock minutes_or_oclock)
-
-  -- the words of row 4 are like those of a time
-  pub time_like_lem : time_like (clock h m ++ full_hour m) ≡ true
-  time_like_lem =
-      let (k, e, hs) = hour_words h p in
-      let (i, f, ms) = minute_words_lem (λ ws k. minutely k ws) oclock minutes_or_oclock m q in
-      let (j, g, os) = minute_words_lem (λ ws k. any is_minute_only ws) oclock minutes_only m q in
-      rw (time_words h m) (some_time_like k i (cardinal h) (minute_words oclock m) hs ms os)
+  -- the words of row 4 are decoded as the time, and are like those of a time
+  pub time_words_decoded : (decode_time (clock h m ++ full_hour m) ≡ h ++ (bytes ":" ++ m)) × (time_like (clock h m ++ full_hour m) ≡ true)
+  time_words_decoded =
+      let full = oclock_word ∷ [] in
+      let (i, g, hs) = hour_words h p in
+      let (k, e, os) = minute_words_lem minute_only_words full minutes_or_oclock m q in
+      let ms = (and-eq-true_iff (minutely k (minute_words full m)) (any is_minute_only (minute_words full m))).0 os in
+      rw (time_words h m) (words_decoded full k e ms.0, some_time_like i k (cardinal h) (minute_words full m) hs ms.0 ms.1)

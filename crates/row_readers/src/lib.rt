@@ -45,7 +45,7 @@ fn say_clock(hour: &[u8], minute: &[u8], out: &mut Writer)
     }
 }
 
-// Row 4: says the hour and the minute, and one word more if the hour is full.
+// Row 4: says the hour, and then the minute, or "o'clock" if the minute is "00".
 fn say_time(hour: &[u8], minute: &[u8], out: &mut Writer)
     ensures { Says (spelled (clock hour.now minute.now ++ full_hour minute.now)) out.old out.new }
 {

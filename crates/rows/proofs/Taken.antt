@@ -18,6 +18,7 @@ use Rattle.shapes.specs.Shapes.{is_digits, is_n_digits, is_alpha, is_one_letter,
 use Rattle.shapes.specs.Shapes.{is_ordinal_suffix, split_once, starts_char, is_dotted_abbrev, is_comma_int, is_time, is_double, is_ordinal}
 use Rattle.shapes.specs.Times.{ends_in_meridiem, separator_at, time_of, is_meridiem_time}
 use Rattle.shapes.proofs.Laws.{digits_all, comma_none}
+use Rattle.shapes.proofs.Grammar.{hour_minute_parts}
 use Rattle.rows.proofs.Laws.{ends_some}
 
 -- a test that cannot pass fails
@@ -192,15 +193,7 @@ comma_needed s h = elem_span (code ",") s ∙ go (ltb (span (except (code ",")) 
 
 -- ---- times
 
--- an hour is digits, and a minute is two of them
-pub hour_minute_parts : (h m : List ℕ) → is_hour_minute h m ≡ true → (is_digits h ≡ true) × (is_n_digits 2 m ≡ true)
-unfolding is_hour_minute
-hour_minute_parts h m e =
-    let bound = leb 1 (length h) && leb (length h) 2 in
-    let a = ((and-eq-true_iff (bound && is_digits h && is_n_digits 2 m) (leb (get_or m 0 0) (code "5"))).0 e).0 in
-    let b = (and-eq-true_iff (bound && is_digits h) (is_n_digits 2 m)).0 a in
-    (((and-eq-true_iff bound (is_digits h)).0 b.0).1, b.1)
-
+-- all bytes of an hour and a minute are digits
 hour_minute_digits : (h m : List ℕ) → is_hour_minute h m ≡ true → (all digit h ≡ true) × (all digit m ≡ true)
 hour_minute_digits h m e =
     let p = hour_minute_parts h m e in

@@ -21,7 +21,7 @@ use Rattle.shapes.specs.Shapes.{is_digits, is_n_digits, is_comma_groups, is_comm
 use Rattle.units.specs.Units.{unit_abbreviations, abbreviations, is_unit}
 use Rattle.shapes.specs.Shapes.{unit_at, has_unit, is_number_s, is_leading_zero_digits, split_once, is_phone_parts, is_seven_digit_phone, is_hour_minute, is_time, are_digits, is_digits_slash_digits}
 use Rattle.shapes.specs.Times.{ends_in_meridiem, separator_at, time_of, is_meridiem_time}
-use Rattle.shapes.specs.Grammar.{join_by, suffixes, TimeForm, PhoneForm, SlashedForm, CommaIntForm, LeadingZeroForm, IllionForm, NumberSForm, MeridiemForm, OrdinalForm, MoneyForm, UnitForm}
+use Rattle.shapes.specs.Grammar.{is_meridiem, join_by, suffixes, TimeForm, PhoneForm, SlashedForm, CommaIntForm, LeadingZeroForm, IllionForm, NumberSForm, MeridiemForm, OrdinalForm, MoneyForm, UnitForm}
 use Rattle.shapes.specs.Grammar.{time, phone, slashed, comma_int, leading_zero, illion, number_s, meridiem_time, ordinal_number, dollars, cents, measure}
 use Rattle.shapes.proofs.Parts.{eqb_sym}
 use Rattle.shapes.proofs.Laws.{digits_all, digits_some}
@@ -253,21 +253,32 @@ suffix_bytes s =
     (two_bytes s (code "s") (code "t") (omega arith)))
     (two_bytes s (code "n") (code "d") (omega arith))) (two_bytes s (code "r") (code "d") (omega arith))
 
--- no byte of the hour is a separator
-hour_unparted : (h m : List ℕ) → is_hour_minute h m ≡ true → all not_colon_or_point h ≡ true
+-- an hour is digits, and a minute is two of them
+pub hour_minute_parts : (h m : List ℕ) → is_hour_minute h m ≡ true → (is_digits h ≡ true) × (is_n_digits 2 m ≡ true)
 unfolding is_hour_minute
-hour_unparted h m e =
+hour_minute_parts h m e =
     let bound = leb 1 (length h) && leb (length h) 2 in
     let a = ((and-eq-true_iff (bound && is_digits h && is_n_digits 2 m) (leb (get_or m 0 0) (code "5"))).0 e).0 in
-    let d = ((and-eq-true_iff bound (is_digits h)).0 ((and-eq-true_iff (bound && is_digits h) (is_n_digits 2 m)).0 a).0).1 in
-    all_within digit not_colon_or_point (λ b k. rw (class_apart digit (code ":") b refl k, class_apart digit (code ".") b refl k)) h (digits_all h d)
+    let b = (and-eq-true_iff (bound && is_digits h) (is_n_digits 2 m)).0 a in
+    (((and-eq-true_iff bound (is_digits h)).0 b.0).1, b.1)
+
+-- no byte of the hour is a separator
+pub hour_unparted : (h m : List ℕ) → is_hour_minute h m ≡ true → all not_colon_or_point h ≡ true
+hour_unparted h m e =
+    all_within digit not_colon_or_point (λ b k. rw (class_apart digit (code ":") b refl k, class_apart digit (code ".") b refl k)) h
+    (digits_all h (hour_minute_parts h m e).0)
+
+-- am or pm is two bytes
+pub meridiem_length : (x : List ℕ) → is_meridiem x ≡ true → length x ≡ 2
+meridiem_length x e =
+    (or_true_elim (same_by to_lower x (bytes "am")) (same_by to_lower x (bytes "pm")) (two_bytes x (code "a") (code "m") (omega arith))
+    (two_bytes x (code "p") (code "m") (omega arith)) e).0
 
 meridiem_taken : (s : List ℕ) → MeridiemForm s → is_meridiem_time s ≡ true
 meridiem_taken _ (meridiem_time h m x c p q e) =
     let t = h ++ (c ∷ m) in
     let s = t ++ x in
-    let two = (or_true_elim (same_by to_lower x (bytes "am")) (same_by to_lower x (bytes "pm")) (two_bytes x (code "a") (code "m") (omega arith))
-    (two_bytes x (code "p") (code "m") (omega arith)) e).0 in
+    let two = meridiem_length x e in
     let l = length-append t x in
     let sep : span not_colon_or_point t ≡ length h = span_before not_colon_or_point h c m q ∙ all_span not_colon_or_point h (hour_unparted h m p) in
     rw (

@@ -24,7 +24,7 @@ use Rattle.decoder.specs.Sheets.{names}
 unfoldable pub unclear_sheet : List ℕ
 unclear_sheet =
     bytes
-    "+5 05.5 .5 5e05 5E3 5%% 09:30 09:00 00:00 100:00 9:60 9:5 9:00% 9:60am 9:30PM 9.30am 09:00am 11st 21th 01st 5lb 5lbs 05mm A AB A.b A..B a Rack thousand first three zeroth"
+    "+5 05.5 .5 5e05 5E3 5%% 09:30 09:00 00:00 100:00 9:60 9:5 9:00% o'clock 9:60am 9:30PM 9.30am 09:00am 11st 21th 01st 5lb 5lbs 05mm A AB A.b A..B a Rack thousand first three zeroth"
 
 -- none of its names is clear
 pub unclear_names : any is_clear (names unclear_sheet) ≡ false
