@@ -34,7 +34,7 @@ use Rattle.tokens.proofs.Walks.{first_white, tokens_past}
 use Rattle.sentences.specs.Sentences.{sentence_starts}
 use Rattle.numerals.specs.Words.{Word, other, spell, spelled}
 use Rattle.numerals.specs.Cardinal.{cardinal}
-use Rattle.numerals.proofs.Room.{width, RoomFor, RoomForNumber, together, cardinal_room, digits_room, ordinal_room}
+use Rattle.numerals.proofs.Room.{width, Room, RoomFor, RoomForNumber, together, cardinal_room, digits_room, ordinal_room}
 use Rattle.letters.specs.Letters.{letters}
 use Rattle.years.specs.Year.{year}
 use Rattle.years.proofs.Room.{year_room}
@@ -42,7 +42,7 @@ use Rattle.reals.proofs.Room.{real_room}
 use Rattle.letters.proofs.Room.{letters_room}
 use Rattle.rows.specs.Rows.{Reading, no_reading, per_cent, clock, full_hour, hour_of, minute_of, clock_letters, read_step, read_with, read}
 use Rattle.rows.proofs.Laws.{ends_some, shorter}
-use Rattle.rows.proofs.Times.{oclock_word, time_words}
+use Rattle.rows.proofs.Times.{oclock, minute_words, time_words}
 use Rattle.call_spec.specs.Sheet.{SheetEntry, entries_of, words_of, spaced_words, line_of, call_sheet}
 use Rattle.call_spec.specs.Calls.{name_limit, any_long, sheet_tests, SheetResult, sheet_call}
 use Rattle.calls.specs.Answers.{as_sheet}
@@ -78,39 +78,31 @@ unit_room s e =
       length-drop (unit_at s) s,
     ))
 
--- the words of an hour and a minute have room, if there is a byte between the two
-clock_room : (hour minute : List ℕ) (n : ℕ) → length hour + length minute < n → RoomForNumber n (clock hour minute)
-unfolding clock
-clock_room hour minute n l =
+-- the words of an hour and a minute have room, if there is a byte between the two, and if a full hour adds no more than "o'clock"
+minute_room : (full : List Word) → Room 1 8 full → (hour minute : List ℕ) (n : ℕ) → length hour + length minute < n
+    → RoomForNumber n (cardinal hour ++ minute_words full minute)
+minute_room full r hour minute n l =
     let P : List Word → Type 0 = λ ws. RoomForNumber n (cardinal hour ++ ws) in
     let hours = cardinal_room hour in
-    cond_elim P (same minute (bytes "00")) (λ e. omega (arith, together (cardinal hour) []))
+    cond_elim P (same minute (bytes "00")) (λ e. omega (arith, together (cardinal hour) full))
     (λ e. omega (arith, together (cardinal hour) (year minute), year_room minute))
 
--- so do those of row 4: the byte between the two gives room for "o'clock"
-time_words_room : (hour minute : List ℕ) (n : ℕ) → length hour + length minute < n → RoomForNumber n (clock hour minute ++ full_hour minute)
-unfolding spell
-time_words_room hour minute n l =
-    let P : List Word → Type 0 = λ ws. RoomForNumber n (cardinal hour ++ ws) in
-    let hours = cardinal_room hour in
-    rw (time_words hour minute) (cond_elim P (same minute (bytes "00")) (λ e. omega (arith, together (cardinal hour) (oclock_word ∷ [])))
-    (λ e. omega (arith, together (cardinal hour) (year minute), year_room minute)))
-
 time_room : (s : List ℕ) → is_time s ≡ true → RoomForNumber (length s) (clock (hour_of s) (minute_of s) ++ full_hour (minute_of s))
-unfolding split_once
+unfolding split_once spell
 time_room s e =
     let n = span (except (code ":")) s in
     let l : n < length s = ltb-true _ _ ((and-eq-true_iff (ltb n (length s)) _).0 e).0 in
-    time_words_room (hour_of s) (minute_of s) (length s) (omega (arith, length-take n s, length-drop 1 (drop n s), length-drop n s))
+    rw (time_words (hour_of s) (minute_of s))
+    (minute_room oclock (omega arith) (hour_of s) (minute_of s) (length s) (omega (arith, length-take n s, length-drop 1 (drop n s), length-drop n s)))
 
 meridiem_room : (s : List ℕ) → is_meridiem_time s ≡ true → RoomFor (length s) (clock_letters (time_parts s))
-unfolding clock_letters time_parts
+unfolding clock clock_letters time_parts
 meridiem_room s e =
     let t = time_of s in
     let n = separator_at t in
     let m = drop (length s - 2) s in
     let l : n < length t = ltb-true _ _ ((and-eq-true_iff (ltb n (length t)) _).0 ((and-eq-true_iff (ends_in_meridiem s) _).0 e).1).0 in
-    let c = clock_room (take n t) (drop (n + 1) t) (length t) (omega (arith, length-take n t, length-drop (n + 1) t)) in
+    let c = minute_room [] (omega arith) (take n t) (drop (n + 1) t) (length t) (omega (arith, length-take n t, length-drop (n + 1) t)) in
     rw e (omega (arith, together (clock (take n t) (drop (n + 1) t)) (letters m), letters_room m, length-take (length s - 2) s, length-drop (length s - 2) s))
 
 -- the words of a name have room, if the word of row 12 is no longer than its name

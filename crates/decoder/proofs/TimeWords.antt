@@ -24,7 +24,6 @@ use Rattle.years.specs.Year.{year_of, year}
 use Rattle.letters.specs.Letters.{chars, letter_word, letters}
 use Rattle.years.proofs.YearLaws.{year_two}
 use Rattle.rows.specs.Rows.{clock, full_hour}
-use Rattle.rows.proofs.Times.{oclock_word}
 use Rattle.clear.specs.Clear.{is_hour, is_minute, AmPm, am, pm}
 use Rattle.clear.proofs.Times.{hour_parts}
 use Rattle.decoder.specs.Decode.{parse_word, parse_word_in, parse_words, first_word, last_word, is_letter_word, time_like, decode_time, decode, is_below_hundred}
@@ -34,9 +33,12 @@ use Rattle.decoder.proofs.NumberWords.{number_word_parsed, every_parsed, plain_s
 use Rattle.decoder.proofs.Dispatch.{not_one_word, but_last_lem}
 use Rattle.decoder.proofs.Times.{minute_parts, clock_decoded, time_words_decoded}
 
--- the word of a minute below 10
+-- the words that times are read with besides those of numbers
 abbrev oh_word : Word
 oh_word = other (bytes "oh")
+
+abbrev oclock_word : Word
+oclock_word = other (bytes "o'clock")
 
 -- a word that times are read with
 abbrev TimeWord : Word → Type 0

@@ -1,13 +1,13 @@
 -- Hours and minutes as numbers, and what their words are decoded as: tests of each hour and of each minute. Assumes nothing.
 use mathlib.Core.Path.{◌≡◌, refl, sym, ap, ap₂, ◌∙◌}
-use mathlib.Core.Bool.{Bool, true, false, cond, not, ◌&&◌, and-false, and-eq-true_iff, or-true, false≢true}
+use mathlib.Core.Bool.{Bool, true, false, not, ◌&&◌, and-false, and-eq-true_iff, or-true, false≢true}
 use mathlib.Core.List.{List, [], ◌∷◌, ◌++◌, map}
 use Prim.Native.Nat.{ℕ, ◌+◌, ◌-◌, ◌*◌, ◌/◌, ◌%◌, ◌≤◌, ◌<◌}
 use native.Mathlib.Omega.{arith}
 use lib.Dec.{ltb, leb, eqb}
 use lib.ListN.{length, get_or}
 use borrow.Author.Tests.{leb-true, eqb-true, not-true}
-use Rattle.lists.specs.Bytes.{bytes, same, same_by, filter_if, all, any}
+use Rattle.lists.specs.Bytes.{bytes, same_by, filter_if, all, any}
 use Rattle.lists.specs.Recur.{recur, recur_at}
 use Rattle.lists.proofs.Table.{upto, below}
 use Rattle.lists.proofs.Scan.{all_append, any_append}
@@ -18,7 +18,7 @@ use Rattle.numerals.specs.Cardinal.{digit_value, digit_values, pair_words, join_
 use Rattle.numerals.specs.Value.{decimal_from, decimal}
 use Rattle.years.specs.Year.{year_step, year_of, year}
 use Rattle.rows.specs.Rows.{clock, full_hour}
-use Rattle.rows.proofs.Times.{oclock_word, time_words}
+use Rattle.rows.proofs.Times.{oclock, minute_words, time_words}
 use Rattle.clear.specs.Clear.{is_hour, is_minute}
 use Rattle.numerals.specs.Walk.{BelowTen}
 use Rattle.numerals.proofs.NumberWords.{digit_values_below_ten}
@@ -99,18 +99,15 @@ is_minute_of k (v ∷ ws) = not (is_one v) && eqb (decode_minute (v ∷ ws)) k
 abbrev minutely : ℕ → List Word → Bool
 minutely k ws = all is_below_hundred ws && is_minute_of k ws
 
--- what is said after the hour; `full` is said if the minute is "00"
-abbrev minute_words : List Word → List ℕ → List Word
-minute_words full m = cond (same m (bytes "00")) full (year m)
-
--- the words of the minute k, of which one is a minute's only
-abbrev minute_only_words : ℕ → List Word → Bool
-minute_only_words k ws = minutely k ws && any is_minute_only ws
+-- the words of the minute k, one of which only a minute has
+abbrev tells_minute : ℕ → List Word → Bool
+tells_minute k ws = minutely k ws && any is_minute_only ws
 
 -- what is said for each minute k passes the test f, if `full` is said for "00"
 abbrev AllMinutes : (ℕ → List Word → Bool) → List Word → Type 0
 AllMinutes f full = upto (λ k. f k (minute_words full (minute_bytes k))) 60 ≡ true
 
+-- all hours and all minutes, computed
 hours : upto (λ k. hourly k (cardinal (hour_bytes k))) 100 ≡ true
 unfolding is_hour_of digit_bytes decimal_digits digit_values filter_if pair_words join_at_scale by_scale cardinal_step short_cardinal cardinal_of cardinal recur recur_at value_below_hundred digit_of all
 hours = refl
@@ -119,7 +116,7 @@ minutes : AllMinutes minutely []
 unfolding is_minute_of same_by digit_bytes digit_values filter_if pair_words cardinal_step short_cardinal cardinal_of recur recur_at year_step year_of year decode_minute value_below_hundred digit_of all
 minutes = refl
 
-minutes_or_oclock : AllMinutes minute_only_words (oclock_word ∷ [])
+minutes_or_oclock : AllMinutes tells_minute oclock
 unfolding is_minute_of same_by digit_bytes digit_values filter_if pair_words cardinal_step short_cardinal cardinal_of recur recur_at year_step year_of year decode_minute value_below_hundred digit_of all any
 minutes_or_oclock = refl
 
@@ -190,8 +187,7 @@ module _ (h m : List ℕ) (p : is_hour h ≡ true) (q : is_minute m ≡ true) wh
   -- the words of row 4 are decoded as the time, and are like those of a time
   pub time_words_decoded : (decode_time (clock h m ++ full_hour m) ≡ h ++ (bytes ":" ++ m)) × (time_like (clock h m ++ full_hour m) ≡ true)
   time_words_decoded =
-      let full = oclock_word ∷ [] in
       let (i, g, hs) = hour_words h p in
-      let (k, e, os) = minute_words_lem minute_only_words full minutes_or_oclock m q in
-      let ms = (and-eq-true_iff (minutely k (minute_words full m)) (any is_minute_only (minute_words full m))).0 os in
-      rw (time_words h m) (words_decoded full k e ms.0, some_time_like i k (cardinal h) (minute_words full m) hs ms.0 ms.1)
+      let (k, e, os) = minute_words_lem tells_minute oclock minutes_or_oclock m q in
+      let ms = (and-eq-true_iff (minutely k (minute_words oclock m)) (any is_minute_only (minute_words oclock m))).0 os in
+      rw (time_words h m) (words_decoded oclock k e ms.0, some_time_like i k (cardinal h) (minute_words oclock m) hs ms.0 ms.1)

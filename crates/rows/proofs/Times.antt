@@ -133,17 +133,20 @@ module _ (word : List ℕ → List ℕ) (h m : List ℕ) (p : is_hour_minute h m
 
 -- ---- full hours and other minutes
 
--- the word of a full hour
-abbrev pub oclock_word : Word
-oclock_word = other (bytes "o'clock")
+-- the words of a full hour, behind those of the hour
+abbrev pub oclock : List Word
+oclock = other (bytes "o'clock") ∷ []
+
+-- what is said after the hour: the minute, or `full` if the minute is "00". Row 5 says `minute_words []` there
+abbrev pub minute_words : List Word → List ℕ → List Word
+minute_words full m = cond (same m (bytes "00")) full (year m)
 
 -- after the hour row 4 says "o'clock" if the minute is "00", else the minute
-pub time_words : (h m : List ℕ) → clock h m ++ full_hour m ≡ cardinal h ++ cond (same m (bytes "00")) (oclock_word ∷ []) (year m)
+pub time_words : (h m : List ℕ) → clock h m ++ full_hour m ≡ cardinal h ++ minute_words oclock m
 unfolding clock full_hour
 time_words h m = go (same m (bytes "00")) refl
   where
-    go : (b : Bool) → same m (bytes "00") ≡ b
-        → clock h m ++ full_hour m ≡ cardinal h ++ cond (same m (bytes "00")) (oclock_word ∷ []) (year m)
+    go : (b : Bool) → same m (bytes "00") ≡ b → clock h m ++ full_hour m ≡ cardinal h ++ minute_words oclock m
     go true e = rw (e, append-nil (cardinal h))
     go false e = rw (e, append-nil (cardinal h ++ year m))
 

@@ -13,12 +13,27 @@ use Rattle.roman.specs.Roman.{roman_letter_value, sum_added, sum_subtracted, rom
 use Rattle.tokens.specs.Tokens.{cut, tokens_step, tokens}
 use Rattle.set_pieces.specs.SetPieces.{set_pieces, reading_corners, same_texts, piece_holds}
 
+-- what is unfolded to compute the words of numbers
+unfoldable unfold_numbers : Unit {0}
+unfolding unfold_vocabulary spell spelled digit_values pair_words join_at_scale by_scale cardinal_step short_cardinal cardinal_of cardinal digits
+unfold_numbers = tt
+
+-- and all readings that have set pieces
+unfoldable unfold_readings : Unit {0}
+unfolding unfold_numbers form_in ordinal_form or_zero on_last ordinal year_step year_of year pointed real_step real
+unfold_readings = tt
+
+-- and roman values, tokens and the pieces
+unfoldable unfold_pieces : Unit {0}
+unfolding same_by split onto non_empty span filter_if any recur recur_at flat_map all after_last roman_letter_value sum_added sum_subtracted roman_value cut tokens_step tokens same_texts piece_holds
+unfold_pieces = tt
+
 -- the starred set pieces of document 01 hold
 pub set_pieces_lem : T (all piece_holds set_pieces)
-unfolding same_by split onto non_empty span filter_if any recur recur_at unfold_vocabulary spell spelled digit_values pair_words join_at_scale by_scale cardinal_step short_cardinal cardinal_of cardinal digits form_in ordinal_form or_zero on_last ordinal year_step year_of year pointed real_step real roman_letter_value sum_added sum_subtracted roman_value flat_map all after_last cut tokens_step tokens set_pieces same_texts piece_holds
+unfolding unfold_readings unfold_pieces set_pieces
 set_pieces_lem = tt
 
 -- the corners hold
 pub reading_corners_lem : T (all piece_holds reading_corners)
-unfolding same_by split onto non_empty span filter_if any recur recur_at unfold_vocabulary spell spelled digit_values pair_words join_at_scale by_scale cardinal_step short_cardinal cardinal_of cardinal digits form_in ordinal_form or_zero on_last ordinal year_step year_of year pointed real_step real roman_letter_value sum_added sum_subtracted roman_value flat_map all after_last cut tokens_step tokens reading_corners same_texts piece_holds
+unfolding unfold_readings unfold_pieces reading_corners
 reading_corners_lem = tt

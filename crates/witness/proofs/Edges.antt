@@ -3,19 +3,14 @@ use mathlib.Core.Path.{◌≡◌, refl}
 use mathlib.Core.Bool.{true, false}
 use mathlib.Core.List.{List, []}
 use Prim.Native.Nat.{ℕ}
-use Rattle.lists.specs.Bytes.{bytes, same, filter_if, same_by, split, onto, span, all, any, after_last}
+use Rattle.lists.specs.Bytes.{bytes, same, same_by, span, all, any}
 use Rattle.lists.specs.Recur.{recur, recur_at}
 use Rattle.lists.proofs.Table.{upto}
-use Rattle.vocabulary.proofs.Laws.{unfold_vocabulary}
-use Rattle.numerals.specs.Words.{spell, spelled}
-use Rattle.numerals.specs.Cardinal.{digit_values, pair_words, join_at_scale, by_scale, cardinal_step, short_cardinal, cardinal_of, cardinal}
-use Rattle.numerals.specs.Ordinal.{form_in, ordinal_form, or_zero, on_last, ordinal}
-use Rattle.units.specs.Units.{unit_abbreviations, abbreviations, unit_words, index_of}
-use Rattle.vocabulary.specs.Vocabulary.{ones, teens, tens, ordinal_ones, ordinal_teens, ordinal_tens}
-use Rattle.shapes.specs.Shapes.{is_digits, is_alpha, split_once, is_hour_minute, is_dotted_abbrev}
-use Rattle.tokens.specs.Tokens.{cut, tokens_step, tokens}
-use Rattle.clear.specs.Clear.{suffix, table_words}
-use Rattle.clear.specs.Test.{last_two, is_exponent_clear, is_fraction_clear, is_figure_clear, is_clear}
+use Rattle.numerals.specs.Words.{spelled}
+use Rattle.numerals.specs.Ordinal.{ordinal}
+use Rattle.witness.proofs.Unfolded.{unfold_tokens, unfold_clear, unfold_ordinal}
+use Rattle.clear.specs.Clear.{suffix}
+use Rattle.clear.specs.Test.{last_two, is_clear}
 use Rattle.decoder.specs.Decode.{digit_bytes, decimal_digits, last_word}
 use Rattle.decoder.specs.Sheets.{names}
 
@@ -28,7 +23,7 @@ unclear_sheet =
 
 -- none of its names is clear
 pub unclear_names : any is_clear (names unclear_sheet) ≡ false
-unfolding unclear_sheet recur recur_at span all after_last any cut tokens_step tokens is_clear is_exponent_clear is_fraction_clear is_figure_clear suffix table_words index_of unit_abbreviations abbreviations unit_words same_by split onto is_digits is_alpha split_once is_hour_minute is_dotted_abbrev ones teens tens ordinal_ones ordinal_teens ordinal_tens
+unfolding unclear_sheet unfold_tokens unfold_clear
 unclear_names = refl
 
 unfoldable pub clear_sheet : List ℕ
@@ -38,10 +33,10 @@ clear_sheet =
 
 -- all its names are clear
 pub clear_names : all is_clear (names clear_sheet) ≡ true
-unfolding clear_sheet recur recur_at span all after_last any cut tokens_step tokens is_clear is_exponent_clear is_fraction_clear is_figure_clear suffix table_words index_of unit_abbreviations abbreviations unit_words same_by split onto is_digits is_alpha split_once is_hour_minute is_dotted_abbrev ones teens tens ordinal_ones ordinal_teens ordinal_tens
+unfolding clear_sheet unfold_tokens unfold_clear
 clear_names = refl
 
 -- the right suffix of each number below 100 is what its ordinal's last word ends with
 pub suffix_said : upto (λ k. let s = digit_bytes (decimal_digits 1 k []) in same (last_two (last_word (spelled (ordinal s)))) (suffix s)) 100 ≡ true
-unfolding digit_bytes decimal_digits suffix same_by filter_if span all any recur recur_at unfold_vocabulary spell spelled digit_values pair_words join_at_scale by_scale cardinal_step short_cardinal cardinal_of cardinal form_in ordinal_form or_zero on_last ordinal
+unfolding digit_bytes decimal_digits suffix same_by span all any recur recur_at unfold_ordinal
 suffix_said = refl

@@ -1,3 +1,4 @@
+pub mod Unfolded
 pub mod Witness
 pub mod Edges
 pub mod Examples
