@@ -22,13 +22,6 @@ unfolding same_by
 same_self [] = refl
 same_self (b ∷ s) = rw (eq-eqb b b refl, same_self s)
 
--- ---- at the front
-
--- a text that starts with c is c and the rest
-pub starts_with_cons : (c : ℕ) (s : List ℕ) → starts_with c s ≡ true → c ∷ drop 1 s ≡ s
-starts_with_cons c [] h = absurd (false≢true h)
-starts_with_cons c (b ∷ s) h = let e : b ≡ c = eqb-true b c (sym (starts_with_first c b s) ∙ h) in rw e
-
 -- ---- at the end
 
 module _ (s t : List ℕ) (n : ℕ) (e : length t ≡ n) where

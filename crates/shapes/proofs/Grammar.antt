@@ -9,7 +9,7 @@ use native.Mathlib.Numerals.{add-one}
 use native.Mathlib.Omega.{arith}
 use lib.Dec.{eqb, leb, ltb}
 use lib.ListN.{length, take, drop, get_or, length-append, length-take, take-append-drop, drop_of_length-le}
-use lib.Seq.{take_at, drop_at, get_or_at, split_at, take-suc, drop-drop, drop-length}
+use lib.Seq.{take_at, drop_at, get_or_at, split_at, take-suc, drop-drop, drop-length, drop-append_seam, length-take-le}
 use borrow.Author.Tests.{eqb-true, eqb-false, eq-eqb, ne_eqb, ltb-true, lt-ltb, leb-true, le-leb, not-true, not-false}
 use Rattle.lists.specs.Bytes.{bytes, all, any, span, after_last, listed, split, onto, same, same_by, uppercase, to_lower, starts_with, ends_with}
 use Rattle.lists.specs.Classes.{digit, digit_or_comma, not_colon_or_point, except}
@@ -19,12 +19,12 @@ use Rattle.lists.proofs.Scan.{all_append, last_le, last_passes, last_drop, span_
 use Rattle.lists.proofs.Table.{same_true}
 use Rattle.shapes.specs.Shapes.{is_digits, is_n_digits, is_comma_groups, is_comma_int, starts_char, is_ordinal_suffix, is_ordinal, is_amount, is_us_money, is_illion}
 use Rattle.units.specs.Units.{unit_abbreviations, abbreviations, is_unit}
-use Rattle.shapes.specs.Shapes.{unit_at, has_unit, is_number_s, is_leading_zero_digits, split_once, is_phone_parts, is_seven_digit_phone, is_hour_minute, is_time, are_digits, is_digits_slash_digits}
+use Rattle.shapes.specs.Shapes.{unit_at, has_unit, is_number_s, is_leading_zero_digits, split_once, is_phone_parts, is_seven_digit_phone, is_hour_minute, is_time, are_digits, is_digits_slash_digits, is_range}
 use Rattle.shapes.specs.Times.{ends_in_meridiem, separator_at, time_of, is_meridiem_time}
-use Rattle.shapes.specs.Grammar.{is_meridiem, join_by, suffixes, TimeForm, PhoneForm, SlashedForm, CommaIntForm, LeadingZeroForm, IllionForm, NumberSForm, MeridiemForm, OrdinalForm, MoneyForm, UnitForm}
-use Rattle.shapes.specs.Grammar.{time, phone, slashed, comma_int, leading_zero, illion, number_s, meridiem_time, ordinal_number, dollars, cents, measure}
+use Rattle.shapes.specs.Grammar.{is_meridiem, join_by, suffixes, TimeForm, PhoneForm, SeparatedForm, CommaIntForm, LeadingZeroForm, IllionForm, NumberSForm, MeridiemForm, OrdinalForm, MoneyForm, UnitForm}
+use Rattle.shapes.specs.Grammar.{time, phone, separated, comma_int, leading_zero, illion, number_s, meridiem_time, ordinal_number, dollars, cents, measure}
 use Rattle.shapes.proofs.Parts.{eqb_sym}
-use Rattle.shapes.proofs.Laws.{digits_all, digits_some}
+use Rattle.shapes.proofs.Laws.{digits_all, digits_some, digits_nonempty, starts_with_cons, same_truth}
 
 -- ---- a text at its first separator
 
@@ -99,18 +99,52 @@ phone_form s = (
   phone_taken s,
 )
 
-slashed_taken : (s : List ℕ) → SlashedForm s → is_digits_slash_digits s ≡ true
-slashed_taken _ (slashed a b p q) = once_taken (code "/") are_digits a b (no_separator (code "/") refl a p) (rw (p, q))
+-- digits, a separator that is no digit, digits
+module _ (c : ℕ) (k : digit c ≡ false) where
+  separated_taken : (s : List ℕ) → SeparatedForm c s → split_once c are_digits s ≡ true
+  separated_taken _ (separated a b p q) = once_taken c are_digits a b (no_separator c k a p) (rw (p, q))
 
--- is_digits_slash_digits takes a text exactly when it has this form
-pub slashed_form : (s : List ℕ) → (is_digits_slash_digits s ≡ true) ↔ SlashedForm s
-slashed_form s = (
-  λ e.
-      let o = once_parts (code "/") are_digits s e in
-      let p = (and-eq-true_iff (is_digits o.front) (is_digits o.rest)).0 o.passed in
-      subst SlashedForm (sym o.joined) (slashed o.front o.rest p.0 p.1),
-  slashed_taken s,
-)
+  -- `split_once` by two tests for digits takes a text exactly when it has this form
+  pub separated_form : (s : List ℕ) → (split_once c are_digits s ≡ true) ↔ SeparatedForm c s
+  separated_form s = (
+    λ e.
+        let o = once_parts c are_digits s e in
+        let p = (and-eq-true_iff (is_digits o.front) (is_digits o.rest)).0 o.passed in
+        subst (SeparatedForm c) (sym o.joined) (separated o.front o.rest p.0 p.1),
+    separated_taken s,
+  )
+
+  -- what a scan for the digits at the front finds
+  abbrev digits_around : List ℕ → Bool
+  digits_around s = let rest = drop (span digit s) s in not (eqb (span digit s) 0) && starts_with c rest && is_digits (drop 1 rest)
+
+  around_taken : (s : List ℕ) → SeparatedForm c s → digits_around s ≡ true
+  around_taken _ (separated a b p q) =
+      let e : span digit (a ++ (c ∷ b)) ≡ length a = span_before digit a c b k ∙ all_span digit a (digits_all a p) in
+      rw (e, drop-append_seam a (c ∷ b), starts_with_first c c b, eq-eqb c c refl, q, digits_nonempty a p)
+
+  around_form : (s : List ℕ) → digits_around s ≡ true → SeparatedForm c s
+  unfolding is_digits
+  around_form s h =
+      let n = span digit s in
+      let rest = drop n s in
+      let u = (and-eq-true_iff (not (eqb n 0) && starts_with c rest) (is_digits (drop 1 rest))).0 h in
+      let v = (and-eq-true_iff (not (eqb n 0)) (starts_with c rest)).0 u.0 in
+      let first : is_digits (take n s) ≡ true = rw (length-take-le n s (span_le digit s), span_all digit s, v.0) in
+      let joined : take n s ++ (c ∷ drop 1 rest) ≡ s = ap (λ (r : List ℕ). take n s ++ r) (starts_with_cons c rest v.1) ∙ take-append-drop n s in
+      subst (SeparatedForm c) joined (separated (take n s) (drop 1 rest) first u.1)
+
+  -- so such a scan decides it
+  pub digits_around_lem : (s : List ℕ) → digits_around s ≡ split_once c are_digits s
+  digits_around_lem s = same_truth _ _ (λ e. (separated_form s).1 (around_form s e), λ e. around_taken s ((separated_form s).0 e))
+
+-- is_digits_slash_digits takes a text exactly when it is digits, a slash, digits
+pub slashed_form : (s : List ℕ) → (is_digits_slash_digits s ≡ true) ↔ SeparatedForm (code "/") s
+slashed_form = separated_form (code "/") refl
+
+-- is_range takes a text exactly when it is digits, a hyphen, digits
+pub range_form : (s : List ℕ) → (is_range s ≡ true) ↔ SeparatedForm (code "-") s
+range_form = separated_form (code "-") refl
 
 -- ---- a text by its parts
 

@@ -1,6 +1,7 @@
 -- What scans say about shapes that are defined by their parts, and how long some texts are. Assumes nothing.
 use mathlib.Core.Path.{◌≡◌, refl, sym, ◌∙◌}
 use mathlib.Core.Bool.{Bool, true, false, cond, not, ◌&&◌, ◌||◌, and-true, and-false, and_assoc, or-true, or-false, and-eq-true_iff, true≢false}
+use mathlib.Core.Logic.{◌↔◌}
 use mathlib.Core.List.{List, [], ◌∷◌}
 use Prim.Native.Nat.{ℕ, suc, ◌+◌, ◌≤◌, ◌<◌}
 use native.Mathlib.Omega.{arith}
@@ -9,9 +10,10 @@ use lib.ListN.{length, take, drop, get_or, length-take, length-drop}
 use borrow.Author.Tests.{ne_eqb, ltb-true, leb-true, eqb-true, eqb-false, not-true}
 use Rattle.std.specs.Prelude.{Option, Some, None}
 use Rattle.std.specs.Option.{option_map}
-use Rattle.lists.specs.Bytes.{around, all, span, split, onto, non_empty}
+use Rattle.lists.specs.Bytes.{around, all, span, split, onto, non_empty, starts_with}
 use Rattle.lists.specs.Classes.{only, digit, digit_or_comma, digit_or_dash, except}
 use Rattle.lists.proofs.Parts.{split_some, split_last}
+use Rattle.lists.proofs.Scan.{starts_with_first}
 use Rattle.shapes.specs.Shapes.{is_digits, is_comma_groups, is_comma_int, is_n_digits, is_phone_parts, is_hour_minute, is_seven_digit_phone, is_time, split_once, unit_at, has_unit, split_unit, unit_part}
 use Rattle.shapes.proofs.Parts.{split_around}
 use Rattle.units.specs.Units.{is_unit, unit_index, unit_row}
@@ -30,6 +32,17 @@ digits_nonempty s h = not-true (eqb (length s) 0) ((and-eq-true_iff (not (eqb (l
 -- so it has a length above 0
 pub digits_some : (s : List ℕ) → is_digits s ≡ true → 0 < length s
 digits_some s h = let n = eqb-false (length s) 0 (digits_nonempty s h) in omega arith
+
+-- a text that starts with c is c and the rest
+pub starts_with_cons : (c : ℕ) (s : List ℕ) → starts_with c s ≡ true → c ∷ drop 1 s ≡ s
+starts_with_cons c [] h = absurd (true≢false (sym h))
+starts_with_cons c (b ∷ s) h = let e : b ≡ c = eqb-true b c (sym (starts_with_first c b s) ∙ h) in rw e
+
+-- two tests that hold of the same are equal
+pub same_truth : (a b : Bool) → (a ≡ true) ↔ (b ≡ true) → a ≡ b
+same_truth true b h = sym (h.0 refl)
+same_truth false true h = h.1 refl
+same_truth false false h = refl
 
 -- a text with a comma passes exactly if the part before the first comma and the parts after it pass their tests
 pub comma_more : (s : List ℕ) {first groups : List ℕ} → Some (first, groups) ≡ around (only 44) s

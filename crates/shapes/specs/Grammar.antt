@@ -21,9 +21,9 @@ pub data TimeForm : List ℕ → Type 0 where
 pub data PhoneForm : List ℕ → Type 0 where
   phone : (a b : List ℕ) → is_n_digits 3 a ≡ true → is_n_digits 4 b ≡ true → PhoneForm (a ++ (bytes "-" ++ b))
 
--- digits, a slash, digits
-pub data SlashedForm : List ℕ → Type 0 where
-  slashed : (a b : List ℕ) → is_digits a ≡ true → is_digits b ≡ true → SlashedForm (a ++ (bytes "/" ++ b))
+-- digits, the byte c, digits
+pub data SeparatedForm (c : ℕ) : List ℕ → Type 0 where
+  separated : (a b : List ℕ) → is_digits a ≡ true → is_digits b ≡ true → SeparatedForm c (a ++ (c ∷ b))
 
 -- "a comma, a first group of 1 to 3 digits and further groups of 3"
 pub data CommaIntForm : List ℕ → Type 0 where

@@ -1,5 +1,5 @@
--- The shape verdicts of patterns.rs, each written from the Rust function of its name. They stand in that file's order, but
--- is_n_digits comes earlier, since others use it. Definitions only.
+-- The shape verdicts of patterns.rs, each written from the Rust function of its name, and the ranges of document 02, A2. They
+-- stand in that file's order, but is_n_digits comes earlier, since others use it. Definitions only.
 use Rattle.std.specs.Prelude.{Option, Some, None, Bool, false, cond, not, ◌&&◌, ◌||◌, List, [], ◌∷◌, ℕ, ◌+◌, ◌-◌, leb, ltb, eqb, length, take, drop, get_or}
 use Prim.Native.Char.{code}
 use Rattle.lists.specs.Bytes.{bytes, all, span, after_last, elem, same, same_by, to_lower, starts_with, ends_with, strip_prefix, strip_suffix, ends_with_by, split, non_empty}
@@ -118,6 +118,10 @@ are_digits a b = is_digits a && is_digits b
 
 abbrev pub is_digits_slash_digits : List ℕ → Bool
 is_digits_slash_digits = split_once (code "/") are_digits
+
+-- 02, A2: "A name of digits, hyphen, digits"
+abbrev pub is_range : List ℕ → Bool
+is_range = split_once (code "-") are_digits
 
 -- "drops empty parts"
 unfoldable pub is_digits_dash_digits : List ℕ → Bool

@@ -2,11 +2,12 @@
 // None tests for a refusal: the public calls of the crate patterns do that before they ask a shape.
 #![tactic(auto)]
 
-ghost use Rattle.std.specs.Prelude.{◌≡◌, length};
+ghost use Rattle.std.specs.Prelude.{◌≡◌, false, length};
 ghost use Rattle.std.specs.Option.{option_copied};
 ghost use Rattle.lists.specs.Bytes.{split, non_empty};
 ghost use Rattle.shapes.specs.Shapes.{is_digits, is_alpha, strip_sign, is_exponent, is_unsigned, is_double, is_comma_int, is_ordinal_suffix, is_ordinal, is_amount, is_us_money, is_illion, is_small_roman, is_roman, is_dr_or_st};
-ghost use Rattle.shapes.specs.Shapes.{is_number_s, is_leading_zero_digits, is_seven_digit_phone, is_n_digits, is_hour_minute, is_time, is_one_letter, is_dotted_abbrev, is_digits_slash_digits, is_digits_dash_digits, split_unit};
+ghost use Rattle.shapes.specs.Shapes.{is_number_s, is_leading_zero_digits, is_seven_digit_phone, is_n_digits, is_hour_minute, is_time, is_one_letter, is_dotted_abbrev, split_once, are_digits, is_digits_slash_digits, is_range, is_digits_dash_digits, split_unit};
+ghost use Rattle.lists.specs.Classes.{digit};
 ghost use Rattle.shapes.specs.Times.{ends_in_meridiem, SplitsTime};
 
 use lists::{
@@ -252,10 +253,27 @@ pub fn is_dotted_abbrev(s: &[u8]) -> bool
     core.contains(&b'.') & core.split(|b| *b == b'.').all(is_one_letter)
 }
 
+// Whether s is digits, the byte c, digits. The digits are passed first, so a name that does not start with one is not scanned.
+#[tactic(auto, using(crate::proofs::Grammar::digits_around_lem))]
+fn is_digits_around(s: &[u8], c: u8) -> bool
+    requires { digit c ≡ false }
+    ensures { result ≡ split_once c are_digits s.now }
+{
+    let at = span(s, Digit);
+    let rest = tail(s, at);
+    (at != 0) & starts_with(rest, c) & is_digits(tail(rest, 1))
+}
+
 pub fn is_digits_slash_digits(s: &[u8]) -> bool
     ensures { result ≡ is_digits_slash_digits s.now }
 {
-    split_once(s, Byte(b'/')).is_some_and(|(a, b)| is_digits(a) & is_digits(b))
+    is_digits_around(s, b'/')
+}
+
+pub fn is_range(s: &[u8]) -> bool
+    ensures { result ≡ is_range s.now }
+{
+    is_digits_around(s, b'-')
 }
 
 pub fn is_digits_dash_digits(s: &[u8]) -> bool

@@ -1,4 +1,4 @@
--- The words of units, of number readings, and of rows 4 and 10. Definitions only.
+-- The words of units, of number readings, and of rows 4, 5a, 5b and 10. Definitions only.
 use Rattle.std.specs.Prelude.{List, [], ◌∷◌, ◌++◌, map, ℕ, get_or}
 use Prim.Native.String.{String}
 use Rattle.lists.specs.Bytes.{bytes}
@@ -50,9 +50,10 @@ unit_vocabulary =
     "pounds" ∷ "feet" ∷ "kilograms" ∷ "kilometers" ∷ "centimeters" ∷ "millimeters" ∷ "milliliters" ∷ "ounces"
     ∷ "hertz" ∷ "kilohertz" ∷ "megahertz" ∷ "gigahertz" ∷ "kilobytes" ∷ "gigabytes" ∷ "megabytes" ∷ "terabytes" ∷ []
 
--- the other words of number readings in numbers.rs, the two words of row 10, and the word of a full hour in row 4
+-- the other words of number readings in numbers.rs, the two words of row 10, the word of a full hour in row 4, that of a range,
+-- and those of fractions
 unfoldable pub others : List String
-others = "oh" ∷ "point" ∷ "minus" ∷ "plus" ∷ "e" ∷ "per" ∷ "cent" ∷ "o'clock" ∷ []
+others = "oh" ∷ "point" ∷ "minus" ∷ "plus" ∷ "e" ∷ "per" ∷ "cent" ∷ "o'clock" ∷ "to" ∷ "a" ∷ "half" ∷ "'s" ∷ "slash" ∷ []
 
 -- every word, by number
 unfoldable pub vocabulary : List (List ℕ)

@@ -1,4 +1,4 @@
-// The words of units, of number readings, and of rows 4 and 10, by number.
+// The words of units, of number readings, and of rows 4, 5a, 5b and 10, by number.
 #![tactic(auto)]
 
 ghost use Rattle.std.specs.Prelude.{◌≡◌};
@@ -32,8 +32,19 @@ pub const CENT: usize = 90;
 
 pub const OCLOCK: usize = 91;
 
+pub const TO: usize = 92;
+
+pub const A: usize = 93;
+
+pub const HALF: usize = 94;
+
+// What is said after a fraction of more than one part.
+pub const S: usize = 95;
+
+pub const SLASH: usize = 96;
+
 // Every word, by number. A `static` lies in read-only memory, and no word is copied from there.
-static WORDS: [&[u8]; 92] = [
+static WORDS: [&[u8]; 97] = [
     b"pounds",
     b"feet",
     b"kilograms",
@@ -126,6 +137,11 @@ static WORDS: [&[u8]; 92] = [
     b"per",
     b"cent",
     b"o'clock",
+    b"to",
+    b"a",
+    b"half",
+    b"'s",
+    b"slash",
 ];
 
 // The word of a number; an empty text if there is none. It is no Option, because each caller's number has a word.
