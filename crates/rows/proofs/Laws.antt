@@ -1,15 +1,19 @@
 -- How the rows read a name. Assumes nothing.
 use mathlib.Core.Path.{◌≡◌, refl}
-use mathlib.Core.Bool.{Bool, true, false, false≢true}
+use mathlib.Core.Bool.{Bool, true, false, false≢true, and-eq-true_iff}
 use mathlib.Core.List.{List, [], ◌∷◌, map}
-use Prim.Native.Nat.{ℕ, ◌-◌, ◌<◌, ◌≤◌}
+use Prim.Native.Nat.{ℕ, ◌+◌, ◌-◌, ◌<◌, ◌≤◌}
 use Prim.Native.Char.{code}
 use native.Mathlib.Omega.{arith}
-use lib.ListN.{length, take}
+use lib.Dec.{ltb}
+use lib.ListN.{length, take, drop, length-take, length-drop}
 use lib.Seq.{length-take-le}
-use Rattle.lists.specs.Bytes.{ends_with, to_lower}
+use borrow.Author.Tests.{ltb-true}
+use Rattle.lists.specs.Bytes.{span, ends_with, to_lower}
+use Rattle.lists.specs.Classes.{except}
 use Rattle.lists.proofs.Recursion.{Local, recur_eq}
-use Rattle.rows.specs.Rows.{Rule, ◌reads◌, Reading, no_reading, row_number, rows, read_step, read_with, read}
+use Rattle.shapes.specs.Shapes.{split_once, are_digits, is_range}
+use Rattle.rows.specs.Rows.{Rule, ◌reads◌, Reading, no_reading, row_number, before, after, rows, read_step, read_with, read}
 
 -- a text that ends in a byte is not empty
 pub ends_some : (c : ℕ) (s : List ℕ) → ends_with c s ≡ true → 1 ≤ length s
@@ -20,13 +24,22 @@ ends_some c (b ∷ s) e = omega arith
 pub shorter : (s : List ℕ) → 1 ≤ length s → length (take (length s - 1) s) < length s
 shorter s h = let e = length-take-le (length s - 1) s (omega arith) in omega arith
 
+-- the parts of a range are shorter than the range
+pub parts_shorter : (s : List ℕ) → is_range s ≡ true → (length (before (code "-") s) < length s) × (length (after (code "-") s) < length s)
+unfolding split_once
+parts_shorter s h =
+    let n = span (except (code "-")) s in
+    let l = ltb-true n (length s) ((and-eq-true_iff (ltb n (length s)) (are_digits (take n s) (drop (n + 1) s))).0 h).0 in
+    omega (arith, length-take n s, length-drop 1 (drop n s), length-drop n s)
+
 read_local : (word : List ℕ → List ℕ) → Local (read_step word)
 unfolding read_step
-read_local word f g s h = go (ends_with (code "%") s) refl
+read_local word f g s h = go (is_range s) refl (ends_with (code "%") s) refl
   where
-    go : (b : Bool) → ends_with (code "%") s ≡ b → read_step word f s ≡ read_step word g s
-    go true e = rw (h (take (length s - 1) s) (shorter s (ends_some (code "%") s e)))
-    go false e = rw e
+    go : (a : Bool) → is_range s ≡ a → (b : Bool) → ends_with (code "%") s ≡ b → read_step word f s ≡ read_step word g s
+    go true d b e = let l = parts_shorter s d in rw (d, h (before (code "-") s) l.0, h (after (code "-") s) l.1)
+    go false d true e = rw (d, h (take (length s - 1) s) (shorter s (ends_some (code "%") s e)))
+    go false d false e = rw (d, e)
 
 -- to read a name is one step, in which shorter names are read the same way
 pub step_eq : (word : List ℕ → List ℕ) (s : List ℕ) → read_with word s ≡ read_step word (read_with word) s
@@ -41,7 +54,7 @@ read_eq s = step_eq (map to_lower) s
 abbrev pub number_in : Rule → ℕ
 number_in (takes reads g) = row_number g.row
 
--- the rows stand in the order of their numbers
+-- the rows stand in the order of their numbers, and the two new ones after row 5
 pub rows_numbered : (word : List ℕ → List ℕ) (again : List ℕ → Reading) (s : List ℕ)
-    → map number_in (rows word again s) ≡ 1 ∷ 2 ∷ 3 ∷ 4 ∷ 5 ∷ 6 ∷ 7 ∷ 8 ∷ 9 ∷ 10 ∷ 11 ∷ 12 ∷ []
+    → map number_in (rows word again s) ≡ 1 ∷ 2 ∷ 3 ∷ 4 ∷ 5 ∷ 13 ∷ 14 ∷ 6 ∷ 7 ∷ 8 ∷ 9 ∷ 10 ∷ 11 ∷ 12 ∷ []
 rows_numbered word again s = refl

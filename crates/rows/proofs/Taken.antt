@@ -15,7 +15,7 @@ use Rattle.lists.proofs.Scan.{all_append, all_more, all_within, span_all, span_f
 use Rattle.lists.proofs.Parts.{parts_fail, elem_span}
 use Rattle.lists.proofs.Bools.{or_true_left, or_true_right, or_true_elim}
 use Rattle.shapes.specs.Shapes.{is_digits, is_n_digits, is_alpha, is_one_letter, strip_sign, is_exponent, is_unsigned, is_comma_groups, is_hour_minute}
-use Rattle.shapes.specs.Shapes.{is_ordinal_suffix, split_once, starts_char, is_dotted_abbrev, is_comma_int, is_time, is_double, is_ordinal}
+use Rattle.shapes.specs.Shapes.{is_ordinal_suffix, split_once, starts_char, is_dotted_abbrev, is_comma_int, is_time, are_digits, is_range, is_digits_slash_digits, is_double, is_ordinal}
 use Rattle.shapes.specs.Times.{ends_in_meridiem, separator_at, time_of, is_meridiem_time}
 use Rattle.shapes.proofs.Laws.{digits_all, comma_none}
 use Rattle.shapes.proofs.Grammar.{hour_minute_parts}
@@ -54,8 +54,8 @@ digit_no_letter b h =
 abbrev pub dotted_byte : ℕ → Bool
 dotted_byte b = letter b || eqb b (code ".")
 
-abbrev pub time_byte : ℕ → Bool
-time_byte b = digit b || eqb b (code ":")
+abbrev pub digit_or : ℕ → ℕ → Bool
+digit_or c b = digit b || eqb b c
 
 abbrev pub meridiem_byte : ℕ → Bool
 meridiem_byte b = letter b || digit b || eqb b (code ":") || eqb b (code ".")
@@ -191,37 +191,56 @@ comma_needed s h = elem_span (code ",") s ∙ go (ltb (span (except (code ",")) 
     go true e = refl
     go false e = absurd (false≢true (sym (comma_none s (ltb-false _ _ e)) ∙ h))
 
--- ---- times
+-- ---- times, ranges and fractions
 
--- all bytes of an hour and a minute are digits
-hour_minute_digits : (h m : List ℕ) → is_hour_minute h m ≡ true → (all digit h ≡ true) × (all digit m ≡ true)
+-- two texts that pass are digits
+abbrev DigitsBoth : (List ℕ → List ℕ → Bool) → Type 0
+DigitsBoth both = (a b : List ℕ) → both a b ≡ true → (all digit a ≡ true) × (all digit b ≡ true)
+
+-- so are an hour and a minute, and the parts of a range or a fraction
+hour_minute_digits : DigitsBoth is_hour_minute
 hour_minute_digits h m e =
     let p = hour_minute_parts h m e in
     (digits_all h p.0, digits_all m ((and-eq-true_iff (eqb (length m) 2) (is_digits m)).0 p.1).1)
 
--- an hour, the byte at which a scan by q stops, and a minute: all these bytes are of the class p
-all_clock : (p q : ℕ → Bool) → ((b : ℕ) → digit b ≡ true → p b ≡ true) → ((b : ℕ) → q b ≡ false → p b ≡ true) → (s : List ℕ)
-    → (ltb (span q s) (length s) && is_hour_minute (take (span q s) s) (drop (span q s + 1) s)) ≡ true → all p s ≡ true
-all_clock p q f g s h =
-    let k = (and-eq-true_iff (ltb (span q s) (length s)) (is_hour_minute (take (span q s) s) (drop (span q s + 1) s))).0 h in
+both_digits : DigitsBoth are_digits
+both_digits a b e = let p = (and-eq-true_iff (is_digits a) (is_digits b)).0 e in (digits_all a p.0, digits_all b p.1)
+
+-- digits, the byte at which a scan by q stops, and digits: all these bytes are of the class p
+all_parted : (p q : ℕ → Bool) → ((b : ℕ) → digit b ≡ true → p b ≡ true) → ((b : ℕ) → q b ≡ false → p b ≡ true)
+    → (both : List ℕ → List ℕ → Bool) → DigitsBoth both → (s : List ℕ)
+    → (ltb (span q s) (length s) && both (take (span q s) s) (drop (span q s + 1) s)) ≡ true → all p s ≡ true
+all_parted p q f g both d s h =
+    let k = (and-eq-true_iff (ltb (span q s) (length s)) (both (take (span q s) s) (drop (span q s + 1) s))).0 h in
     let l = ltb-true (span q s) (length s) k.0 in
-    let m = hour_minute_digits (take (span q s) s) (drop (span q s + 1) s) k.1 in
+    let m = d (take (span q s) s) (drop (span q s + 1) s) k.1 in
     all_around p s (span q s) l (all_within digit p f (take (span q s) s) m.0) (g (get_or s (span q s) 0) (span_fails q s l))
     (all_within digit p f (drop (span q s + 1) s) m.1)
 
--- a time is digits and colons
-pub time_bytes : (s : List ℕ) → is_time s ≡ true → all time_byte s ≡ true
+-- two texts of digits with the byte c between are digits and c
+separated_bytes : (c : ℕ) (both : List ℕ → List ℕ → Bool) → DigitsBoth both → (s : List ℕ) → split_once c both s ≡ true → all (digit_or c) s ≡ true
 unfolding split_once
-time_bytes s h =
-    all_clock time_byte (except (code ":")) (λ b e. or_true_left (digit b) (eqb b (code ":")) e)
-    (λ b e. or_true_right (digit b) (eqb b (code ":")) (not-false (eqb b (code ":")) e)) s h
+separated_bytes c both d s h =
+    all_parted (digit_or c) (except c) (λ b e. or_true_left (digit b) (eqb b c) e) (λ b e. or_true_right (digit b) (eqb b c) (not-false (eqb b c) e)) both d s h
 
--- it has a colon
-pub colon_needed : (s : List ℕ) → is_time s ≡ true → elem (code ":") s ≡ true
+-- a time is digits and colons
+pub time_bytes : (s : List ℕ) → is_time s ≡ true → all (digit_or (code ":")) s ≡ true
+time_bytes = separated_bytes (code ":") is_hour_minute hour_minute_digits
+
+-- a range is digits and hyphens
+pub range_bytes : (s : List ℕ) → is_range s ≡ true → all (digit_or (code "-")) s ≡ true
+range_bytes = separated_bytes (code "-") are_digits both_digits
+
+-- a fraction is digits and slashes
+pub fraction_bytes : (s : List ℕ) → is_digits_slash_digits s ≡ true → all (digit_or (code "/")) s ≡ true
+fraction_bytes = separated_bytes (code "/") are_digits both_digits
+
+-- a text that `split_once` takes has the separator
+separator_needed : (c : ℕ) (both : List ℕ → List ℕ → Bool) (s : List ℕ) → split_once c both s ≡ true → elem c s ≡ true
 unfolding split_once
-colon_needed s h =
-    let at = span (except (code ":")) s in
-    elem_span (code ":") s ∙ ((and-eq-true_iff (ltb at (length s)) (is_hour_minute (take at s) (drop (at + 1) s))).0 h).0
+separator_needed c both s h =
+    let at = span (except c) s in
+    elem_span c s ∙ ((and-eq-true_iff (ltb at (length s)) (both (take at s) (drop (at + 1) s))).0 h).0
 
 -- a byte that is a small letter after lowering is a letter; the same for all bytes of a text
 lowered_letter : (b : ℕ) → lowercase (to_lower b) ≡ true → letter b ≡ true
@@ -284,7 +303,9 @@ meridiem_parts s h =
 pub meridiem_bytes : (s : List ℕ) → is_meridiem_time s ≡ true → all meridiem_byte s ≡ true
 meridiem_bytes s h =
     let k = meridiem_parts s h in
-    all_joined meridiem_byte (length s - 2) s (all_clock meridiem_byte not_colon_or_point (λ b e. rw (e, or-true (letter b))) separator_byte (time_of s) k.1)
+    let digit_in : (b : ℕ) → digit b ≡ true → meridiem_byte b ≡ true = λ b e. rw (e, or-true (letter b)) in
+    all_joined meridiem_byte (length s - 2) s
+    (all_parted meridiem_byte not_colon_or_point digit_in separator_byte is_hour_minute hour_minute_digits (time_of s) k.1)
     (all_within letter meridiem_byte (λ b e. rw e) (drop (length s - 2) s) (meridiem_end s k.0).0)
 
 -- its last byte, lowered, is an m
@@ -390,7 +411,15 @@ module _ (p : ℕ → Bool) (s : List ℕ) (h : all p s ≡ true) where
 
   -- if it has no colon, the name is no time
   pub no_time : p (code ":") ≡ false → is_time s ≡ false
-  no_time n = needs_other (is_time s) p (code ":") s (colon_needed s) n h
+  no_time n = needs_other (is_time s) p (code ":") s (separator_needed (code ":") is_hour_minute s) n h
+
+  -- if it has no hyphen, the name is no range
+  pub no_range : p (code "-") ≡ false → is_range s ≡ false
+  no_range n = needs_other (is_range s) p (code "-") s (separator_needed (code "-") are_digits s) n h
+
+  -- if it has no slash, the name is no fraction
+  pub no_fraction : p (code "/") ≡ false → is_digits_slash_digits s ≡ false
+  no_fraction n = needs_other (is_digits_slash_digits s) p (code "/") s (separator_needed (code "/") are_digits s) n h
 
   -- if it has no colon and no point, the name is no time with am or pm
   pub no_meridiem : p (code ":") ≡ false → p (code ".") ≡ false → is_meridiem_time s ≡ false

@@ -1,11 +1,11 @@
--- Document 01, "Call sheet": the twelve rows; document 02, A1, adds a word to row 4. Definitions only.
+-- Document 01, "Call sheet": the twelve rows; document 02, A1, adds a word to row 4, and A2 the rows 5a and 5b. Definitions only.
 use Rattle.std.specs.Prelude.{Bool, true, cond, List, [], ◌∷◌, ◌++◌, map, ℕ, ◌-◌, eqb, length, take, drop, Option, Some, None}
 use Prim.Native.Char.{code}
 use Rattle.lists.specs.Bytes.{bytes, filter_if, to_lower, take_while, drop_while, same, starts_with, ends_with}
 use Rattle.lists.specs.Classes.{except}
 use Rattle.lists.specs.Recur.{recur}
 use Rattle.units.specs.Units.{unit_word}
-use Rattle.shapes.specs.Shapes.{is_dotted_abbrev, is_comma_int, is_time, is_leading_zero_digits, is_digits, is_double, is_ordinal, unit_at, has_unit, unit_part}
+use Rattle.shapes.specs.Shapes.{is_dotted_abbrev, is_comma_int, is_time, is_leading_zero_digits, is_digits, is_double, is_ordinal, is_range, is_digits_slash_digits, unit_at, has_unit, unit_part}
 use Rattle.shapes.specs.Times.{TimeParts, parts_of_time, no_parts_of_time, is_meridiem_time, time_parts}
 use Rattle.numerals.specs.Words.{Word, other}
 use Rattle.numerals.specs.Cardinal.{cardinal, digits}
@@ -13,18 +13,22 @@ use Rattle.numerals.specs.Ordinal.{ordinal}
 use Rattle.years.specs.Year.{year}
 use Rattle.reals.specs.Real.{real}
 use Rattle.letters.specs.Letters.{letters}
+use Rattle.fractions.specs.Fraction.{fraction}
 use Rattle.rows.specs.declared.Sign.{Sign}
 use Rattle.rows.specs.declared.Sign.TheVariants.{Plus, Minus}
 use Rattle.rows.specs.declared.Row.{Row}
-use Rattle.rows.specs.declared.Row.TheVariants.{Empty, Dotted, CommaInt, Time, Meridiem, LeadingZero, Digits, Figure, Ordinal, Percent, Unit, OneWord}
+use Rattle.rows.specs.declared.Row.TheVariants.{Empty, Dotted, CommaInt, Time, Meridiem, Range, Fraction, LeadingZero, Digits, Figure, Ordinal, Percent, Unit, OneWord}
 
--- the number of each row
+-- the number of each row; 02, A2: "The old rows keep their numbers; the new ones are 5a and 5b (13 and 14 where the C program
+-- gets a number)"
 abbrev pub row_number : Row → ℕ
 row_number Empty = 1
 row_number Dotted = 2
 row_number CommaInt = 3
 row_number Time = 4
 row_number Meridiem = 5
+row_number Range = 13
+row_number Fraction = 14
 row_number LeadingZero = 6
 row_number Digits = 7
 row_number (Figure g) = 8
@@ -48,6 +52,8 @@ row_sign Dotted = 0
 row_sign CommaInt = 0
 row_sign Time = 0
 row_sign Meridiem = 0
+row_sign Range = 0
+row_sign Fraction = 0
 row_sign LeadingZero = 0
 row_sign Digits = 0
 row_sign (Figure g) = sign_number g
@@ -68,12 +74,23 @@ clock hour minute = cardinal hour ++ cond (same minute (bytes "00")) [] (year mi
 unfoldable pub full_hour : List ℕ → List Word
 full_hour minute = cond (same minute (bytes "00")) (other (bytes "o'clock") ∷ []) []
 
--- the parts of a time before and after its colon
+-- the parts of a text before and after its first byte c
+abbrev pub before : ℕ → List ℕ → List ℕ
+before c s = take_while (except c) s
+
+abbrev pub after : ℕ → List ℕ → List ℕ
+after c s = drop 1 (drop_while (except c) s)
+
+-- the parts of a time
 abbrev pub hour_of : List ℕ → List ℕ
-hour_of s = take_while (except (code ":")) s
+hour_of s = before (code ":") s
 
 abbrev pub minute_of : List ℕ → List ℕ
-minute_of s = drop 1 (drop_while (except (code ":")) s)
+minute_of s = after (code ":") s
+
+-- 02, A2: "the word "to"", between the parts of a range
+abbrev pub to : Word
+to = other (bytes "to")
 
 -- "as 4, then `letters` of the meridiem"; 02, A1: "Row 5 keeps its reading", so a full hour adds nothing
 unfoldable pub clock_letters : TimeParts → List Word
@@ -117,6 +134,8 @@ rows word again s =
     ∷ is_comma_int s reads by CommaInt (cardinal s)
     ∷ is_time s reads by Time (clock (hour_of s) (minute_of s) ++ full_hour (minute_of s))
     ∷ is_meridiem_time s reads by Meridiem (clock_letters (time_parts s))
+    ∷ is_range s reads by Range ((again (before (code "-") s)).words ++ to ∷ (again (after (code "-") s)).words)
+    ∷ is_digits_slash_digits s reads by Fraction (fraction s)
     ∷ is_leading_zero_digits s reads by LeadingZero (digits s)
     ∷ is_digits s reads by Digits (cardinal s)
     ∷ is_double s reads by (Figure (sign_of s)) (real s)
