@@ -14,11 +14,11 @@ use Rattle.lists.specs.Classes.{digit}
 use Rattle.lists.proofs.Scan.{span_all, span_le, starts_with_first}
 use Rattle.lists.proofs.Bools.{or_true_elim}
 use Rattle.shapes.specs.Shapes.{is_digits, is_leading_zero_digits, strip_sign}
-use Rattle.shapes.proofs.Laws.{digits_all, digits_nonempty}
+use Rattle.shapes.proofs.Laws.{digits_all, digits_nonempty, starts_with_cons}
 use Rattle.clear.specs.Clear.{plain, OptionalMinus, no_minus, a_minus, Fraction, no_point, a_point, ExponentSign, no_sign, plus_sign, minus_sign}
 use Rattle.clear.specs.Clear.{Exponent, no_exponent, an_exponent, Number, number_digits, number_figure, Clear, clear_percent}
 use Rattle.clear.specs.Test.{is_exponent_clear, is_fraction_clear, is_figure_clear, is_number_clear, is_percent_clear}
-use Rattle.clear.proofs.Cuts.{starts_with_cons, cut_front, ends_with_snoc, snoc_ends_with, take_while_seam, drop_while_seam, span_seam, starts_with_digits, digits_alone}
+use Rattle.clear.proofs.Cuts.{cut_front, ends_with_snoc, snoc_ends_with, take_while_seam, drop_while_seam, span_seam, starts_with_digits, digits_alone}
 
 -- plain digits are digits
 pub plain_digits : (s : List ℕ) → plain s ≡ true → is_digits s ≡ true

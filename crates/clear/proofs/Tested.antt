@@ -1,36 +1,45 @@
 -- The test passes a name if and only if the definition by kinds says that it is clear. Assumes nothing.
-use mathlib.Core.Path.{◌≡◌, refl}
-use mathlib.Core.Bool.{Bool, true, false, ◌||◌, or-true}
-use mathlib.Core.List.{List}
+use mathlib.Core.Path.{◌≡◌}
+use mathlib.Core.Bool.{Bool, true, ◌||◌, or-true}
+use mathlib.Core.List.{List, ◌++◌}
 use mathlib.Core.Logic.{◌↔◌}
 use Prim.Native.Nat.{ℕ}
-use Rattle.clear.specs.Clear.{Clear, clear_number, clear_percent, clear_time, clear_meridiem, clear_ordinal, clear_unit, clear_initials, clear_word}
-use Rattle.clear.specs.Test.{is_number_clear, is_percent_clear, is_time_clear, is_meridiem_clear, is_ordinal_clear, is_unit_clear, is_initials_clear, is_word_clear, is_clear}
+use Prim.Native.Char.{code}
+use Rattle.lists.specs.Bytes.{bytes}
+use Rattle.lists.proofs.Bools.{or_true_elim}
+use Rattle.shapes.specs.Shapes.{is_digits, is_range}
+use Rattle.shapes.specs.Grammar.{SeparatedForm, separated}
+use Rattle.shapes.proofs.Grammar.{range_form}
+use Rattle.clear.specs.Clear.{Clear, clear_number, clear_percent, clear_time, clear_meridiem, clear_ordinal, clear_unit, clear_range, clear_initials, clear_word}
+use Rattle.clear.specs.Test.{is_clear}
 use Rattle.clear.proofs.Figures.{test_number, number_test, test_percent, percent_test}
 use Rattle.clear.proofs.Times.{test_time, time_test, test_meridiem, meridiem_test}
 use Rattle.clear.proofs.Suffixes.{test_ordinal, ordinal_test, test_unit, unit_test}
 use Rattle.clear.proofs.Initials.{test_initials, initials_test}
 use Rattle.clear.proofs.Words.{test_word, word_test}
 
--- the first kind whose test passes
-chain : {X : Type 0} (a b c d e f g h : Bool) → (a ≡ true → X) → (b ≡ true → X) → (c ≡ true → X) → (d ≡ true → X) → (e ≡ true → X)
-    → (f ≡ true → X) → (g ≡ true → X) → (h ≡ true → X)
-    → (a || b || c || d || e || f || g || h) ≡ true → X
-chain true b c d e f g h i j k l m n o p r = i refl
-chain false true c d e f g h i j k l m n o p r = j refl
-chain false false true d e f g h i j k l m n o p r = k refl
-chain false false false true e f g h i j k l m n o p r = l refl
-chain false false false false true f g h i j k l m n o p r = m refl
-chain false false false false false true g h i j k l m n o p r = n refl
-chain false false false false false false true h i j k l m n o p r = o refl
-chain false false false false false false false h i j k l m n o p r = p r
+-- ---- ranges
+
+test_range : (s : List ℕ) → is_range s ≡ true → Clear s
+test_range s h = go s ((range_form s).0 h)
+  where
+    go : (s : List ℕ) → SeparatedForm (code "-") s → Clear s
+    go _ (separated a b p q) = clear_range a b p q
+
+range_test : (a b : List ℕ) → is_digits a ≡ true → is_digits b ≡ true → is_range (a ++ (bytes "-" ++ b)) ≡ true
+range_test a b p q = (range_form (a ++ (bytes "-" ++ b))).1 (separated a b p q)
+
+-- ---- all kinds
 
 -- a name that passes the test is clear
 pub test_clear : (s : List ℕ) → is_clear s ≡ true → Clear s
 unfolding is_clear
 test_clear s =
-    chain (is_number_clear s) (is_percent_clear s) (is_time_clear s) (is_meridiem_clear s) (is_ordinal_clear s) (is_unit_clear s) (is_initials_clear s) (is_word_clear s)
-    (λ h. clear_number s (test_number s h)) (test_percent s) (test_time s) (test_meridiem s) (test_ordinal s) (test_unit s) (test_initials s) (test_word s)
+    either (either (either (either (either (either (either (either (λ h. clear_number s (test_number s h)) (test_percent s)) (test_time s))
+    (test_meridiem s)) (test_ordinal s)) (test_unit s)) (test_range s)) (test_initials s)) (test_word s)
+  where
+    either : {a b : Bool} → (a ≡ true → Clear s) → (b ≡ true → Clear s) → (a || b) ≡ true → Clear s
+    either {a} {b} = or_true_elim a b
 
 -- a clear name passes the test
 pub clear_test : (s : List ℕ) → Clear s → is_clear s ≡ true
@@ -41,6 +50,7 @@ clear_test s (clear_time h m p q) = rw (time_test h m p q, or-true)
 clear_test s (clear_meridiem h m x p q r) = rw (meridiem_test h m x p q r, or-true)
 clear_test s (clear_ordinal t h) = rw (ordinal_test t h, or-true)
 clear_test s (clear_unit t k h l w) = rw (unit_test t k h l w, or-true)
+clear_test s (clear_range a b p q) = rw (range_test a b p q, or-true)
 clear_test s (clear_initials c d cs h) = rw (initials_test c d cs h, or-true)
 clear_test s (clear_word t h a n c o) = rw (word_test t h a n, or-true)
 

@@ -1,5 +1,5 @@
--- Document 01, "Clear entries", with the full hours of document 02, A1: clear names, kind by kind, in the paper's order.
--- Definitions only.
+-- Document 01, "Clear entries", with the full hours of document 02, A1, and the ranges of A2: clear names, kind by kind, in the
+-- paper's order. Definitions only.
 use Rattle.std.specs.Prelude.{◌≡◌, Bool, true, false, cond, not, ◌&&◌, List, [], ◌∷◌, ◌++◌, map, ℕ, ◌-◌, ◌≤◌, ◌<◌, leb, ltb, eqb, length, get_or}
 use Prim.Native.Char.{code}
 use Rattle.lists.specs.Bytes.{bytes, all, listed, uppercase, lowercase}
@@ -90,6 +90,8 @@ pub data Clear : List ℕ → Type 0 where
   clear_ordinal : (s : List ℕ) → plain s ≡ true → Clear (s ++ suffix s)
   -- "plain digits with the first abbreviation of a unit word in table order": row k is the first with its word
   clear_unit : (s : List ℕ) (k : ℕ) → plain s ≡ true → k < length unit_words → index_of (get_or unit_words k []) unit_words ≡ k → Clear (s ++ get_or abbreviations k [])
+  -- 02, A2: "Ranges join the clear entries": "digits, hyphen, digits"
+  clear_range : (a b : List ℕ) → is_digits a ≡ true → is_digits b ≡ true → Clear (a ++ (bytes "-" ++ b))
   -- "two or more capitals with single dots between"
   clear_initials : (c d : ℕ) (cs : List ℕ) → all uppercase (c ∷ d ∷ cs) ≡ true → Clear (dotted_initials c (d ∷ cs))
   -- "two or more letters a to z, other than the words of the tables in numbers.rs and any word that alone is an answer of

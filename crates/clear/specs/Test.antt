@@ -5,7 +5,7 @@ use Prim.Native.Char.{code}
 use Rattle.lists.specs.Bytes.{bytes, all, span, same, uppercase, lowercase, starts_with, ends_with, strip_prefix, take_while, drop_while, listed}
 use Rattle.lists.specs.Classes.{digit, except}
 use Rattle.units.specs.Units.{unit_words, index_of, unit_index, is_unit, unit_word}
-use Rattle.shapes.specs.Shapes.{is_digits, strip_sign, is_time, is_dotted_abbrev, unit_at}
+use Rattle.shapes.specs.Shapes.{is_digits, strip_sign, is_time, is_dotted_abbrev, is_range, unit_at}
 use Rattle.clear.specs.Clear.{plain, suffix, table_words}
 
 -- what may follow the digits of a figure: an exponent, or nothing
@@ -64,5 +64,5 @@ is_word_clear s = leb 2 (length s) && all lowercase s && not (listed s table_wor
 
 unfoldable pub is_clear : List ℕ → Bool
 is_clear s =
-    is_number_clear s || is_percent_clear s || is_time_clear s || is_meridiem_clear s || is_ordinal_clear s || is_unit_clear s || is_initials_clear s
-    || is_word_clear s
+    is_number_clear s || is_percent_clear s || is_time_clear s || is_meridiem_clear s || is_ordinal_clear s || is_unit_clear s || is_range s
+    || is_initials_clear s || is_word_clear s

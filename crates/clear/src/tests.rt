@@ -11,7 +11,7 @@ use lists::{
     Byte, ByteClass, Digit, Not, all, back, ends_with, equal, front, last_end, span, starts_with,
     strip_prefix, tail, without_back,
 };
-use shapes::{is_digits, is_dotted_abbrev, is_leading_zero_digits, is_time, strip_sign};
+use shapes::{is_digits, is_dotted_abbrev, is_leading_zero_digits, is_range, is_time, strip_sign};
 use units::{unit_index, word_number};
 use vocabulary::{HUNDRED, ONES, ORDINAL, word};
 
@@ -183,6 +183,7 @@ pub fn is_clear_name(s: &[u8]) -> bool
         | is_meridiem_clear(s)
         | is_ordinal_clear(s)
         | is_unit_clear(s)
+        | is_range(s)
         | is_initials_clear(s)
         | is_word_clear(s)
 }

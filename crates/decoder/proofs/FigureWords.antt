@@ -70,6 +70,10 @@ e_is : SymbolWord (other (bytes "e")) (code "e")
 unfolding unfold_decoder
 e_is = record { figure = record { parsed = refl; ending = refl }; byte = refl; some = refl; large = refl }
 
+to_is : SymbolWord to (code "-")
+unfolding unfold_decoder
+to_is = record { figure = record { parsed = refl; ending = refl }; byte = refl; some = refl; large = refl }
+
 -- ---- symbols, each with the digits after it
 
 -- a text that is empty or starts with a symbol, and its words

@@ -65,13 +65,14 @@ two_ones (w ∷ v ∷ ws) = is_one w && is_one v
 unfoldable pub decode_digits : List Word → List ℕ
 decode_digits ws = digit_bytes (cond (two_ones ws) (map digit_of ws) (decimal_digits 11 (words_value ws) []))
 
--- ---- numbers with sign, point and exponent
+-- ---- numbers with sign, point and exponent, and ranges
 
--- the byte that a word between digits stands for: a sign, a point or an "e"; 0 if it stands for none
+-- the byte that a word between digits stands for: a sign, a point, an "e" or the hyphen of a range; 0 if it stands for none
 abbrev pub symbol_in : List ℕ → ℕ
 symbol_in w =
     cond (same w (bytes "minus")) (code "-")
-    (cond (same w (bytes "plus")) (code "+") (cond (same w (bytes "point")) (code ".") (cond (same w (bytes "e")) (code "e") 0)))
+    (cond (same w (bytes "plus")) (code "+") (cond (same w (bytes "point")) (code ".") (cond (same w (bytes "e")) (code "e")
+    (cond (same w (bytes "to")) (code "-") 0))))
 
 unfoldable pub symbol_byte : Word → ℕ
 symbol_byte (one d) = 0
