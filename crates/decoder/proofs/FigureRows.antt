@@ -2,30 +2,32 @@
 use mathlib.Core.Path.{◌≡◌, refl, sym, ◌∙◌}
 use mathlib.Core.Bool.{Bool, true, false, cond, not, ◌&&◌, and-false, true≢false, false≢true, and-eq-true_iff}
 use mathlib.Core.List.{List, [], ◌∷◌, ◌++◌, append-nil}
-use Prim.Native.Nat.{ℕ, ◌+◌, ◌-◌, ◌<◌}
+use Prim.Native.Nat.{ℕ, suc, ◌+◌, ◌-◌, ◌<◌}
 use Prim.Native.Char.{code}
 use native.Mathlib.Omega.{arith}
-use lib.Dec.{ltb}
+use lib.Dec.{ltb, eqb}
 use lib.ListN.{length, get_or}
 use lib.Seq.{drop-append_seam}
-use borrow.Author.Tests.{not-true}
+use borrow.Author.Tests.{not-true, ne_eqb}
 use Rattle.lists.specs.Bytes.{all, span, starts_with, uppercase, to_lower}
 use Rattle.lists.specs.Classes.{digit, letter}
 use Rattle.lists.proofs.Scan.{all_append, all_at, starts_with_first}
-use Rattle.shapes.specs.Shapes.{is_digits, is_leading_zero_digits, is_exponent, is_unsigned, is_double}
+use Rattle.shapes.specs.Shapes.{is_digits, is_range, is_digits_slash_digits, is_leading_zero_digits, is_exponent, is_unsigned, is_double}
+use Rattle.shapes.specs.Grammar.{SeparatedForm, separated}
+use Rattle.shapes.proofs.Grammar.{range_form}
 use Rattle.shapes.specs.Times.{is_meridiem_time}
 use Rattle.shapes.proofs.Laws.{digits_all, digits_some, digits_nonempty}
 use Rattle.numerals.specs.Cardinal.{cardinal, digits}
 use Rattle.reals.specs.Real.{real}
 use Rattle.rows.specs.Rows.{read_step, read_with}
 use Rattle.rows.proofs.Laws.{step_eq}
-use Rattle.rows.proofs.Taken.{digit_no_letter, untaken, double_byte, meridiem_last, double_bytes, PastTimes, past_times}
+use Rattle.rows.proofs.Taken.{digit_no_letter, untaken, double_byte, meridiem_last, double_bytes, no_fraction, PastTimes, past_times}
 use Rattle.clear.specs.Clear.{plain, OptionalMinus, no_minus, a_minus, Fraction, no_point, a_point, Exponent, no_exponent, an_exponent}
 use Rattle.clear.proofs.Figures.{plain_digits, strip_sign_lem, exponent_front, exponent_point}
 use Rattle.clear.proofs.Cuts.{span_seam, starts_with_digits}
 use Rattle.decoder.proofs.Real.{real_digits, minus_words, fraction_words, exponent_words, real_figure}
 
--- ---- rows 1 to 5 take no such name
+-- ---- rows 1 to 5b take no such name
 
 -- a byte of a figure is no m
 not_m : (b : ℕ) → double_byte b ≡ true → to_lower b ≡ code "m" → ⊥
@@ -35,7 +37,35 @@ not_m b h = go (uppercase b)
     go true e = let z : b ≡ code "M" = omega arith in false≢true (rw z at h)
     go false e = false≢true (rw e at h)
 
-module _ (s : List ℕ) (z : 0 < length s) (l : letter (get_or s 0 0) ≡ false) (h : all double_byte s ≡ true) where
+-- digits with a hyphen after them are no figure
+hyphen_no_double : (a b : List ℕ) → is_digits a ≡ true → is_double (a ++ (code "-" ∷ b)) ≡ false
+unfolding is_unsigned is_exponent span
+hyphen_no_double a b h =
+    rw (
+      starts_with_digits (code "-") a (code "-" ∷ b) refl h,
+      span_seam digit a (code "-" ∷ b) (digits_all a h) refl,
+      drop-append_seam a (code "-" ∷ b),
+      ne_eqb (suc (length b)) 0 (omega arith),
+    )
+    (and-false (not (eqb (length a) 0)))
+
+-- so a figure is no range
+double_no_range : (s : List ℕ) → is_double s ≡ true → is_range s ≡ false
+double_no_range s d = untaken (is_range s) (λ e. go s d ((range_form s).0 e))
+  where
+    go : (s : List ℕ) → is_double s ≡ true → SeparatedForm (code "-") s → ⊥
+    go _ d (separated a b p q) = false≢true (sym (hyphen_no_double a b p) ∙ d)
+
+module _ (s : List ℕ) (z : 0 < length s) (l : letter (get_or s 0 0) ≡ false) (d : is_double s ≡ true) where
+  h : all double_byte s ≡ true
+  h = double_bytes s d
+
+  not_range : is_range s ≡ false
+  not_range = double_no_range s d
+
+  not_fraction : is_digits_slash_digits s ≡ false
+  not_fraction = no_fraction double_byte s h refl
+
   not_meridiem : is_meridiem_time s ≡ false
   not_meridiem = untaken (is_meridiem_time s) (λ e. not_m (get_or s (length s - 1) 0) (all_at double_byte 0 s (length s - 1) h (omega arith)) (meridiem_last s e))
 
@@ -45,16 +75,16 @@ module _ (s : List ℕ) (z : 0 < length s) (l : letter (get_or s 0 0) ≡ false)
   -- row 6 reads it if it has a leading zero
   read_leading : (word : List ℕ → List ℕ) → is_leading_zero_digits s ≡ true → (read_with word s).words ≡ digits s
   unfolding read_step
-  read_leading word e = rw (step_eq word s, past.dotted, past.comma, past.time, past.meridiem, e, past.empty)
+  read_leading word e = rw (step_eq word s, past.dotted, past.comma, past.time, past.meridiem, not_range, not_fraction, e, past.empty)
 
   -- else row 7 or row 8 reads it; both say what `real` says
-  read_real : (word : List ℕ → List ℕ) → is_leading_zero_digits s ≡ false → is_double s ≡ true → (read_with word s).words ≡ real s
+  read_real : (word : List ℕ → List ℕ) → is_leading_zero_digits s ≡ false → (read_with word s).words ≡ real s
   unfolding read_step
-  read_real word e d = go (is_digits s) refl
+  read_real word e = go (is_digits s) refl
     where
       go : (t : Bool) → is_digits s ≡ t → (read_with word s).words ≡ real s
-      go true k = rw (step_eq word s, past.dotted, past.comma, past.time, past.meridiem, e, k, past.empty) (sym (real_digits s k))
-      go false k = rw (step_eq word s, past.dotted, past.comma, past.time, past.meridiem, e, k, d, past.empty)
+      go true k = rw (step_eq word s, past.dotted, past.comma, past.time, past.meridiem, not_range, not_fraction, e, k, past.empty) (sym (real_digits s k))
+      go false k = rw (step_eq word s, past.dotted, past.comma, past.time, past.meridiem, not_range, not_fraction, e, k, d, past.empty)
 
 -- ---- a figure is a double
 
@@ -117,7 +147,11 @@ figure_read word {m} {f} {x} p a h t e =
     let k = plain_digits a h in
     let d = figure_double p a k t e in
     let o = figure_front p a (f ++ x) k in
-    read_real s o.0 o.1 (double_bytes s d) word (figure_leading p a h t e) d ∙ real_figure p a k t e
+    read_real s o.0 o.1 d word (figure_leading p a h t e) ∙ real_figure p a k t e
+
+-- plain digits are read as a cardinal number
+pub plain_read : (word : List ℕ → List ℕ) (s : List ℕ) → plain s ≡ true → (read_with word s).words ≡ cardinal s
+plain_read word s h = rw (append-nil s, append-nil (cardinal s)) at (figure_read word no_minus s h no_point no_exponent)
 
 -- digits with a leading zero are read one by one
 pub leading_read : (word : List ℕ → List ℕ) (s : List ℕ) → is_leading_zero_digits s ≡ true → (read_with word s).words ≡ digits s
@@ -125,4 +159,4 @@ leading_read word s h =
     let k = ((and-eq-true_iff (ltb 1 (length s) && starts_with (code "0") s) (is_digits s)).0 h).1 in
     let d : is_double s ≡ true = rw (append-nil s) at (figure_double no_minus s k no_point no_exponent) in
     let o = figure_front no_minus s [] k in
-    read_leading s (digits_some s k) (rw (append-nil s) at o.1) (double_bytes s d) word h
+    read_leading s (digits_some s k) (rw (append-nil s) at o.1) d word h

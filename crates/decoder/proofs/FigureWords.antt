@@ -1,24 +1,29 @@
 -- The words of a figure are decoded as the figure, from the right, one symbol with the digits after it at a time.
 -- Assumes nothing.
 use mathlib.Core.Path.{◌≡◌, refl, ap, ◌∙◌}
-use mathlib.Core.Bool.{Bool, true, false, not, ◌&&◌}
+use mathlib.Core.Bool.{Bool, true, false, not, ◌&&◌, and-eq-true_iff}
 use mathlib.Core.List.{List, [], ◌∷◌, ◌++◌, map, append-nil}
-use Prim.Native.Nat.{ℕ}
+use Prim.Native.Nat.{ℕ, ◌<◌}
 use Prim.Native.Char.{code}
+use native.Mathlib.Omega.{arith}
 use lib.Dec.{ltb, eqb}
-use Rattle.lists.specs.Bytes.{bytes, all, same, Every, listed, any}
+use lib.ListN.{length, length-map}
+use Rattle.lists.specs.Bytes.{bytes, all, same, Every, listed, any, starts_with}
 use Rattle.lists.proofs.Every.{every_append, every_imply}
 use Rattle.vocabulary.specs.Vocabulary.{ordinals}
 use Rattle.vocabulary.proofs.Laws.{unfold_vocabulary}
 use Rattle.units.specs.Units.{unit_abbreviations, unit_words, index_of}
-use Rattle.shapes.specs.Shapes.{is_digits}
-use Rattle.numerals.specs.Words.{Word, other, spell, consecutive_words, number_words}
+use Rattle.shapes.specs.Shapes.{is_digits, is_leading_zero_digits}
+use Rattle.shapes.proofs.Laws.{digits_some}
+use Rattle.numerals.specs.Words.{Word, one, other, spell, consecutive_words, number_words}
 use Rattle.numerals.specs.Cardinal.{digit_values, cardinal, digits}
+use Rattle.rows.specs.Rows.{to}
 use Rattle.clear.specs.Clear.{plain, table_words, Fraction, no_point, a_point, no_sign, plus_sign, minus_sign, Exponent, no_exponent, an_exponent}
-use Rattle.decoder.specs.Decode.{parse_word_in, parse_word, digit_bytes, digit_of, symbol_byte, value_below_hundred, decode_after_symbol, decode_from_right, decode_figure}
-use Rattle.decoder.proofs.DecimalDigits.{digit_bytes_digit_values}
+use Rattle.decoder.specs.Decode.{parse_word_in, parse_word, digit_bytes, digit_of, symbol_byte, value_below_hundred, decode_digits, decode_after_symbol, decode_from_right, decode_figure}
+use Rattle.decoder.proofs.DecimalDigits.{digit_bytes_digit_values, digit_values_length}
 use Rattle.numerals.proofs.NumberWords.{NumberWord, number_word_test, cardinal_number_words, digits_number_words}
-use Rattle.decoder.proofs.NumberWords.{number_word_parsed, digits_back, plain_some, decode_plain}
+use Rattle.decoder.proofs.NumberWords.{number_word_parsed, digits_back, plain_some, decode_plain, decode_leading}
+use Rattle.decoder.proofs.NotTime.{NotTime, cardinal_not_time, digits_not_time}
 use Rattle.decoder.proofs.Real.{fraction_words, exponent_words}
 
 -- ---- words that a figure may have
@@ -70,7 +75,7 @@ e_is : SymbolWord (other (bytes "e")) (code "e")
 unfolding unfold_decoder
 e_is = record { figure = record { parsed = refl; ending = refl }; byte = refl; some = refl; large = refl }
 
-to_is : SymbolWord to (code "-")
+pub to_is : SymbolWord to (code "-")
 unfolding unfold_decoder
 to_is = record { figure = record { parsed = refl; ending = refl }; byte = refl; some = refl; large = refl }
 
@@ -106,14 +111,40 @@ tail_figure_words (symbol_part w c a d {t} {r} s n h k) =
 
 -- ---- digits after a symbol
 
-plain_after : (c : ℕ) (s : List ℕ) → eqb c (code ".") ≡ false → plain s ≡ true → decode_after_symbol c (cardinal s) ≡ s
-unfolding decode_after_symbol
-plain_after c s n h = let p = plain_some s h in rw p.2 (rw (n, ← p.2) (decode_plain s h))
+-- the words ws are those of a number, and are decoded as the digits s
+pub record DigitsDecoded (s : List ℕ) (ws : List Word) : Type 0 where
+  pub some : 0 < length ws
+  pub numbers : Every NumberWord ws
+  pub not_time : NotTime ws
+  pub decoded : decode_digits ws ≡ s
 
--- a symbol and plain digits may stand before other symbols
-pub plain_part : {w : Word} {c : ℕ} → SymbolWord w c → eqb c (code ".") ≡ false → (x : List ℕ) → plain x ≡ true → {t : List ℕ} {r : List Word}
-    → SymbolTail t r → SymbolTail (c ∷ (x ++ t)) (w ∷ (cardinal x ++ r))
-plain_part {w} {c} s n x h k = symbol_part w c (cardinal x) x s (cardinal_number_words x) (plain_after c x n h) k
+-- plain digits are decoded from their cardinal number
+pub plain_words : (s : List ℕ) → plain s ≡ true → DigitsDecoded s (cardinal s)
+plain_words s h =
+    let k = plain_some s h in
+    record { some = rw k.2 (omega arith); numbers = cardinal_number_words s; not_time = cardinal_not_time s; decoded = decode_plain s h }
+
+-- digits with a leading zero are decoded from their words, one by one
+pub leading_words : (s : List ℕ) → is_leading_zero_digits s ≡ true → DigitsDecoded s (digits s)
+unfolding digits
+leading_words s h =
+    let k = ((and-eq-true_iff (ltb 1 (length s) && starts_with (code "0") s) (is_digits s)).0 h).1 in
+    record {
+      some = omega (arith, length-map (digit_values s) one, digit_values_length s k, digits_some s k);
+      numbers = digits_number_words s;
+      not_time = digits_not_time s;
+      decoded = decode_leading s h;
+    }
+
+digits_after : (c : ℕ) (ws : List Word) (s : List ℕ) → eqb c (code ".") ≡ false → 0 < length ws → decode_digits ws ≡ s → decode_after_symbol c ws ≡ s
+unfolding decode_after_symbol
+digits_after c [] s n z e = absurd (omega arith)
+digits_after c (w ∷ ws) s n z e = rw n e
+
+-- a symbol and digits may stand before other symbols
+pub digits_part : {w : Word} {c : ℕ} → SymbolWord w c → eqb c (code ".") ≡ false → {x : List ℕ} {ws : List Word} → DigitsDecoded x ws
+    → {t : List ℕ} {r : List Word} → SymbolTail t r → SymbolTail (c ∷ (x ++ t)) (w ∷ (ws ++ r))
+digits_part {w} {c} s n {x} {ws} d k = symbol_part w c ws x s d.numbers (digits_after c ws x n d.some d.decoded) k
 
 point_after : (s : List ℕ) → is_digits s ≡ true → decode_after_symbol (code ".") (digits s) ≡ s
 unfolding decode_after_symbol digit_bytes digits
@@ -128,9 +159,9 @@ point_after s h = go (digits s) (ap digit_bytes (digits_back (digit_values s)) �
 exponent_tail : {x t : List ℕ} {r : List Word} (e : Exponent x) → SymbolTail t r → SymbolTail (x ++ t) (exponent_words e ++ r)
 unfolding decode_after_symbol
 exponent_tail no_exponent k = k
-exponent_tail (an_exponent g x no_sign h) k = plain_part e_is refl x h k
-exponent_tail (an_exponent g x plus_sign h) k = symbol_part (other (bytes "e")) (code "e") [] [] e_is tt refl (plain_part plus_is refl x h k)
-exponent_tail (an_exponent g x minus_sign h) k = symbol_part (other (bytes "e")) (code "e") [] [] e_is tt refl (plain_part minus_is refl x h k)
+exponent_tail (an_exponent g x no_sign h) k = digits_part e_is refl (plain_words x h) k
+exponent_tail (an_exponent g x plus_sign h) k = symbol_part (other (bytes "e")) (code "e") [] [] e_is tt refl (digits_part plus_is refl (plain_words x h) k)
+exponent_tail (an_exponent g x minus_sign h) k = symbol_part (other (bytes "e")) (code "e") [] [] e_is tt refl (digits_part minus_is refl (plain_words x h) k)
 
 fraction_tail : {f t : List ℕ} {r : List Word} (d : Fraction f) → SymbolTail t r → SymbolTail (f ++ t) (fraction_words d ++ r)
 fraction_tail no_point k = k

@@ -1,4 +1,4 @@
--- Numbers, also with a percent sign, are decoded. Assumes nothing.
+-- Numbers, also with a percent sign, and ranges are decoded. Assumes nothing.
 use mathlib.Core.Path.{◌≡◌, refl, ap, ◌∙◌}
 use mathlib.Core.Bool.{Bool, true, false, not, ◌&&◌, ◌||◌, and-eq-true_iff}
 use mathlib.Core.List.{List, [], ◌∷◌, ◌++◌, map, append-nil}
@@ -9,29 +9,28 @@ use lib.Dec.{ltb}
 use lib.ListN.{length, length-append, length-map, get_or-append}
 use lib.Seq.{append_snoc}
 use borrow.Author.Tests.{not-true, not-false}
-use Rattle.lists.specs.Bytes.{bytes, all, same, same_by, starts_with, Every, listed}
+use Rattle.lists.specs.Bytes.{bytes, all, same, same_by, Every, listed}
 use Rattle.lists.proofs.Every.{every_append, every_map, every_imply, every_at}
 use Rattle.vocabulary.specs.Vocabulary.{ordinals}
 use Rattle.units.specs.Units.{unit_words}
 use Rattle.shapes.specs.Shapes.{is_digits, is_leading_zero_digits}
-use Rattle.shapes.proofs.Laws.{digits_some}
-use Rattle.numerals.specs.Words.{Word, one, other, spell, spelled}
-use Rattle.numerals.specs.Cardinal.{digit_values, cardinal, digits}
+use Rattle.numerals.specs.Words.{Word, other, spell, spelled}
+use Rattle.numerals.specs.Cardinal.{cardinal}
 use Rattle.numerals.proofs.Digits.{spelled_append}
-use Rattle.rows.specs.Rows.{read_with, per_cent}
+use Rattle.rows.specs.Rows.{read_with, per_cent, to}
 use Rattle.rows.proofs.Percent.{percent_with}
+use Rattle.rows.proofs.Ranges.{range_row}
 use Rattle.clear.proofs.Cuts.{cut_front, snoc_ends_with}
-use Rattle.clear.specs.Clear.{plain, table_words, OptionalMinus, no_minus, a_minus, Fraction, no_point, Exponent, no_exponent, Number, number_digits, number_figure}
-use Rattle.decoder.specs.Decode.{parse_word, parse_words, first_word, last_word, value_below_hundred, time_like, decode_digits, decode_after_symbol, decode_figure, is_letter_word, is_one_word_name, decode, is_below_hundred}
+use Rattle.clear.specs.Clear.{plain, table_words, OptionalMinus, no_minus, a_minus, Fraction, Exponent, Number, number_digits, number_figure}
+use Rattle.decoder.specs.Decode.{parse_word, parse_words, first_word, last_word, value_below_hundred, time_like, decode_after_symbol, decode_figure, is_letter_word, is_one_word_name, decode, is_below_hundred}
 use Rattle.decoder.proofs.Decoded.{DecodedWith}
-use Rattle.decoder.proofs.DecimalDigits.{digit_values_length}
-use Rattle.numerals.proofs.NumberWords.{NumberWord, number_word_test, cardinal_number_words, digits_number_words}
-use Rattle.decoder.proofs.NumberWords.{every_parsed, plain_some, decode_plain, decode_leading}
+use Rattle.numerals.proofs.NumberWords.{NumberWord, number_word_test}
+use Rattle.decoder.proofs.NumberWords.{every_parsed, plain_some}
 use Rattle.decoder.proofs.Dispatch.{last_word_lem, but_last_lem, not_one_word, number_word_no_letter, decoded}
 use Rattle.decoder.proofs.Real.{minus_words}
-use Rattle.decoder.proofs.FigureWords.{FigureWord, is_figure_end, unfold_decoder, number_word_figure, minus_is, SymbolTail, no_tail, symbol_part, front_decoded, tail_figure_words, plain_part, figure_tail}
-use Rattle.decoder.proofs.FigureRows.{figure_read, leading_read}
-use Rattle.decoder.proofs.NotTime.{NotTime, large_not_time, cardinal_not_time, digits_not_time}
+use Rattle.decoder.proofs.FigureWords.{FigureWord, is_figure_end, unfold_decoder, number_word_figure, minus_is, to_is, SymbolTail, no_tail, symbol_part, front_decoded, tail_figure_words, DigitsDecoded, plain_words, leading_words, digits_part, figure_tail}
+use Rattle.decoder.proofs.FigureRows.{figure_read, plain_read, leading_read}
+use Rattle.decoder.proofs.NotTime.{NotTime, large_not_time}
 
 -- ---- what holds of the words of a number
 
@@ -63,18 +62,20 @@ not_time_not_one_word w [] n o =
 not_time_not_one_word w (x ∷ v) n o = not_one_word (spelled (w ∷ x ∷ v)) (omega arith)
 
 -- words of numbers with symbols after them are decoded
-front_number : (a : List Word) (s : List ℕ) {t : List ℕ} {r : List Word} → 0 < length a → Every NumberWord a → NotTime a → decode_digits a ≡ s
-    → SymbolTail t r → NumberDecoded (s ++ t) (a ++ r)
+front_number : {s : List ℕ} (a : List Word) → DigitsDecoded s a → {t : List ℕ} {r : List Word} → SymbolTail t r → NumberDecoded (s ++ t) (a ++ r)
 unfolding spelled decode_after_symbol
-front_number [] s z n o e k = absurd (omega arith)
-front_number (w ∷ a) s {t} {r} z n o e k = record {
-  some = omega arith;
-  figure = every_append FigureWord (w ∷ a) r (every_imply NumberWord FigureWord number_word_figure (w ∷ a) n) (tail_figure_words k);
-  first = number_word_no_letter w n.0;
-  not_one_word = not_time_not_one_word w (a ++ r) n.0 (tail_not_time (w ∷ a) (omega arith) o k);
-  not_time_like = (tail_not_time (w ∷ a) (omega arith) o k).not_time_like;
-  decoded = front_decoded (w ∷ a) n k ∙ ap (λ (x : List ℕ). x ++ t) e;
-}
+front_number [] d k = absurd (omega (arith, d.some))
+front_number (w ∷ a) d {t} {r} k =
+    let n = d.numbers in
+    let o = tail_not_time (w ∷ a) (omega arith) d.not_time k in
+    record {
+      some = omega arith;
+      figure = every_append FigureWord (w ∷ a) r (every_imply NumberWord FigureWord number_word_figure (w ∷ a) n) (tail_figure_words k);
+      first = number_word_no_letter w n.0;
+      not_one_word = not_time_not_one_word w (a ++ r) n.0 o;
+      not_time_like = o.not_time_like;
+      decoded = front_decoded (w ∷ a) n k ∙ ap (λ (x : List ℕ). x ++ t) d.decoded;
+    }
 
 -- plain digits with or without a minus before them, and with symbols after them
 plain_number : {m : List ℕ} (p : OptionalMinus m) (a : List ℕ) → plain a ≡ true → {t : List ℕ} {r : List Word} → SymbolTail t r
@@ -83,11 +84,11 @@ unfolding spelled spell decode_after_symbol same_by
 plain_number p a h {t} {r} k = let e = plain_some a h in go p (rw e.2 (omega arith))
   where
     go : {m : List ℕ} (p : OptionalMinus m) → 0 < length (cardinal a) → NumberDecoded (m ++ (a ++ t)) (minus_words p ++ (cardinal a ++ r))
-    go no_minus z = front_number (cardinal a) a z (cardinal_number_words a) (cardinal_not_time a) (decode_plain a h) k
+    go no_minus z = front_number (cardinal a) (plain_words a h) k
     go a_minus z =
         let w = other (bytes "minus") in
         let l = length-append (cardinal a) r in
-        let j : SymbolTail (code "-" ∷ (a ++ t)) (w ∷ (cardinal a ++ r)) = plain_part minus_is refl a h k in
+        let j : SymbolTail (code "-" ∷ (a ++ t)) (w ∷ (cardinal a ++ r)) = digits_part minus_is refl (plain_words a h) k in
         record {
           some = omega arith;
           figure = tail_figure_words j;
@@ -97,12 +98,13 @@ plain_number p a h {t} {r} k = let e = plain_some a h in go p (rw e.2 (omega ari
           decoded = front_decoded [] tt j;
         }
 
-leading_number : (s : List ℕ) → is_leading_zero_digits s ≡ true → NumberDecoded s (digits s)
-unfolding digits
-leading_number s h =
-    let k = ((and-eq-true_iff (ltb 1 (length s) && starts_with (code "0") s) (is_digits s)).0 h).1 in
-    let z : 0 < length (digits s) = omega (arith, length-map (digit_values s) one, digit_values_length s k, digits_some s k) in
-    rw (append-nil s, append-nil (digits s)) at (front_number (digits s) s z (digits_number_words s) (digits_not_time s) (decode_leading s h) no_tail)
+-- digits are decoded, with or without a leading zero
+digits_words : (word : List ℕ → List ℕ) (s : List ℕ) → is_digits s ≡ true → DigitsDecoded s (read_with word s).words
+digits_words word s h = go (is_leading_zero_digits s) refl
+  where
+    go : (b : Bool) → is_leading_zero_digits s ≡ b → DigitsDecoded s (read_with word s).words
+    go true e = rw (leading_read word s e) (leading_words s e)
+    go false e = let k : plain s ≡ true = rw (e, h) in rw (plain_read word s k) (plain_words s k)
 
 figure_number_decoded : (word : List ℕ → List ℕ) {m f x : List ℕ} → OptionalMinus m → (a : List ℕ) → plain a ≡ true → Fraction f → Exponent x
     → NumberDecoded (m ++ (a ++ (f ++ x))) (read_with word (m ++ (a ++ (f ++ x)))).words
@@ -110,11 +112,17 @@ figure_number_decoded word p a h t e = rw (figure_read word p a h t e) (plain_nu
 
 number_words_decoded : (word : List ℕ → List ℕ) (s : List ℕ) → Number s → NumberDecoded s (read_with word s).words
 number_words_decoded word n (number_figure m a f x p h t e) = figure_number_decoded word p a h t e
-number_words_decoded word n (number_digits s h) = go (is_leading_zero_digits s) refl
-  where
-    go : (b : Bool) → is_leading_zero_digits s ≡ b → NumberDecoded s (read_with word s).words
-    go true e = rw (leading_read word s e) (leading_number s e)
-    go false e = let k : plain s ≡ true = rw (e, h) in rw (append-nil s) at (figure_number_decoded word no_minus s k no_point no_exponent)
+number_words_decoded word n (number_digits s h) =
+    let ws = (read_with word s).words in
+    rw (append-nil s, append-nil ws) at (front_number ws (digits_words word s h) no_tail)
+
+-- a range is read as the words of its parts
+range_words_decoded : (word : List ℕ → List ℕ) (a b : List ℕ) → is_digits a ≡ true → is_digits b ≡ true
+    → NumberDecoded (a ++ (bytes "-" ++ b)) ((read_with word a).words ++ to ∷ (read_with word b).words)
+range_words_decoded word a b p q =
+    let ws = (read_with word a).words in
+    let vs = (read_with word b).words in
+    rw (append-nil b, append-nil vs) at (front_number ws (digits_words word a p) (digits_part to_is refl (digits_words word b q) no_tail))
 
 -- ---- how `decode` decodes these words
 
@@ -170,6 +178,12 @@ module _ {s : List ℕ} {ws : List Word} (o : NumberDecoded s ws) where
 -- a number is decoded
 pub number_decoded : {word : List ℕ → List ℕ} (s : List ℕ) → Number s → DecodedWith word s
 number_decoded {word} s n = record { decoded = decode_number (number_words_decoded word s n) }
+
+-- so is a range
+pub range_decoded : {word : List ℕ → List ℕ} (a b : List ℕ) → is_digits a ≡ true → is_digits b ≡ true → DecodedWith word (a ++ (bytes "-" ++ b))
+range_decoded {word} a b p q =
+    decoded (a ++ (bytes "-" ++ b)) ((read_with word a).words ++ to ∷ (read_with word b).words) (ap (λ r. r.words) (range_row word a b p q))
+    (decode_number (range_words_decoded word a b p q))
 
 percent_words : (word : List ℕ → List ℕ) (s : List ℕ) → (read_with word (s ++ bytes "%")).words ≡ (read_with word s).words ++ per_cent
 percent_words word s = rw (percent_with word (s ++ bytes "%") (snoc_ends_with (code "%") s), cut_front s (bytes "%") 1 refl)

@@ -18,7 +18,7 @@ use Rattle.numerals.specs.Words.{other, spell, spelled}
 use Rattle.rows.specs.Rows.{read_step, read_with, by}
 use Rattle.rows.specs.declared.Row.TheVariants.{OneWord}
 use Rattle.rows.proofs.Laws.{step_eq}
-use Rattle.rows.proofs.Taken.{untaken, no_comma, no_time, no_meridiem, no_ending}
+use Rattle.rows.proofs.Taken.{untaken, no_comma, no_time, no_meridiem, no_range, no_fraction, no_ending}
 use Rattle.clear.specs.Clear.{table_words}
 use Rattle.decoder.specs.Decode.{decode}
 use Rattle.decoder.proofs.Decoded.{DecodedWith}
@@ -93,6 +93,8 @@ module _ (b : ℕ) (t : List ℕ) (h : all lowercase (b ∷ t) ≡ true) where
         no_comma lowercase (b ∷ t) h refl,
         no_time lowercase (b ∷ t) h refl,
         no_meridiem lowercase (b ∷ t) h refl refl,
+        no_range lowercase (b ∷ t) h refl,
+        no_fraction lowercase (b ∷ t) h refl,
         not_zeros,
         not_digits,
         not_double,

@@ -18,7 +18,7 @@ use Rattle.lists.proofs.Sets.{le_or_lt}
 use Rattle.lists.proofs.Table.{below}
 use Rattle.vocabulary.proofs.Laws.{unfold_vocabulary}
 use Rattle.units.specs.Units.{unit_abbreviations, unit_words, unit_index, unit_word}
-use Rattle.shapes.specs.Shapes.{is_dotted_abbrev, is_comma_int, is_time, is_leading_zero_digits, is_digits, is_double, is_ordinal, unit_at, has_unit, unit_part}
+use Rattle.shapes.specs.Shapes.{is_dotted_abbrev, is_comma_int, is_time, is_range, is_digits_slash_digits, is_leading_zero_digits, is_digits, is_double, is_ordinal, unit_at, has_unit, unit_part}
 use Rattle.shapes.specs.Times.{TimeParts, is_meridiem_time, time_parts}
 use Rattle.numerals.specs.Words.{Word, one, hundred, other, spell, spelled, consecutive_words, number_words}
 use Rattle.numerals.specs.Cardinal.{digit_values, short_cardinal, cardinal_of, cardinal, digits}
@@ -30,8 +30,9 @@ use Rattle.years.specs.Year.{zero_at, year_step, year_of, year}
 use Rattle.reals.specs.Real.{point_at, e_at, pointed, real_step, real}
 use Rattle.letters.specs.Letters.{chars, letter_word, letters}
 use Rattle.letters.proofs.LetterLaws.{chars_join}
-use Rattle.rows.specs.Rows.{no_reading, Reading, per_cent, clock, full_hour, hour_of, minute_of, clock_letters, read_step, read_with}
-use Rattle.rows.proofs.Laws.{ends_some, shorter}
+use Rattle.fractions.specs.Fraction.{numerator, denominator, value, plural, fraction_of, fraction}
+use Rattle.rows.specs.Rows.{no_reading, Reading, per_cent, clock, full_hour, hour_of, minute_of, before, after, to, clock_letters, read_step, read_with}
+use Rattle.rows.proofs.Laws.{ends_some, shorter, parts_shorter}
 use Rattle.decoder.proofs.Decoded.{separator_free}
 
 abbrev SeparatorFree : List ℕ → Type 0
@@ -198,6 +199,18 @@ letters_separator_free s h = every_map SeparatorFree SeparatorFreeWord (λ c. ot
 
 -- ---- rows
 
+fraction_separator_free : (s : List ℕ) → Every SeparatorFreeWord (fraction s)
+unfolding fraction fraction_of plural spell all
+fraction_separator_free s =
+    let P = Every SeparatorFreeWord in
+    let above = numerator s in
+    let below = denominator s in
+    cond_elim P (same s (bytes "1/2")) (λ e. (refl, (refl, tt))) (λ e.
+    cond_elim P (ltb (value above) (value below)) (λ e.
+    every_append SeparatorFreeWord (cardinal above) (ordinal below ++ plural above) (cardinal_separator_free above)
+    (every_append SeparatorFreeWord (ordinal below) (plural above) (ordinal_separator_free below) (cond_elim P (ltb 1 (value above)) (λ e. (refl, tt)) (λ e. tt))))
+    (λ e. every_append SeparatorFreeWord (cardinal above) _ (cardinal_separator_free above) (refl, cardinal_separator_free below)))
+
 clock_separator_free : (hour minute : List ℕ) → Every SeparatorFreeWord (clock hour minute)
 unfolding clock
 clock_separator_free hour minute =
@@ -234,6 +247,14 @@ read_separator_free word k s h =
         cond_elim P (is_comma_int s) (λ e. cardinal_separator_free s) (λ e.
         cond_elim P (is_time s) (λ e. time_separator_free (hour_of s) (minute_of s)) (λ e.
         cond_elim P (is_meridiem_time s) (λ e. meridiem_separator_free s h) (λ e.
+        cond_elim P (is_range s) (λ e.
+        let left = before (code "-") s in
+        let right = after (code "-") s in
+        let n = span (except (code "-")) s in
+        let l = parts_shorter s e in
+        every_append SeparatorFreeWord (f left).words (to ∷ (f right).words) (i left l.0 (all_split _ s n h).0)
+        (refl, i right l.1 (all_split _ (drop n s) 1 (all_split _ s n h).1).1)) (λ e.
+        cond_elim P (is_digits_slash_digits s) (λ e. fraction_separator_free s) (λ e.
         cond_elim P (is_leading_zero_digits s) (λ e. digits_separator_free s) (λ e.
         cond_elim P (is_digits s) (λ e. cardinal_separator_free s) (λ e.
         cond_elim P (is_double s) (λ e. real_separator_free s) (λ e.
@@ -244,4 +265,4 @@ read_separator_free word k s h =
         (i before (shorter s (ends_some (code "%") s e)) (all_split _ s (length s - 1) h).0) (refl, (refl, tt))) (λ e.
         cond_elim P (has_unit s) (λ e.
         every_append SeparatorFreeWord (cardinal (take (unit_at s) s)) _ (cardinal_separator_free (take (unit_at s) s))
-        (unit_separator_free_lem (unit_part s), tt)) (λ e. (k s h, tt))))))))))))
+        (unit_separator_free_lem (unit_part s), tt)) (λ e. (k s h, tt))))))))))))))

@@ -10,7 +10,7 @@ use lib.ListN.{length, take, drop, get_or, length-append, get_or-append}
 use Rattle.lists.specs.Bytes.{all, starts_with}
 use Rattle.lists.specs.Classes.{digit, letter}
 use Rattle.lists.proofs.Scan.{all_append, all_within, all_at}
-use Rattle.shapes.specs.Shapes.{is_leading_zero_digits, is_digits, is_double, is_ordinal, unit_at, has_unit}
+use Rattle.shapes.specs.Shapes.{is_range, is_digits_slash_digits, is_leading_zero_digits, is_digits, is_double, is_ordinal, unit_at, has_unit}
 use Rattle.shapes.proofs.Laws.{digits_all, digits_some}
 use Rattle.units.specs.Units.{unit_word}
 use Rattle.numerals.specs.Words.{other}
@@ -18,7 +18,7 @@ use Rattle.numerals.specs.Cardinal.{cardinal}
 use Rattle.numerals.specs.Ordinal.{ordinal}
 use Rattle.rows.specs.Rows.{read_step, read_with}
 use Rattle.rows.proofs.Laws.{step_eq}
-use Rattle.rows.proofs.Taken.{digit_no_letter, untaken, double_byte, double_bytes, digit_double, no_meridiem, no_ending, PastTimes, past_times}
+use Rattle.rows.proofs.Taken.{digit_no_letter, untaken, double_byte, double_bytes, digit_double, no_meridiem, no_range, no_fraction, no_ending, PastTimes, past_times}
 
 abbrev letter_or_digit : ℕ → Bool
 letter_or_digit b = letter b || digit b
@@ -61,10 +61,16 @@ module _ (s u : List ℕ) (h : is_digits s ≡ true) (l : all letter u ≡ true)
   past : PastTimes name
   past = past_times letter_or_digit name plain_bytes refl refl some first (no_meridiem letter_or_digit name plain_bytes refl refl)
 
+  not_range : is_range name ≡ false
+  not_range = no_range letter_or_digit name plain_bytes refl
+
+  not_fraction : is_digits_slash_digits name ≡ false
+  not_fraction = no_fraction letter_or_digit name plain_bytes refl
+
   -- row 9 reads the name if it is an ordinal number
   pub read_ordinal : (word : List ℕ → List ℕ) → is_ordinal name ≡ true → (read_with word name).words ≡ ordinal (take (length name - 2) name)
   unfolding read_step
-  read_ordinal word o = rw (step_eq word name, o, no_double, no_leading, suffix_not_digits, past.meridiem, past.time, past.comma, past.dotted, past.empty)
+  read_ordinal word o = rw (step_eq word name, o, no_double, no_leading, suffix_not_digits, not_fraction, not_range, past.meridiem, past.time, past.comma, past.dotted, past.empty)
 
   -- row 11 reads it if it is no ordinal number and has a unit
   pub read_unit : (word : List ℕ → List ℕ) → is_ordinal name ≡ false → has_unit name ≡ true
@@ -72,4 +78,4 @@ module _ (s u : List ℕ) (h : is_digits s ≡ true) (l : all letter u ≡ true)
   unfolding read_step
   read_unit word o k =
       let p = no_ending letter_or_digit (code "%") name refl plain_bytes in
-      rw (step_eq word name, k, p, o, no_double, no_leading, suffix_not_digits, past.meridiem, past.time, past.comma, past.dotted, past.empty)
+      rw (step_eq word name, k, p, o, no_double, no_leading, suffix_not_digits, not_fraction, not_range, past.meridiem, past.time, past.comma, past.dotted, past.empty)
