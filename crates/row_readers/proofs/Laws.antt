@@ -14,7 +14,7 @@ use Rattle.lists.proofs.Recursion.{cond_elim}
 use Rattle.lists.proofs.Scan.{ByParts, filter_if_append}
 use Rattle.units.specs.Units.{is_unit, unit_row, unit_word, word_numbers, unit_index}
 use Rattle.units.proofs.Laws.{empty_none, row_word, row_none, unit_word_number, unit_in_table}
-use Rattle.shapes.specs.Shapes.{has_unit, unit_at, unit_part, split_unit, is_dotted_abbrev}
+use Rattle.shapes.specs.Shapes.{has_unit, unit_at, unit_part, split_unit, is_dotted_abbrev, is_range}
 use Rattle.shapes.proofs.Laws.{split_unit_some}
 use Rattle.shapes.specs.Times.{parts_of_time, is_meridiem_time, time_parts, time_split, time_parts_at, SplitsTime}
 use Rattle.shapes.specs.declared.TimeSplit.{TimeSplit}
@@ -59,10 +59,10 @@ reads_same {g} {h} e {p} {q} a =
 pub reads_by : {g : Reading} {row : Row} {ws : List Word} → g ≡ by row ws → {p q : Writer} → Says (spelled ws) p q → Reads g p q row
 reads_by e a = reads_same e (record { row = refl; words = a })
 
--- a name that row 10 does not take is read by the others
-pub once_read : (s : List ℕ) → is_percent s ≡ false → read s ≡ rows_after 0 s
+-- a name that neither row 5a nor row 10 takes is read by the others
+pub once_read : (s : List ℕ) → is_range s ≡ false → is_percent s ≡ false → read s ≡ rows_after 0 s
 unfolding read_step rows_after
-once_read s e = read_eq s ∙ rw e
+once_read s r e = read_eq s ∙ rw (r, e)
 
 -- ---- hour, minute and meridiem
 
@@ -129,21 +129,21 @@ unit_in_row s {u} e f =
     true≢false (sym listed ∙ row_none u f)
 
 -- if there is no word, row 12 takes the name
-pub no_unit : (s : List ℕ) → None ≡ word_of_unit s → rows_after 9 s ≡ by OneWord (other (map to_lower s) ∷ [])
+pub no_unit : (s : List ℕ) → None ≡ word_of_unit s → rows_after 10 s ≡ by OneWord (other (map to_lower s) ∷ [])
 unfolding rows_after
 no_unit s e = go (has_unit s) refl e
   where
-    go : (b : Bool) → has_unit s ≡ b → None ≡ cond b (Some (unit_word (unit_part s))) None → rows_after 9 s ≡ by OneWord (other (map to_lower s) ∷ [])
+    go : (b : Bool) → has_unit s ≡ b → None ≡ cond b (Some (unit_word (unit_part s))) None → rows_after 10 s ≡ by OneWord (other (map to_lower s) ∷ [])
     go true h e = cc
     go false h e = rw h
 
 -- if there is one, row 11 takes it
-pub unit_read : (s : List ℕ) {w : List ℕ} → Some w ≡ word_of_unit s → rows_after 9 s ≡ by Unit (cardinal (take (unit_at s) s) ++ other w ∷ [])
+pub unit_read : (s : List ℕ) {w : List ℕ} → Some w ≡ word_of_unit s → rows_after 10 s ≡ by Unit (cardinal (take (unit_at s) s) ++ other w ∷ [])
 unfolding rows_after
 unit_read s {w} e = go (has_unit s) refl e
   where
     go : (b : Bool) → has_unit s ≡ b → Some w ≡ cond b (Some (unit_word (unit_part s))) None
-        → rows_after 9 s ≡ by Unit (cardinal (take (unit_at s) s) ++ other w ∷ [])
+        → rows_after 10 s ≡ by Unit (cardinal (take (unit_at s) s) ++ other w ∷ [])
     go true h e = let k : w ≡ unit_word (unit_part s) = cc in rw (k, h)
     go false h e = cc
 

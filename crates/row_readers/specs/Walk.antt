@@ -25,9 +25,9 @@ initials s = map (λ b. other (letter_word (b ∷ []))) (filter_if (except (code
 abbrev pub word_of_unit : List ℕ → Option (List ℕ)
 word_of_unit s = cond (has_unit s) (Some (unit_word (unit_part s))) None
 
--- the rows but row 10, which reads a shorter name again
+-- the rows but 5a and 10, which read shorter names again: they are the sixth and the twelfth of the list
 abbrev pub rows_once : List ℕ → List Rule
-rows_once s = let rules = rows (map to_lower) read s in take 9 rules ++ drop 10 rules
+rows_once s = let rules = rows (map to_lower) read s in take 5 rules ++ (drop 6 (take 11 rules) ++ drop 12 rules)
 
 -- how those of them after the n-th read a name, if no row before took it
 unfoldable pub rows_after : ℕ → List ℕ → Reading

@@ -1,4 +1,4 @@
-// The rows that read a name once: all but row 10.
+// The rows that read a name once: all but rows 5a and 10.
 #![tactic(auto)]
 
 ghost use Rattle.std.specs.Prelude.{◌≡◌, ◌∷◌, ◌++◌, [], option_copied};
@@ -7,6 +7,7 @@ ghost use Rattle.numerals.specs.Words.{spelled};
 ghost use Rattle.rows.specs.Rows.{sign_of, clock, full_hour};
 ghost use Rattle.row_readers.specs.Walk.{Reads, initials, word_of_unit, rows_after};
 
+use fractions::say_fraction;
 use letters::{say_letter, say_letters};
 use lists::{
     Byte, Digit, Not, equal, front, last_end, part, span, starts_with, tail, without_back,
@@ -16,8 +17,8 @@ use numerals::saying::say_digits;
 use reals::say_real;
 use rows::{Row, Sign};
 use shapes::{
-    TimeSplit, is_comma_int, is_digits, is_dotted_abbrev, is_double, is_leading_zero_digits,
-    is_ordinal, is_time, split_time_meridiem, split_unit,
+    TimeSplit, is_comma_int, is_digits, is_digits_slash_digits, is_dotted_abbrev, is_double,
+    is_leading_zero_digits, is_ordinal, is_time, split_time_meridiem, split_unit,
 };
 use units::{unit_index, word_number};
 use vocabulary::{OCLOCK, word};
@@ -85,7 +86,7 @@ fn unit_word(name: &[u8]) -> Option<&'static [u8]>
 
 // Rows 11 and 12.
 fn from_unit(name: &[u8], out: &mut Writer) -> Row
-    ensures { Reads (rows_after 9 name.now) out.old out.new result }
+    ensures { Reads (rows_after 10 name.now) out.old out.new result }
 {
     let Some(word) = unit_word(name) else {
         out.put_word_lowered(name);
@@ -96,11 +97,15 @@ fn from_unit(name: &[u8], out: &mut Writer) -> Row
     Row::Unit
 }
 
-// The rows from 6 on.
+// The rows from 5b on.
 #[tactic(auto, unfolding(crate::specs::Walk::rows_after))]
-fn from_leading_zero(name: &[u8], out: &mut Writer) -> Row
+fn from_fraction(name: &[u8], out: &mut Writer) -> Row
     ensures { Reads (rows_after 5 name.now) out.old out.new result }
 {
+    if is_digits_slash_digits(name) {
+        say_fraction(name, out);
+        return Row::Fraction;
+    }
     if is_leading_zero_digits(name) {
         say_digits(name, out);
         return Row::LeadingZero;
@@ -132,14 +137,14 @@ fn from_meridiem(name: &[u8], out: &mut Writer) -> Row
         },
     ) = split_time_meridiem(name)
     else {
-        return from_leading_zero(name, out);
+        return from_fraction(name, out);
     };
     say_clock(front(name, hour), part(name, minute, meridiem), out);
     say_letters(tail(name, meridiem), out);
     Row::Meridiem
 }
 
-// All rows but row 10: says the words of a name, and answers the first row that takes it.
+// All rows but 5a and 10: says the words of a name, and answers the first of them that takes it.
 #[tactic(auto, using(crate::proofs::Laws::dotted_initials, crate::proofs::Laws::none_said), unfolding(crate::specs::Walk::rows_after))]
 pub fn read_by_row(name: &[u8], out: &mut Writer) -> Row
     ensures { Reads (rows_after 0 name.now) out.old out.new result }

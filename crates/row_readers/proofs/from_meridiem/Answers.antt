@@ -4,7 +4,7 @@ use Rattle.row_readers.proofs.Laws.{reads_same, reads_by, no_time, time_at}
 use Rattle.row_readers.proofs.from_meridiem.Goals as goal
 
 pub returns-in_default : goal.returns-in_default
-returns-in_default c = reads_same (no_time c.args.name.now c.split_time_meridiem.ensures c.in_default.is) c.from_leading_zero.ensures
+returns-in_default c = reads_same (no_time c.args.name.now c.split_time_meridiem.ensures c.in_default.is) c.from_fraction.ensures
 
 pub returns : goal.returns
 returns c =

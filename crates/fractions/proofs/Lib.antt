@@ -1,0 +1,4 @@
+pub mod Compare
+pub mod Read
+pub mod Room
+pub mod Saying
