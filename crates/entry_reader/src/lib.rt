@@ -1,21 +1,25 @@
-// The reader of entries: says the words of a name, and answers its record. The entry reader and the percent reader call each
-// other on shorter names. No name that ends in % is taken by rows 1 to 9, so the last byte is tested first.
+// The reader of entries: says the words of a name, and answers its record. The entry reader, the percent reader and the range
+// reader call each other on shorter names. No name that ends in % is taken by the rows before row 10, so the last byte is tested
+// first; and no range is taken by rows 1 to 5, so that test is next.
 //
 // A name may be only percent signs, so each of these calls must take little of the stack. The signs taken off are counted, and
-// are said after what stands before them: nothing has to be kept for the time after the inner call.
+// are said after what stands before them: nothing has to be kept for the time after the inner call. The parts of a range are
+// digits, so the range reader is entered once at most.
 #![tactic(auto)]
 
-ghost use Rattle.std.specs.Prelude.{◌≡◌, false, ◌++◌, ◌+◌, ◌-◌, ◌≤◌, length, take};
+ghost use Rattle.std.specs.Prelude.{◌≡◌, true, false, ◌++◌, ◌+◌, ◌-◌, ◌≤◌, length, take};
 ghost use Rattle.word_writer.specs.Writer.{usize_max, Says};
 ghost use Rattle.numerals.specs.Words.{spelled};
+ghost use Rattle.shapes.specs.Shapes.{is_range};
 ghost use Rattle.rows.specs.Rows.{is_percent, per_cent, by, read};
 ghost use Rattle.row_readers.specs.Walk.{Reads};
 ghost use Rattle.entry_reader.specs.Percents.{per_cents, with_percents};
 
-use lists::{ends_with, without_back};
+use lists::{Byte, Not, ends_with, front, span, tail, without_back};
 use row_readers::read_by_row;
 use rows::{Entry, Row};
-use vocabulary::{CENT, PER, word};
+use shapes::is_range;
+use vocabulary::{CENT, PER, TO, word};
 use word_writer::Writer;
 
 // Whether a name goes to row 10.
@@ -43,11 +47,11 @@ fn say_per_cents(percents: usize, out: &mut Writer)
     }
 }
 
-// Says a name that does not end in %, and the percent signs after it. If the compiler inlined it, each call of `read_entry` would
+// Says a name that neither ends in % nor is a range, and the percent signs after it. If the compiler inlined it, each call of `read_entry` would
 // take its stack frame as well.
 #[inline(never)]
 fn read_before_percents(name: &[u8], percents: usize, out: &mut Writer) -> Row
-    requires { is_percent name.now ≡ false }
+    requires { (is_percent name.now ≡ false) × (is_range name.now ≡ false) }
     ensures { Reads (with_percents (read name.now) percents) out.old out.new result }
 {
     let row = read_by_row(name, out);
@@ -64,6 +68,9 @@ fn read_entry(name: &[u8], percents: usize, out: &mut Writer) -> Row
     if is_percent(name) {
         return read_percent(name, percents, out);
     }
+    if is_range(name) {
+        return read_range(name, percents, out);
+    }
     read_before_percents(name, percents, out)
 }
 
@@ -76,6 +83,21 @@ fn read_percent(name: &[u8], percents: usize, out: &mut Writer) -> Row
 {
     read_entry(without_back(name, 1), percents + 1, out);
     Row::Percent
+}
+
+// The range reader, row 5a: the parts on both sides of the hyphen are read again, and "to" is said between them. It is not
+// inlined, for the reason at `read_before_percents`.
+#[cycle(read_entry_read_percent)]
+#[inline(never)]
+fn read_range(name: &[u8], percents: usize, out: &mut Writer) -> Row
+    requires { (percents + length name.now ≤ usize_max) × (is_range name.now ≡ true) }
+    ensures { Reads (with_percents (read name.now) percents) out.old out.new result }
+{
+    let hyphen = span(name, Not(Byte(b'-')));
+    read_entry(front(name, hyphen), 0, out);
+    out.put_word(word(TO));
+    read_entry(tail(tail(name, hyphen), 1), percents, out);
+    Row::Range
 }
 
 // Says the words of a name, and answers its record.

@@ -5,5 +5,5 @@ use Rattle.entry_reader.proofs.read_before_percents.Goals as goal
 
 pub returns : goal.returns
 returns c =
-    percents_after (read c.args.name.now) c.args.percents (reads_same (once_read c.args.name.now c.requires) c.read_by_row-row.ensures)
-    c.say_per_cents.ensures
+    let once = once_read c.args.name.now c.requires.1 c.requires.0 in
+    percents_after (read c.args.name.now) c.args.percents (reads_same once c.read_by_row-row.ensures) c.say_per_cents.ensures
