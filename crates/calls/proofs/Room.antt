@@ -14,7 +14,7 @@ use lib.ListN.{length, take, drop, get_or, length-append, length-take, length-dr
 use lib.Seq.{get_or-drop}
 use borrow.Author.Tests.{not-false, le-ltb, ltb-true}
 use Rattle.lists.specs.Bytes.{bytes, filter_if, to_lower, ends_with, all, any, span, same, same_by}
-use Rattle.lists.specs.Classes.{whitespace, non_whitespace, except}
+use Rattle.lists.specs.Classes.{digit, whitespace, non_whitespace, except}
 use Rattle.lists.proofs.Recursion.{recur_induct, cond_elim}
 use Rattle.lists.proofs.Scan.{filter_if_le, span_some, span_fails}
 use Rattle.lists.proofs.Sets.{le_or_lt}
@@ -26,7 +26,7 @@ use Rattle.admit.proofs.Calls.{call_number}
 use Rattle.vocabulary.proofs.Laws.{word_short}
 use Rattle.units.specs.Units.{unit_abbreviations, abbreviations, unit_words, index_of, unit_index, unit_word, word_numbers}
 use Rattle.units.proofs.Laws.{unit_word_number, miss_word}
-use Rattle.shapes.specs.Shapes.{is_dotted_abbrev, is_comma_int, is_time, is_leading_zero_digits, is_digits, is_double, is_ordinal, split_once, unit_at, has_unit, unit_part}
+use Rattle.shapes.specs.Shapes.{is_dotted_abbrev, is_comma_int, is_time, are_digits, is_range, is_digits_slash_digits, is_leading_zero_digits, is_digits, is_double, is_ordinal, split_once, unit_at, has_unit, unit_part}
 use Rattle.shapes.specs.Times.{ends_in_meridiem, is_meridiem_time, time_parts, time_of, separator_at}
 use Rattle.tokens.specs.Tokens.{Token, after_whitespace, after_run, first_token, tokens, token_parts as four_parts}
 use Rattle.tokens.proofs.Forward.{tokens_none, tokens_more, tokens_induct, first_joined, size_parts}
@@ -40,8 +40,10 @@ use Rattle.years.specs.Year.{year}
 use Rattle.years.proofs.Room.{year_room}
 use Rattle.reals.proofs.Room.{real_room}
 use Rattle.letters.proofs.Room.{letters_room}
-use Rattle.rows.specs.Rows.{Reading, no_reading, per_cent, clock, full_hour, hour_of, minute_of, clock_letters, read_step, read_with, read}
-use Rattle.rows.proofs.Laws.{ends_some, shorter}
+use Rattle.rows.specs.Rows.{Reading, no_reading, per_cent, clock, full_hour, hour_of, minute_of, before, after, to, clock_letters, read_step, read_with, read}
+use Rattle.fractions.proofs.Room.{fraction_room}
+use Rattle.rows.proofs.Laws.{ends_some, shorter, parts_fit}
+use Rattle.rows.proofs.Taken.{lacks, separator_needed}
 use Rattle.rows.proofs.Times.{oclock, minute_words, time_words}
 use Rattle.call_spec.specs.Sheet.{SheetEntry, entries_of, words_of, spaced_words, line_of, call_sheet}
 use Rattle.call_spec.specs.Calls.{name_limit, any_long, sheet_tests, SheetResult, sheet_call}
@@ -105,6 +107,12 @@ meridiem_room s e =
     let c = minute_room [] (omega arith) (take n t) (drop (n + 1) t) (length t) (omega (arith, length-take n t, length-drop (n + 1) t)) in
     rw e (omega (arith, together (clock (take n t) (drop (n + 1) t)) (letters m), letters_room m, length-take (length s - 2) s, length-drop (length s - 2) s))
 
+-- the words of a range have room, if those of its parts have
+range_room : (n : ℕ) (left right : List ℕ) (ws vs : List Word) → length left + 1 + length right ≤ n → RoomFor (length left) ws → RoomFor (length right) vs
+    → RoomFor n (ws ++ to ∷ vs)
+unfolding spell
+range_room n left right ws vs l p q = omega (arith, together ws (to ∷ vs))
+
 -- the words of a name have room, if the word of row 12 is no longer than its name
 read_room : (word : List ℕ → List ℕ) → ((s : List ℕ) → length (word s) ≤ length s) → (s : List ℕ) → RoomFor (length s) (read_with word s).words
 unfolding read_with read_step spell
@@ -119,6 +127,12 @@ read_room word short = recur_induct (λ s g. RoomFor (length s) g.words) no_read
         cond_elim P (is_comma_int s) (λ e. omega (arith, cardinal_room s)) (λ e.
         cond_elim P (is_time s) (λ e. omega (arith, time_room s e)) (λ e.
         cond_elim P (is_meridiem_time s) (meridiem_room s) (λ e.
+        cond_elim P (is_range s) (λ e.
+        let left = before (code "-") s in
+        let right = after (code "-") s in
+        let l = parts_fit s e in
+        range_room (length s) left right (f left).words (f right).words (omega arith) (h left (omega arith)) (h right (omega arith))) (λ e.
+        cond_elim P (is_digits_slash_digits s) (λ e. fraction_room s (lacks digit (code "/") s refl (separator_needed (code "/") are_digits s e))) (λ e.
         cond_elim P (is_leading_zero_digits s) (λ e. omega (arith, digits_room s)) (λ e.
         cond_elim P (is_digits s) (λ e. omega (arith, cardinal_room s)) (λ e.
         cond_elim P (is_double s) (λ e. real_room s) (λ e.
@@ -127,7 +141,7 @@ read_room word short = recur_induct (λ s g. RoomFor (length s) g.words) no_read
         let front = take (length s - 1) s in
         let l = shorter s (ends_some (code "%") s e) in
         omega (arith, together (f front).words per_cent, h front l)) (λ e.
-        cond_elim P (has_unit s) (unit_room s) (λ e. omega (arith, short s))))))))))))
+        cond_elim P (has_unit s) (unit_room s) (λ e. omega (arith, short s))))))))))))))
 
 -- an entry whose name has n bytes has a line of at most 11 * (n + 1) bytes
 pub line_fits : (e : SheetEntry) → length (line_of e) ≤ 11 * (length e.name + 1)

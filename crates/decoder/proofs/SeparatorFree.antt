@@ -30,9 +30,10 @@ use Rattle.years.specs.Year.{zero_at, year_step, year_of, year}
 use Rattle.reals.specs.Real.{point_at, e_at, pointed, real_step, real}
 use Rattle.letters.specs.Letters.{chars, letter_word, letters}
 use Rattle.letters.proofs.LetterLaws.{chars_join}
-use Rattle.fractions.specs.Fraction.{numerator, denominator, value, plural, fraction_of, fraction}
+use Rattle.fractions.specs.Fraction.{fraction}
+use Rattle.fractions.proofs.Read.{fraction_elim}
 use Rattle.rows.specs.Rows.{no_reading, Reading, per_cent, clock, full_hour, hour_of, minute_of, before, after, to, clock_letters, read_step, read_with}
-use Rattle.rows.proofs.Laws.{ends_some, shorter, parts_shorter}
+use Rattle.rows.proofs.Laws.{ends_some, shorter, parts_fit}
 use Rattle.decoder.proofs.Decoded.{separator_free}
 
 abbrev SeparatorFree : List ℕ → Type 0
@@ -200,16 +201,8 @@ letters_separator_free s h = every_map SeparatorFree SeparatorFreeWord (λ c. ot
 -- ---- rows
 
 fraction_separator_free : (s : List ℕ) → Every SeparatorFreeWord (fraction s)
-unfolding fraction fraction_of plural spell all
-fraction_separator_free s =
-    let P = Every SeparatorFreeWord in
-    let above = numerator s in
-    let below = denominator s in
-    cond_elim P (same s (bytes "1/2")) (λ e. (refl, (refl, tt))) (λ e.
-    cond_elim P (ltb (value above) (value below)) (λ e.
-    every_append SeparatorFreeWord (cardinal above) (ordinal below ++ plural above) (cardinal_separator_free above)
-    (every_append SeparatorFreeWord (ordinal below) (plural above) (ordinal_separator_free below) (cond_elim P (ltb 1 (value above)) (λ e. (refl, tt)) (λ e. tt))))
-    (λ e. every_append SeparatorFreeWord (cardinal above) _ (cardinal_separator_free above) (refl, cardinal_separator_free below)))
+unfolding spell all
+fraction_separator_free = fraction_elim SeparatorFreeWord (refl, (refl, (refl, (refl, tt)))) cardinal_separator_free ordinal_separator_free
 
 clock_separator_free : (hour minute : List ℕ) → Every SeparatorFreeWord (clock hour minute)
 unfolding clock
@@ -251,9 +244,9 @@ read_separator_free word k s h =
         let left = before (code "-") s in
         let right = after (code "-") s in
         let n = span (except (code "-")) s in
-        let l = parts_shorter s e in
-        every_append SeparatorFreeWord (f left).words (to ∷ (f right).words) (i left l.0 (all_split _ s n h).0)
-        (refl, i right l.1 (all_split _ (drop n s) 1 (all_split _ s n h).1).1)) (λ e.
+        let l = parts_fit s e in
+        every_append SeparatorFreeWord (f left).words (to ∷ (f right).words) (i left (omega arith) (all_split _ s n h).0)
+        (refl, i right (omega arith) (all_split _ (drop n s) 1 (all_split _ s n h).1).1)) (λ e.
         cond_elim P (is_digits_slash_digits s) (λ e. fraction_separator_free s) (λ e.
         cond_elim P (is_leading_zero_digits s) (λ e. digits_separator_free s) (λ e.
         cond_elim P (is_digits s) (λ e. cardinal_separator_free s) (λ e.

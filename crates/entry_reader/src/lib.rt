@@ -60,7 +60,7 @@ fn read_before_percents(name: &[u8], percents: usize, out: &mut Writer) -> Row
 }
 
 // The entry reader: says a name, from row 1 on, and the percent signs after it.
-#[cycle(read_entry_read_percent)]
+#[cycle(readers)]
 fn read_entry(name: &[u8], percents: usize, out: &mut Writer) -> Row
     requires { percents + length name.now ≤ usize_max }
     ensures { Reads (with_percents (read name.now) percents) out.old out.new result }
@@ -75,7 +75,7 @@ fn read_entry(name: &[u8], percents: usize, out: &mut Writer) -> Row
 }
 
 // The percent reader, row 10: what stands before the sign is read again, and one more sign is said after it.
-#[cycle(read_entry_read_percent)]
+#[cycle(readers)]
 fn read_percent(name: &[u8], percents: usize, out: &mut Writer) -> Row
     requires { (percents + length name.now ≤ usize_max) × (1 ≤ length name.now) }
     ensures { Reads (by Row.Percent ((read (take (length name.now - 1) name.now)).words ++ per_cents (percents + 1)))
@@ -87,7 +87,7 @@ fn read_percent(name: &[u8], percents: usize, out: &mut Writer) -> Row
 
 // The range reader, row 5a: the parts on both sides of the hyphen are read again, and "to" is said between them. It is not
 // inlined, for the reason at `read_before_percents`.
-#[cycle(read_entry_read_percent)]
+#[cycle(readers)]
 #[inline(never)]
 fn read_range(name: &[u8], percents: usize, out: &mut Writer) -> Row
     requires { (percents + length name.now ≤ usize_max) × (is_range name.now ≡ true) }

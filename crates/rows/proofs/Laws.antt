@@ -24,10 +24,10 @@ ends_some c (b ∷ s) e = omega arith
 pub shorter : (s : List ℕ) → 1 ≤ length s → length (take (length s - 1) s) < length s
 shorter s h = let e = length-take-le (length s - 1) s (omega arith) in omega arith
 
--- the parts of a range are shorter than the range
-pub parts_shorter : (s : List ℕ) → is_range s ≡ true → (length (before (code "-") s) < length s) × (length (after (code "-") s) < length s)
+-- a range has the bytes of its parts, and one byte more
+pub parts_fit : (s : List ℕ) → is_range s ≡ true → length (before (code "-") s) + 1 + length (after (code "-") s) ≡ length s
 unfolding split_once
-parts_shorter s h =
+parts_fit s h =
     let n = span (except (code "-")) s in
     let l = ltb-true n (length s) ((and-eq-true_iff (ltb n (length s)) (are_digits (take n s) (drop (n + 1) s))).0 h).0 in
     omega (arith, length-take n s, length-drop 1 (drop n s), length-drop n s)
@@ -37,7 +37,7 @@ unfolding read_step
 read_local word f g s h = go (is_range s) refl (ends_with (code "%") s) refl
   where
     go : (a : Bool) → is_range s ≡ a → (b : Bool) → ends_with (code "%") s ≡ b → read_step word f s ≡ read_step word g s
-    go true d b e = let l = parts_shorter s d in rw (d, h (before (code "-") s) l.0, h (after (code "-") s) l.1)
+    go true d b e = let l = parts_fit s d in rw (d, h (before (code "-") s) (omega arith), h (after (code "-") s) (omega arith))
     go false d true e = rw (d, h (take (length s - 1) s) (shorter s (ends_some (code "%") s e)))
     go false d false e = rw (d, e)
 

@@ -236,7 +236,7 @@ pub fraction_bytes : (s : List ℕ) → is_digits_slash_digits s ≡ true → al
 fraction_bytes = separated_bytes (code "/") are_digits both_digits
 
 -- a text that `split_once` takes has the separator
-separator_needed : (c : ℕ) (both : List ℕ → List ℕ → Bool) (s : List ℕ) → split_once c both s ≡ true → elem c s ≡ true
+pub separator_needed : (c : ℕ) (both : List ℕ → List ℕ → Bool) (s : List ℕ) → split_once c both s ≡ true → elem c s ≡ true
 unfolding split_once
 separator_needed c both s h =
     let at = span (except c) s in

@@ -2,10 +2,10 @@ use mathlib.Core.Path.{sym, ap, ◌∙◌}
 use Prim.Native.Char.{code}
 use native.Mathlib.Omega.{arith}
 use lib.ListN.{length, length-take}
-use Rattle.rows.proofs.Laws.{ends_some, parts_shorter}
+use Rattle.rows.proofs.Laws.{ends_some, parts_fit}
 use Rattle.row_readers.proofs.Laws.{reads_same}
 use Rattle.entry_reader.proofs.Laws.{percent_taken, range_said}
-use Rattle.entry_reader.proofs.+read_entry_read_percent.Goals as goal
+use Rattle.entry_reader.proofs.+readers.Goals as goal
 
 pub read_entry-read_percent-requires : goal.read_entry-read_percent-requires
 read_entry-read_percent-requires t c =
@@ -26,12 +26,12 @@ read_percent-read_entry-requires t c =
 
 pub read_range-read_entry-requires : goal.read_range-read_entry-requires
 read_range-read_entry-requires t c =
-    let l = parts_shorter c.args.name.now c.requires.1 in
+    let l = parts_fit c.args.name.now c.requires.1 in
     rw (c.front.ensures, c.span-hyphen.ensures) (omega arith, omega arith)
 
 pub read_range-read_entry-requires-2 : goal.read_range-read_entry-requires-2
 read_range-read_entry-requires-2 t c =
-    let l = parts_shorter c.args.name.now c.requires.1 in
+    let l = parts_fit c.args.name.now c.requires.1 in
     rw (c.tail-2.ensures, c.tail.ensures, c.span-hyphen.ensures) (omega arith, omega arith)
 
 pub read_range-returns : goal.read_range-returns

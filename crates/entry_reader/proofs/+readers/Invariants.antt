@@ -1,7 +1,7 @@
 -- A call on a shorter name has a smaller measure, and so has that of the percent reader or the range reader on the same name.
 use Prim.Native.Nat.{◌+◌, ◌*◌}
 use lib.ListN.{length}
-use Rattle.entry_reader.proofs.+read_entry_read_percent.Given as goal
+use Rattle.entry_reader.proofs.+readers.Given as goal
 
 abbrev pub decreases-read_entry : goal.decreases-read_entry
 decreases-read_entry l = 2 * length l.name.now + 1
