@@ -9,9 +9,11 @@ use Rattle.shapes.specs.Shapes.{is_digits, is_alpha, split_once, is_hour_minute,
 use Rattle.numerals.specs.Words.{spell, spelled}
 use Rattle.numerals.specs.Cardinal.{digit_values, pair_words, join_at_scale, by_scale, cardinal_step, short_cardinal, cardinal_of, cardinal, digits}
 use Rattle.numerals.specs.Ordinal.{form_in, ordinal_form, or_zero, on_last, ordinal}
+use Rattle.numerals.specs.Value.{decimal_from, decimal}
 use Rattle.years.specs.Year.{year_step, year_of, year}
 use Rattle.reals.specs.Real.{pointed, real_step, real}
 use Rattle.letters.specs.Letters.{letter_word, chars, letters}
+use Rattle.fractions.specs.Fraction.{plural, fraction_of, fraction}
 use Rattle.rows.specs.Rows.{clock, full_hour, clock_letters, read_step, read_with}
 use Rattle.tokens.specs.Tokens.{cut, tokens_step, tokens}
 use Rattle.sentences.specs.Sentences.{sentence_starts, sentence_starts_after, break_after}
@@ -45,7 +47,7 @@ unfold_ordinal = tt
 
 -- for the rows and their readings
 unfoldable pub unfold_readings : Unit {0}
-unfolding unfold_ordinal digits year_step year_of year pointed real_step real letter_word chars letters clock full_hour clock_letters read_step read_with
+unfolding unfold_ordinal digits year_step year_of year pointed real_step real letter_word chars letters clock full_hour clock_letters decimal decimal_from plural fraction_of fraction read_step read_with
 unfold_readings = tt
 
 -- for sentences and lines

@@ -15,9 +15,9 @@ use Rattle.clear.proofs.Tested.{test_clear}
 use Rattle.witness.proofs.Unfolded.{unfold_tokens, unfold_lines, unfold_clear}
 use Rattle.decoder.specs.Sheets.{names, AllClear}
 
--- a name of each kind in document 01's list, and a full hour; with % a name of each of the two kinds that may have it
+-- a name of each kind in document 01's list, a full hour and a range; with % a name of each of the two kinds that may have it
 unfoldable pub witness_sheet : List ℕ
-witness_sheet = bytes "rack 12 -1.50e+3 007% -2.5% 9:30 9:00 9:00am 21st 5mm A.B"
+witness_sheet = bytes "rack 12 -1.50e+3 007% -2.5% 9:30 9:00 9:00am 21st 5mm 12-18 A.B"
 
 -- the sheet is accepted
 pub witness_accepted : AcceptedSheet witness_sheet
