@@ -16,6 +16,7 @@ use Rattle.lists.proofs.Scan.{all_at, all_span, span_before}
 use Rattle.shapes.specs.Shapes.{is_digits, split_once, are_digits, is_range, is_digits_slash_digits}
 use Rattle.shapes.proofs.Grammar.{no_separator, once_taken}
 use Rattle.fractions.specs.Fraction.{fraction}
+use Rattle.fractions.proofs.Read.{over}
 use Rattle.rows.specs.Rows.{by, before, after, to, read_step, read_with, read}
 use Rattle.rows.specs.declared.Row.TheVariants.{Range, Fraction}
 use Rattle.rows.proofs.Laws.{step_eq}
@@ -66,3 +67,8 @@ fraction_with word s h =
     let k = fraction_bytes s h in
     let p = past_separated (code "/") s h k refl refl refl refl in
     step_eq word s ∙ rw (p.dotted, p.comma, p.time, p.meridiem, no_range (digit_or (code "/")) s k refl, h, p.empty)
+
+-- so it reads digits, a slash, digits; what a fraction is called stands in fractions/Read
+pub fraction_row : (word : List ℕ → List ℕ) (a b : List ℕ) → is_digits a ≡ true → is_digits b ≡ true
+    → read_with word (over a b) ≡ by Fraction (fraction (over a b))
+fraction_row word a b p q = fraction_with word (over a b) (once_taken (code "/") are_digits a b (no_separator (code "/") refl a p) (rw (p, q)))
