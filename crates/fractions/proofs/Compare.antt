@@ -11,7 +11,12 @@ use lib.Dec.{eqb, ltb, leb}
 use lib.ListN.{length, drop, get_or}
 use borrow.Author.Tests.{eqb-true, eqb-false, leb-true, ltb-true, ltb-false, lt-ltb, le-ltb, not-true}
 use Rattle.std.proofs.Math.Nat.{mul-le-mul_right, pow-le-pow_right}
-use Rattle.lists.specs.Bytes.{bytes, all, span, filter_if}
+use Rattle.std.specs.Prelude.{Some}
+use Rattle.std.specs.Ordering.{nat_cmp, is_lt, is_some_and}
+use Rattle.std.specs.Cmp.Lexicographic.{slice_partial_cmp}
+use Rattle.std.proofs.lemmas.Cmp.{same_from_slice_cmp_tested}
+use Rattle.std.proofs.lemmas.Bool.Decides.{nat_tests}
+use Rattle.lists.specs.Bytes.{all, span, filter_if}
 use Rattle.lists.specs.Classes.{digit, only, except}
 use Rattle.lists.proofs.Scan.{all_split, span_front}
 use Rattle.numerals.specs.Cardinal.{digit_value, digit_values}
@@ -26,20 +31,16 @@ unfolding digit_values filter_if span decimal decimal_from
 value_significant [] = refl
 value_significant (b ∷ s) = go (eqb b 48) refl (value_significant s)
   where
-    go : (t : Bool) → eqb b 48 ≡ t → value (significant s) ≡ value s → value (drop (cond t (suc (span (only 48) s)) 0) (b ∷ s)) ≡ value (b ∷ s)
+    go : (t : Bool) → eqb b 48 ≡ t → value (significant s) ≡ value s
+        → value (drop (cond t (suc (span (only 48) s)) 0) (b ∷ s)) ≡ value (b ∷ s)
     go true e i = i ∙ rw (eqb-true b 48 e)
     go false e i = refl
-
--- the value of "1"
-pub value_one : value (bytes "1") ≡ 1
-unfolding digit_values filter_if decimal decimal_from
-value_one = refl
 
 -- the bytes of the digits
 digit_bytes : (b : ℕ) → digit b ≡ true → (48 ≤ b) × (b ≤ 57)
 digit_bytes b h = let k = (and-eq-true_iff (leb 48 b) (leb b 57)).0 h in (leb-true 48 b k.0, leb-true b 57 k.1)
 
--- digits have as many values
+-- n digits have n values
 pub value_count : (s : List ℕ) → all digit s ≡ true → length (digit_values s) ≡ length s
 unfolding all digit_values filter_if
 value_count [] h = refl
@@ -47,7 +48,9 @@ value_count (b ∷ s) h = let k = (and-eq-true_iff (digit b) (all digit s)).0 h 
 
 decimal_cons : (d : ℕ) (ds : List ℕ) → decimal (d ∷ ds) ≡ d * 10 ^ length ds + decimal ds
 unfolding decimal decimal_from
-decimal_cons d ds = let one : decimal (d ∷ []) ≡ d = omega arith in decimal_append (d ∷ []) ds ∙ ap (λ (n : ℕ). n * 10 ^ length ds + decimal ds) one
+decimal_cons d ds =
+    let one : decimal (d ∷ []) ≡ d = omega arith in
+    decimal_append (d ∷ []) ds ∙ ap (λ (n : ℕ). n * 10 ^ length ds + decimal ds) one
 
 -- the first of n + 1 digits counts 10 ^ n times
 value_cons : (b : ℕ) (s : List ℕ) → all digit (b ∷ s) ≡ true → value (b ∷ s) ≡ digit_value b * 10 ^ length s + value s
@@ -75,7 +78,8 @@ value_least b s h n =
     rw (value_cons b s h) (omega (arith, mul-le-mul_right (10 ^ length s) some))
 
 -- so the shorter of two numbers is smaller if the longer one has no leading zero
-pub shorter_below : (a b : List ℕ) → all digit a ≡ true → all digit b ≡ true → except (code "0") (get_or b 0 0) ≡ true → length a < length b → value a < value b
+pub shorter_below : (a b : List ℕ) → all digit a ≡ true → all digit b ≡ true → except (code "0") (get_or b 0 0) ≡ true
+    → length a < length b → value a < value b
 shorter_below a [] h k n l = absurd (omega arith)
 shorter_below a (c ∷ b) h k n l =
     let longer : 10 ^ length a ≤ 10 ^ length b = pow-le-pow_right (omega arith) (omega arith) in
@@ -88,6 +92,10 @@ before [] (y ∷ ys) = true
 before (x ∷ xs) [] = false
 before (x ∷ xs) (y ∷ ys) = ltb x y || (eqb x y && before xs ys)
 
+-- what `<` answers for two slices of bytes
+pub slice_before : (a b : List ℕ) {r : Bool} → r ≡ is_some_and is_lt (slice_partial_cmp (λ x y. Some (nat_cmp x y)) a b) → r ≡ before a b
+slice_before a b {r} = same_from_slice_cmp_tested nat_cmp is_lt before refl (λ _ _. refl) (λ _ _. refl) (λ x y xs ys o h. grind (arith, nat_tests)) a b r
+
 ltb_add : (n a b : ℕ) → ltb (n + a) (n + b) ≡ ltb a b
 ltb_add n a b = go (ltb a b) refl
   where
@@ -96,7 +104,8 @@ ltb_add n a b = go (ltb a b) refl
     go false e = le-ltb (n + a) (n + b) (omega (arith, ltb-false a b e))
 
 -- if the first digit of two numbers of the same length is smaller, so is the number
-first_decides : (x y : ℕ) (s t : List ℕ) → all digit (x ∷ s) ≡ true → all digit (y ∷ t) ≡ true → length s ≡ length t → x < y → value (x ∷ s) < value (y ∷ t)
+first_decides : (x y : ℕ) (s t : List ℕ) → all digit (x ∷ s) ≡ true → all digit (y ∷ t) ≡ true → length s ≡ length t → x < y
+    → value (x ∷ s) < value (y ∷ t)
 unfolding all
 first_decides x y s t h k e l =
     let d = (and-eq-true_iff (digit x) (all digit s)).0 h in
@@ -105,7 +114,8 @@ first_decides x y s t h k e l =
     rw (value_cons x s h, value_cons y t k, ← e) (omega (arith, value_below s d.1, mul-le-mul_right (10 ^ length s) more))
 
 -- of two numbers of the same length the first digits that differ decide
-pub same_length_below : (a b : List ℕ) → all digit a ≡ true → all digit b ≡ true → length a ≡ length b → ltb (value a) (value b) ≡ before a b
+pub same_length_below : (a b : List ℕ) → all digit a ≡ true → all digit b ≡ true → length a ≡ length b
+    → ltb (value a) (value b) ≡ before a b
 unfolding all
 same_length_below [] [] h k e = le-ltb (value []) (value []) (omega arith)
 same_length_below [] (y ∷ b) h k e = absurd (omega arith)
@@ -118,7 +128,8 @@ same_length_below (x ∷ a) (y ∷ b) h k e =
     l : length a ≡ length b
     l = omega arith
 
-    go : (t u : Bool) → ltb x y ≡ t → eqb x y ≡ u → ltb (value a) (value b) ≡ before a b → ltb (value (x ∷ a)) (value (y ∷ b)) ≡ t || (u && before a b)
+    go : (t u : Bool) → ltb x y ≡ t → eqb x y ≡ u → ltb (value a) (value b) ≡ before a b
+        → ltb (value (x ∷ a)) (value (y ∷ b)) ≡ t || (u && before a b)
     go true u p q i = lt-ltb _ _ (first_decides x y a b h k l (ltb-true x y p))
     go false true p q i =
         rw (value_cons x a h, value_cons y b k, ← l, eqb-true x y q) (ltb_add (digit_value y * 10 ^ length a) (value a) (value b) ∙ i)
@@ -126,14 +137,14 @@ same_length_below (x ∷ a) (y ∷ b) h k e =
         let larger : y < x = omega (arith, ltb-false x y p, eqb-false x y q) in
         le-ltb _ _ (omega (arith, first_decides y x b a k h (sym l) larger))
 
--- the order of decimal numbers without leading zeros: by length, and then by the first digits that differ
+-- the order of decimal numbers without leading zeros: by length, and at the same length by the first digits that differ
 abbrev pub shortlex : List ℕ → List ℕ → Bool
-shortlex a b = ltb (length a) (length b) || (eqb (length a) (length b) && before a b)
+shortlex a b = cond (eqb (length a) (length b)) (before a b) (ltb (length a) (length b))
 
--- it is the order of the values: leading zeros are taken off first
-pub shortlex_below : (a b : List ℕ) → all digit a ≡ true → all digit b ≡ true → shortlex (significant a) (significant b) ≡ ltb (value a) (value b)
-shortlex_below a b h k =
-    rw (← value_significant a, ← value_significant b) (sym (go (ltb (length x) (length y)) (eqb (length x) (length y)) refl refl))
+-- it is the order of the values, once the leading zeros are taken off
+pub shortlex_below : (a b : List ℕ) → all digit a ≡ true → all digit b ≡ true
+    → shortlex (significant a) (significant b) ≡ ltb (value a) (value b)
+shortlex_below a b h k = rw (← value_significant a, ← value_significant b) (go (eqb (length x) (length y)) (ltb (length x) (length y)) refl refl)
   where
     x : List ℕ
     x = significant a
@@ -147,14 +158,14 @@ shortlex_below a b h k =
     no_zero : (s : List ℕ) → except (code "0") (get_or (significant s) 0 0) ≡ true
     no_zero = span_front (only 48) (except 48) refl (λ b e. rw e)
 
-    go : (t u : Bool) → ltb (length x) (length y) ≡ t → eqb (length x) (length y) ≡ u → ltb (value x) (value y) ≡ t || (u && before x y)
-    go true u p q = lt-ltb _ _ (shorter_below x y (digits_left a h) (digits_left b k) (no_zero b) (ltb-true _ _ p))
-    go false true p q = same_length_below x y (digits_left a h) (digits_left b k) (eqb-true _ _ q)
+    go : (t u : Bool) → eqb (length x) (length y) ≡ t → ltb (length x) (length y) ≡ u → cond t (before x y) u ≡ ltb (value x) (value y)
+    go true u p q = sym (same_length_below x y (digits_left a h) (digits_left b k) (eqb-true _ _ p))
+    go false true p q = sym (lt-ltb _ _ (shorter_below x y (digits_left a h) (digits_left b k) (no_zero b) (ltb-true _ _ q)))
     go false false p q =
-        let longer : length y < length x = omega (arith, ltb-false (length x) (length y) p, eqb-false (length x) (length y) q) in
-        le-ltb _ _ (omega (arith, shorter_below y x (digits_left b k) (digits_left a h) (no_zero a) longer))
+        let longer : length y < length x = omega (arith, eqb-false (length x) (length y) p, ltb-false (length x) (length y) q) in
+        sym (le-ltb _ _ (omega (arith, shorter_below y x (digits_left b k) (digits_left a h) (no_zero a) longer)))
 
--- so it compares two numbers, given without the zeros at their fronts
+-- the same for two texts that are the significant digits of a and of b
 pub shortlex_of : (a b : List ℕ) {x y : List ℕ} → (all digit a ≡ true) × (all digit b ≡ true) → x ≡ significant a → y ≡ significant b
     → shortlex x y ≡ ltb (value a) (value b)
 shortlex_of a b d p q = rw (p, q) (shortlex_below a b d.0 d.1)

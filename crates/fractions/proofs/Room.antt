@@ -34,24 +34,26 @@ improper_room : (a b : List ℕ) → RoomFor (length a + 1 + length b) (cardinal
 unfolding spell
 improper_room a b = omega (arith, together (cardinal a) (other (bytes "slash") ∷ cardinal b), cardinal_room a, cardinal_room b)
 
--- numerator and denominator leave out at least one byte of a name with a byte that is no digit
+-- the first byte that is no digit does not stand after the last one
 first_before_last : (s : List ℕ) → all digit s ≡ false → span digit s < after_last non_digit s
 unfolding all span after_last
 first_before_last [] h = absurd (true≢false h)
 first_before_last (b ∷ s) h = go (digit b) (eqb (after_last non_digit s) 0) refl h (first_before_last s)
   where
-    go : (t u : Bool) → eqb (after_last non_digit s) 0 ≡ u → (t && all digit s) ≡ false → (all digit s ≡ false → span digit s < after_last non_digit s)
+    go : (t u : Bool) → eqb (after_last non_digit s) 0 ≡ u → (t && all digit s) ≡ false
+        → (all digit s ≡ false → span digit s < after_last non_digit s)
         → cond t (suc (span digit s)) 0 < cond u (cond (not t) 1 0) (suc (after_last non_digit s))
     go true true e h i = let k = i h in absurd (omega (arith, eqb-true (after_last non_digit s) 0 e))
     go true false e h i = let k = i h in omega arith
     go false true e h i = omega arith
     go false false e h i = omega arith
 
+-- so numerator and denominator leave out that byte, at least
 pub parts_shorter : (s : List ℕ) → all digit s ≡ false → length (numerator s) + 1 + length (denominator s) ≤ length s
 parts_shorter s h =
     omega (arith, first_before_last s h, last_le non_digit s, length-take (span digit s) s, length-drop (after_last non_digit s) s)
 
--- the words of a fraction fit in the room for its name
+-- the words of a fraction fit in the room for its name, if some byte of the name is no digit
 pub fraction_room : (s : List ℕ) → all digit s ≡ false → RoomFor (length s) (fraction s)
 unfolding fraction fraction_of spell
 fraction_room s h =
@@ -59,9 +61,10 @@ fraction_room s h =
     let b = denominator s in
     let shorter = parts_shorter s h in
     cond_elim (RoomFor (length s)) (same s (bytes "1/2")) (λ e. omega arith)
-    (λ e. cond_elim (RoomFor (length s)) (ltb (value a) (value b)) (λ e. omega (arith, proper_room a b)) (λ e. omega (arith, improper_room a b)))
+    (λ e. cond_elim (RoomFor (length s)) (ltb (value a) (value b)) (λ e. omega (arith, proper_room a b))
+    (λ e. omega (arith, improper_room a b)))
 
--- for example those of two texts with a slash between them
+-- for example if a slash stands between numerator and denominator
 pub over_room : (a b : List ℕ) → RoomFor (length (over a b)) (fraction (over a b))
 unfolding all
 over_room a b = fraction_room (over a b) (all_append digit a (bytes "/" ++ b) ∙ and-false (all digit a))

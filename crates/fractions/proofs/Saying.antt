@@ -21,6 +21,7 @@ pub none_said : {p : Writer} → Says (spelled []) p p
 unfolding spelled
 none_said = says_nothing
 
+-- the numbers of these words in the vocabulary
 pub a_number : word_of 93 ≡ bytes "a"
 unfolding unfold_vocabulary
 a_number = refl

@@ -21,15 +21,19 @@ fn without_leading_zeros(s: &[u8]) -> &[u8]
     tail(s, span(s, Byte(b'0')))
 }
 
-// Whether the number a is below the number b. Both are digits; so of two numbers without leading zeros the longer one is larger,
-// and if both have the same length, the first digits that differ decide.
+// Whether the number a is below the number b. Without leading zeros the longer of two numbers is larger, and if both have the
+// same length, the first digits that differ decide.
 fn is_below(a: &[u8], b: &[u8]) -> bool
     requires { (all digit a.now ≡ true) × (all digit b.now ≡ true) }
     ensures { result ≡ ltb (value a.now) (value b.now) }
 {
     let a = without_leading_zeros(a);
     let b = without_leading_zeros(b);
-    a.len() < b.len() || a.len() == b.len() && a < b
+    if a.len() == b.len() {
+        a < b
+    } else {
+        a.len() < b.len()
+    }
 }
 
 // Says "'s" if the numerator exceeds 1.

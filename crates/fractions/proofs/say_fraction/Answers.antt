@@ -13,13 +13,15 @@ use Rattle.fractions.proofs.say_fraction.Goals as goal
 pub returns-then-equal : goal.returns-then-equal
 returns-then-equal c =
     let half : c.args.name.now ≡ bytes "1/2" = same_true _ _ (sym c.equal.ensures ∙ c.if-equal.true) in
-    says_more (other (bytes "a") ∷ []) (other (bytes "half") ∷ []) (ap fraction half ∙ half_read) (other_said _ (c.word.ensures ∙ a_number) c.put_word.ensures)
+    says_more (other (bytes "a") ∷ []) (other (bytes "half") ∷ []) (ap fraction half ∙ half_read)
+    (other_said _ (c.word.ensures ∙ a_number) c.put_word.ensures)
     (other_said _ (c.word-then-equal.ensures ∙ half_number) c.put_word-then-equal.ensures)
 
 pub say_fraction_of-requires : goal.say_fraction_of-requires
 say_fraction_of-requires c =
     let name = c.args.name.now in
-    rw (c.front-numerator.ensures, c.span.ensures, c.tail-denominator.ensures, c.last_end.ensures) (numerator_digits name, denominator_digits name)
+    rw (c.front-numerator.ensures, c.span.ensures, c.tail-denominator.ensures, c.last_end.ensures)
+    (numerator_digits name, denominator_digits name)
 
 pub returns-else-equal : goal.returns-else-equal
 returns-else-equal c =

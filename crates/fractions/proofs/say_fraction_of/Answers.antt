@@ -24,5 +24,6 @@ returns-else-is_proper c =
     let a = c.args.numerator.now in
     let b = c.args.denominator.now in
     let upto = ltb-false _ _ (sym c.is_below-is_proper.ensures ∙ c.if-is_proper.false) in
+    let slash = other_said _ (c.word.ensures ∙ slash_number) c.put_word.ensures in
     says_more (cardinal a) (other (bytes "slash") ∷ cardinal b) (improper_of a b upto) c.say_cardinal.ensures
-    (says_more (other (bytes "slash") ∷ []) (cardinal b) refl (other_said _ (c.word.ensures ∙ slash_number) c.put_word.ensures) c.say_cardinal-else-is_proper.ensures)
+    (says_more (other (bytes "slash") ∷ []) (cardinal b) refl slash c.say_cardinal-else-is_proper.ensures)

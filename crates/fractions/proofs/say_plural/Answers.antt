@@ -1,7 +1,11 @@
-use mathlib.Core.Path.{refl, sym, ◌∙◌}
+use mathlib.Core.Path.{◌≡◌, refl, sym, ◌∙◌}
+use mathlib.Core.Bool.{true, false}
+use lib.Dec.{ltb}
 use borrow.Author.Tests.{ltb-true, ltb-false}
-use Rattle.lists.specs.Bytes.{all}
-use Rattle.fractions.proofs.Compare.{value_one}
+use Rattle.lists.specs.Bytes.{all, filter_if}
+use Rattle.numerals.specs.Cardinal.{digit_values}
+use Rattle.numerals.specs.Value.{decimal, decimal_from}
+use Rattle.fractions.specs.Fraction.{value}
 use Rattle.fractions.proofs.Read.{plural_said, plural_unsaid}
 use Rattle.fractions.proofs.Saying.{other_said, none_said, s_number}
 use Rattle.fractions.proofs.say_plural.Goals as goal
@@ -11,11 +15,15 @@ unfolding all
 is_below-requires c = (refl, c.requires)
 
 pub returns-then-is_below : goal.returns-then-is_below
+unfolding digit_values filter_if decimal decimal_from
 returns-then-is_below c =
-    let above = ltb-true _ _ (rw value_one at (sym c.is_below.ensures ∙ c.if-is_below.true)) in
-    rw (plural_said c.args.numerator.now above) (other_said _ (c.word.ensures ∙ s_number) c.put_word.ensures)
+    let a = c.args.numerator.now in
+    let exceeds : ltb 1 (value a) ≡ true = sym c.is_below.ensures ∙ c.if-is_below.true in
+    rw (plural_said a (ltb-true 1 (value a) exceeds)) (other_said _ (c.word.ensures ∙ s_number) c.put_word.ensures)
 
 pub returns-else-is_below : goal.returns-else-is_below
+unfolding digit_values filter_if decimal decimal_from
 returns-else-is_below c =
-    let upto = ltb-false _ _ (rw value_one at (sym c.is_below.ensures ∙ c.if-is_below.false)) in
-    rw (plural_unsaid c.args.numerator.now upto) none_said
+    let a = c.args.numerator.now in
+    let exceeds : ltb 1 (value a) ≡ false = sym c.is_below.ensures ∙ c.if-is_below.false in
+    rw (plural_unsaid a (ltb-false 1 (value a) exceeds)) none_said
