@@ -254,14 +254,16 @@ pub fn is_dotted_abbrev(s: &[u8]) -> bool
 }
 
 // Whether s is digits, the byte c, digits. The digits are passed first, so a name that does not start with one is not scanned.
-#[tactic(auto, using(crate::proofs::Grammar::digits_around_lem))]
 fn is_digits_around(s: &[u8], c: u8) -> bool
     requires { digit c ≡ false }
     ensures { result ≡ split_once c are_digits s.now }
 {
     let at = span(s, Digit);
+    if at == 0 {
+        return false;
+    }
     let rest = tail(s, at);
-    (at != 0) & starts_with(rest, c) & is_digits(tail(rest, 1))
+    starts_with(rest, c) && is_digits(tail(rest, 1))
 }
 
 pub fn is_digits_slash_digits(s: &[u8]) -> bool
