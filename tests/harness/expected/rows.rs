@@ -138,6 +138,13 @@ fn is_below(first: &str, second: &str) -> bool {
     drawn_out(first) < drawn_out(second)
 }
 
+/// Each row takes one of these names; the first takes no name but the empty one.
+pub fn check_taken(names: &[&str]) {
+    for row in 1..=FRACTION {
+        assert!(names.iter().chain(&[""]).any(|name| read(name).row == row), "no name of row {row}");
+    }
+}
+
 /// `read_clock` of normalize.rs, which the reference does not make public, and the word for a minute of "00" that document 02, A1,
 /// adds to row 4.
 fn read_clock(hour: &str, minute: &str, full: Option<&str>) -> Vec<String> {

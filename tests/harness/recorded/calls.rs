@@ -12,7 +12,7 @@ use crate::corners::pieces;
 use crate::corners::shapes::DAMAGED;
 use crate::expected::answers;
 use crate::expected::clear::{self, BARRED};
-use crate::expected::rows::Called;
+use crate::expected::rows::{self, Called};
 use crate::random::Random;
 use crate::recorded::text::{each_once, hex, RecordedText};
 
@@ -53,6 +53,7 @@ const AT_THE_LIMIT: &[(u8, &[u8], usize)] = &[
 pub fn lines() -> Vec<String> {
     let called = Called::of(Ok(SHEET)).sheet();
     assert_eq!(called, CALL_SHEET.as_bytes(), "document 01's example");
+    rows::check_taken(NAMES);
     each_once(texts()).iter().map(line).collect()
 }
 

@@ -33,6 +33,7 @@ pub fn named(comparison: &mut Comparison) {
     comparison.begin("entries, every buffer");
     for name in NAMES {
         comparison.every_call_room(name.as_bytes(), 0);
+        comparison.clear_name(name.as_bytes(), 0);
         comparison.every_call_room(format!(" ({name}). {name}!\n\n\"{name}").as_bytes(), 1);
     }
     comparison.begin("damaged sheets");
@@ -42,10 +43,10 @@ pub fn named(comparison: &mut Comparison) {
     }
 }
 
-/// Each with each of its bytes replaced by every byte, left out, and with every ASCII byte put before it.
+/// Each short one with each of its bytes replaced by every byte, left out, and with every ASCII byte put before it.
 pub fn one_byte_changed(comparison: &mut Comparison) {
     comparison.begin("entries, one byte changed");
-    for name in NAMES.iter().map(|name| name.as_bytes()) {
+    for name in NAMES.iter().map(|name| name.as_bytes()).filter(|name| name.len() <= 20) {
         for place in 0..=name.len() {
             let (front, back) = name.split_at(place);
             let after = back.get(1..).unwrap_or(b"");
@@ -87,7 +88,8 @@ pub fn exhaustive(comparison: &mut Comparison, long: bool) {
 const LONG_NAMES: &[Pattern] = &[
     ("", "%", ""), ("5", "%", ""), ("", "7", ""), ("", "7", "%"), ("", "0", ""), ("0", "7", ""), ("", "a", ""), ("", "Z", ""), ("", "-", ""),
     ("", "A.", "A"), ("", "a.", ""), ("1", ",000", ""), ("-", "7", ".5"), ("1.", "7", ""), ("1", "7", "e5"), ("1e", "7", ""), ("", "7", "th"),
-    ("", "7", "mm"), ("1", ",", "mm"), ("", "é", ""), ("", "7%", ""), ("-7", "e7", ""), ("", "e", ""), ("x", "!", "x"), ("", "a%", ""),
+    ("", "7", "mm"), ("1", ",", "mm"), ("", "é", ""), ("", "7%", ""), ("-7", "e7", ""), ("", "e", ""), ("x", "!", "x"), ("", "a%", ""), ("", "7", "-7"), ("7-", "7", ""), ("0-", "7", "%"),
+    ("", "7-", ""), ("", "7-", "7"), ("", "7", "/7"), ("7/", "7", ""), ("7/", "0", "8%"), ("", "7/", ""), ("", "7/", "7"),
 ];
 
 /// Names of 4,095 to 4,097 bytes, alone and with marks and neighbours, which do not count.
@@ -116,7 +118,8 @@ pub fn long_names(comparison: &mut Comparison) {
 const LONG_SHEETS: &[Pattern] = &[
     ("", "7 ", ""), ("", "777777777777 ", ""), ("", "% ", ""), ("", "-1.5e-10% ", ""), ("", "Bar 12 at 9:30. Rack 5mm (21st)\n", ""),
     ("", "( ", ""), ("", "\n", ""), ("", ". ", ""), ("", "A.B.C. 007 1,000 ", ""), ("", "9:00pm 00:00 000,000 ", ""), ("", "é ", ""),
-    ("", "9:00 ", ""), ("", "21:00% ", ""), ("", "word ", ""), ("", "- ", ""), ("", "5mm!\n\n", ""),
+    ("", "9:00 ", ""), ("", "21:00% ", ""), ("", "word ", ""), ("", "- ", ""), ("", "5mm!\n\n", ""), ("", "12-18 ", ""), ("", "007-5% ", ""),
+    ("", "5/8 ", ""), ("", "1/2 8/5 00/00% ", ""), ("", "5- ", ""), ("", "5/ ", ""), ("", "777777777777-7/7 ", ""),
 ];
 
 /// Sheets of 65,535 to 65,537 bytes.
