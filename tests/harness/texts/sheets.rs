@@ -15,12 +15,14 @@ const ALPHABETS: &[(&str, usize, &[&str])] = &[
     ("rows: numbers", 5, &["0", "1", "12", ".", ",", "-", "+", "e", "%", "000"]),
     ("rows: times and units", 4, &["0", "9", "12", ":", ".", "30", "00", "am", "PM", "%", "mm", "LBS", ",", "-"]),
     ("rows: ordinals and letters", 4, &["1", "2", "11", "0", ",", "st", "TH", "nd", "A", "b", ".", "%", "é"]),
+    ("rows: ranges, fractions and others", 4, &["0", "1", "2", "12", "007", "-", "/", "%", "mm", "th", "am", ":30", ",", ".", " ", "é", "１"]),
     ("sheets of short entries", 5, &["5", "0", "A", "b", ".", ":", "%", "(", " ", "\n", "!"]),
 ];
 
 const CLEAR_ALPHABETS: &[(&str, usize, &[&str])] = &[
     ("clear: numbers", 6, &["0", "1", "9", ".", "-", "+", "e", "E", "%", ","]),
     ("clear: times", 5, &["0", "1", "9", "5", "6", ":", ".", "am", "pm", "AM", "m", "%", "00"]),
+    ("clear: ranges", 6, &["0", "1", "00", "-", "%", "e", "/", ".", "é"]),
     ("clear: ordinals", 5, &["0", "1", "2", "3", "4", "st", "nd", "rd", "th", "TH", ",", "s", "t"]),
     ("clear: units", 4, &["0", "5", "LB", "LBS", "lb", "lbs", "ft", "FT", "kg", "km", "cm", "mm", "ml", "oz", "hz", "Hz", "HZ", "KHz",
         "MHz", "GHz", "KB", "GB", "MB", "TB", ",", "S", "m"]),

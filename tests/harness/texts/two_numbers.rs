@@ -3,6 +3,7 @@
 
 use crate::comparison::Comparison;
 use crate::corners::entries::some_pair;
+use crate::expected::answers::TEXT_LIMIT;
 use crate::expected::rows::NAME_LIMIT;
 use crate::random::Random;
 use crate::texts::exhaustive::each_text;
@@ -84,12 +85,13 @@ fn with_digit(digits: &str, place: usize, digit: char) -> String {
     digits
 }
 
-/// The call of the name, and the verdict on it, which has no limit of 4,096 bytes.
+/// The call of the name, and the verdict on it.
 fn called(comparison: &mut Comparison, name: &str) {
     comparison.every_call_of_sheet(name.as_bytes(), 0);
 }
 
 /// One long number and a short one, and names of digits and one or more separators, of 4,000 bytes and on both sides of the limit.
+/// The verdict on clear names has the limit of texts alone.
 pub fn at_the_limit(comparison: &mut Comparison) {
     comparison.begin("names of two numbers at the limit");
     for separator in SEPARATORS {
@@ -110,6 +112,11 @@ pub fn at_the_limit(comparison: &mut Comparison) {
             called(comparison, &several);
             called(comparison, &several[1..]);
             called(comparison, &several[..several.len() - 1]);
+        }
+        for len in TEXT_LIMIT - 1..=TEXT_LIMIT + 1 {
+            let half = "7".repeat(len / 2);
+            let name = [&half, separator, &"7".repeat(len - len / 2 - 1)].concat();
+            comparison.clear_name(name.as_bytes(), 0);
         }
     }
 }
