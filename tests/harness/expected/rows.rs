@@ -68,7 +68,7 @@ pub fn read(name: &str) -> Reading {
         return reading(5, joined(read_clock(hour, minute, None), numbers::letters(meridiem)));
     }
     if let Some((left, right)) = split_range(name) {
-        return reading(RANGE, joined(joined(read(left).words, said("to")), read(right).words));
+        return reading(RANGE, [read(left).words, said("to"), read(right).words].concat());
     }
     if patterns::is_digits_slash_digits(name) {
         return reading(FRACTION, read_fraction(name));
@@ -124,10 +124,10 @@ fn read_fraction(name: &str) -> Vec<String> {
     let denominator = runs.next_back().expect("digits behind the slash");
     let words = numbers::cardinal(numerator);
     if !is_below(numerator, denominator) {
-        return joined(joined(words, said("slash")), numbers::cardinal(denominator));
+        return [words, said("slash"), numbers::cardinal(denominator)].concat();
     }
-    let part = joined(words, numbers::ordinal(denominator));
-    if is_below("1", numerator) { joined(part, said("'s")) } else { part }
+    let plural = if is_below("1", numerator) { said("'s") } else { Vec::new() };
+    [words, numbers::ordinal(denominator), plural].concat()
 }
 
 /// Whether the first number is the smaller one, at any length: with zeros put before the shorter of the two, the order of the

@@ -51,7 +51,7 @@ impl Sheet {
 
 const SEPARATORS: [&str; 2] = ["-", "/"];
 
-/// Two numbers of thousands of digits: the same but for one digit, and with zeros in front of one or of both.
+/// Two numbers of up to thousands of digits: the same, or all but one or two digits, and with zeros in front.
 pub fn long(comparison: &mut Comparison) {
     comparison.begin("two long numbers");
     for digit in ['0', '1', '7', '9'] {
@@ -67,7 +67,7 @@ pub fn long(comparison: &mut Comparison) {
     }
 }
 
-/// Both orders, both separators, and zeros in front.
+/// Both orders, both separators, and zeros in front of the second number.
 fn two(comparison: &mut Comparison, first: &str, second: &str) {
     for zeros in ["", "0", "000", &"0".repeat(90)] {
         let drawn_out = format!("{zeros}{second}");
