@@ -370,10 +370,10 @@ hwk_step hwk_push(hwk_state state, const uint8_t *whitespace, size_t whitespace_
  *                                         nine thirty _a m, "9:00am" is nine _a m
  *   5a  digits, one hyphen, digits        a range: what stands before the hyphen, from row 1 on; then to; then what stands behind
  *                                         it, from row 1 on: "12-18" is twelve to eighteen, "007-5" zero zero seven to five
- *   5b  hwk_is_digits_slash_digits        a fraction: only the name "1/2" is a half. With the first number below the second it is
- *                                         hwk_cardinal of the first, hwk_ordinal of the second and, if the first is above 1, the
- *                                         word 's: "5/8" is five eighth 's, "01/2" one second. Else hwk_cardinal of both with
- *                                         slash between: "8/5" is eight slash five. Numbers of any length are compared by value
+ *   5b  hwk_is_digits_slash_digits        a fraction: "1/2", and no other name, is a half. Else, with the first number below the
+ *                                         second, hwk_cardinal of the first, hwk_ordinal of the second and, if the first is above
+ *                                         1, the word 's: "5/8" is five eighth 's, "01/2" one second. Else hwk_cardinal of both
+ *                                         with slash between: "8/5" is eight slash five. The values decide, at any length
  *    6  hwk_is_leading_zero_digits        hwk_digits
  *    7  hwk_is_digits                     hwk_cardinal
  *    8  hwk_is_double                     hwk_real
