@@ -54,6 +54,8 @@ fn main() {
         println!();
         call_rows::doubling();
         println!();
+        call_rows::lengthening();
+        println!();
         table(&call_rows::entry_rows());
     }
 }

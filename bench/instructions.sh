@@ -17,7 +17,8 @@ counted() {
 mixed=$'Bar 12 at 9:30. Rack 5mm (21st)\nNo. 7 draw 1,250 ends at 12:05pm, 12.5% of 3kg: A.B. then 0005 -1.5 stop!\n'
 echo '| Sheet | Instructions |'
 echo '|---|---:|'
-for piece in "$mixed" '12 7 1984 250000 ' 'Carriage rack beam gauge draw ' '9:30 ' '9:00 ' '9:00am '; do
+for piece in "$mixed" '12 7 1984 250000 ' 'Carriage rack beam gauge draw ' '9:30 ' '9:00 ' '9:00am ' \
+    '12-18 7-12 100-250 007-5 ' '5/8 1/2 11/16 8/5 '; do
     name=${piece/$mixed/mixed entries }
     # Three calls less one call are two: what comes before and after does not count.
     echo "| ${name% } | $((($(counted "$piece" 3) - $(counted "$piece" 1)) / 2)) |"

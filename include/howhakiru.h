@@ -43,10 +43,11 @@
  * accepted call the bytes of a buffer past the result stay as they were.
  *
  * Nothing is allocated. Only two things recurse: a number of up to 12 digits is read by a function that calls itself on fewer
- * digits, five deep at most, and an entry that ends in % by two functions that call each other, once for each % at its end. So
- * hwk_call_entry and hwk_call_sheet need less than 8 KiB of stack and 80 bytes more for each % at an entry's end, in all less
- * than 512 KiB. Every other call needs less than 4 KiB. These bounds are measured, not proved. If a program is linked
- * dynamically and bound lazily, its first call of memcpy, ours or another, also needs the dynamic linker's own few KiB.
+ * digits, five deep at most, and an entry by functions that call each other on its parts: on what stands before a %, once for
+ * each % at its end, and on the two numbers of a range. So hwk_call_entry and hwk_call_sheet need less than 8 KiB of stack and
+ * 80 bytes more for each % at an entry's end, in all less than 512 KiB. Every other call needs less than 4 KiB. These bounds are
+ * measured, not proved. If a program is linked dynamically and bound lazily, its first call of memcpy, ours or another, also
+ * needs the dynamic linker's own few KiB.
  */
 #ifndef HOWHAKIRU_H
 #define HOWHAKIRU_H
@@ -367,6 +368,12 @@ hwk_step hwk_push(hwk_state state, const uint8_t *whitespace, size_t whitespace_
  *                                         "00": "9:30" is nine thirty, "9:00" is nine o'clock, "00:00" is o'clock alone
  *    5  hwk_split_time_meridiem           as row 4, but without o'clock; then hwk_letters of the meridiem: "9:30am" is
  *                                         nine thirty _a m, "9:00am" is nine _a m
+ *   5a  digits, one hyphen, digits        a range: what stands before the hyphen, from row 1 on; then to; then what stands behind
+ *                                         it, from row 1 on: "12-18" is twelve to eighteen, "007-5" zero zero seven to five
+ *   5b  hwk_is_digits_slash_digits        a fraction: "1/2", and no other name, is a half. Else, with the first number below the
+ *                                         second, hwk_cardinal of the first, hwk_ordinal of the second and, if the first is above
+ *                                         1, the word 's: "5/8" is five eighth 's, "01/2" one second. Else hwk_cardinal of both
+ *                                         with slash between: "8/5" is eight slash five. The values decide, at any length
  *    6  hwk_is_leading_zero_digits        hwk_digits
  *    7  hwk_is_digits                     hwk_cardinal
  *    8  hwk_is_double                     hwk_real
@@ -375,16 +382,34 @@ hwk_step hwk_push(hwk_state state, const uint8_t *whitespace, size_t whitespace_
  *   11  hwk_split_unit                    hwk_cardinal of the number, then hwk_unit_word of the unit
  *   12  any other                         the name as one word, A to Z in lower case
  * A line may have no words: an empty name, "000,000". */
+
+/* The rows by number, in the order in which they take names. Rows 5a and 5b came later than the others. */
+#define HWK_ROW_EMPTY 1
+#define HWK_ROW_DOTTED 2
+#define HWK_ROW_COMMA_INT 3
+#define HWK_ROW_TIME 4
+#define HWK_ROW_MERIDIEM 5
+#define HWK_ROW_RANGE 13    /* 5a */
+#define HWK_ROW_FRACTION 14 /* 5b */
+#define HWK_ROW_LEADING_ZERO 6
+#define HWK_ROW_DIGITS 7
+#define HWK_ROW_FIGURE 8
+#define HWK_ROW_ORDINAL 9
+#define HWK_ROW_PERCENT 10
+#define HWK_ROW_UNIT 11
+#define HWK_ROW_ONE_WORD 12
+
+/* The signs of row 8, figures. */
+#define HWK_PLUS 1
+#define HWK_MINUS 2
+
 typedef struct hwk_entry {
     uint8_t refusal; /* HWK_ACCEPTED or a refusal's number; if it is a refusal's, every field below is 0 */
-    uint8_t row;     /* the row that took the name, 1 to 12 */
+    uint8_t row;     /* the row that took the name, by its number: one of HWK_ROW_.. */
     uint8_t sign;    /* in row 8 HWK_MINUS if the name starts with a minus, else HWK_PLUS; in any other row 0 */
     size_t words;    /* how many words the line has */
     size_t bytes;    /* how many bytes the line has, its LF included, at the front of `out` */
 } hwk_entry;
-
-#define HWK_PLUS 1
-#define HWK_MINUS 2
 
 /* Room for the call of every sheet of up to `len` bytes, and for the line of every name of up to `len` bytes. This is proved. So
  * HWK_CALL_MOST(HWK_NAME_LIMIT) is room for every line. A call that is lent so much writes at once; one that is lent less
@@ -420,13 +445,15 @@ hwk_sheet hwk_call_sheet(const uint8_t *s, size_t s_len, uint8_t *out, size_t ou
  *     which may have a + or a - before them: "-1.50e+3"
  *   - either of these with one % behind it
  *   - a plain hour of 1 or 2 digits, a colon, and a minute of 00 to 59: "9:00", "12:05"; am or pm may follow: "9:00am"
+ *   - one or more digits, a hyphen, one or more digits: "12-18", "007-5"
  *   - plain digits and their right suffix: "1st", "11th", "22nd"
  *   - plain digits and one of  LB ft kg km cm mm ml oz hz KHz MHz GHz KB GB MB TB
  *   - two or more capitals with single points between: "A.B"
  *   - two or more letters a to z, but not zero to nineteen, twenty, thirty, to ninety, their ordinal forms, thousand, million or
  *     billion: "rack", "to", "hundred", but not "one", "first", "thousand"
- * A name that is not clear may have the same words as one that is: "09:00" as "9:00", "5lb" as "5LB". Reads `s`, a name and
- * not a sheet, and writes nothing.
+ * A name that is not clear may have the same words as one that is: "09:00" as "9:00", "5lb" as "5LB". Fractions are not clear:
+ * "100/21000" and "120/1000" are both one hundred twenty one thousandth 's. Reads `s`, a name and not a sheet, and writes
+ * nothing.
  * Tests: HWK_TEXT_TOO_LONG, HWK_NOT_UTF8. */
 hwk_verdict hwk_is_clear(const uint8_t *s, size_t s_len);
 

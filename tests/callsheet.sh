@@ -23,6 +23,7 @@ check 'nothing' '' </dev/null
 check 'whitespace alone' '' < <(printf ' \n\t')
 check 'lines without words' '+\n-\n' < <(printf '" 000,000')
 check 'full hours' "+ nine o'clock\\n- nine\\n- o'clock\\n- nine o'clock per cent\\n- nine _a m\\n" < <(printf '9:00 9 00:00 9:00%% 9:00am')
+check 'a range and fractions' "+ twelve to eighteen\\n- five eighth 's\\n- a half\\n- eight slash five\\n" < <(printf '12-18 5/8 1/2 8/5')
 check 'a byte that is no UTF-8' 'refused 2\n' < <(printf 'a\377')
 check 'a name of 4,096 bytes' "+ $(printf '%04096d' 0 | tr 0 x)\\n" < <(printf '%04096d' 0 | tr 0 X)
 check 'a byte past 4,096 is not read' "+ $(printf '%04096d' 0 | tr 0 x)\\n" < <(printf '%04096d!? a' 0 | tr 0 X)
@@ -32,7 +33,7 @@ check 'a character cut at 4,096' 'refused 2\n' < <(printf '%04095d\303\251' 0 | 
 check 'pieces' '+ one\n- two\n' < <(printf '1'; sleep 0.2; printf ' 2')
 
 # Long call sheets: no sheet of 4,096 bytes is refused for room.
-for piece in '777777777777 ' '%' '777777777777e' '7 ' '-7777777777 '; do
+for piece in '777777777777 ' '%' '777777777777e' '7 ' '-7777777777 ' '7-7 ' '7/8 '; do
     yes -- "$piece" | tr -d '\n' | head -c 4096 >target/callsheet/in || true
     "$program" <target/callsheet/in | grep -q '^[+-]'
 done

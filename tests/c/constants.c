@@ -42,6 +42,22 @@ SAME(sheet_tokens, offsetof(hwk_sheet, tokens) == 8);
 SAME(sheet_words, offsetof(hwk_sheet, words) == 16);
 SAME(sheet_bytes, offsetof(hwk_sheet, bytes) == 24);
 
+/* The numbers that document 01 gives to rows 1 to 12, and document 02 to rows 5a and 5b. */
+SAME(row_empty, HWK_ROW_EMPTY == 1);
+SAME(row_dotted, HWK_ROW_DOTTED == 2);
+SAME(row_comma_int, HWK_ROW_COMMA_INT == 3);
+SAME(row_time, HWK_ROW_TIME == 4);
+SAME(row_meridiem, HWK_ROW_MERIDIEM == 5);
+SAME(row_leading_zero, HWK_ROW_LEADING_ZERO == 6);
+SAME(row_digits, HWK_ROW_DIGITS == 7);
+SAME(row_figure, HWK_ROW_FIGURE == 8);
+SAME(row_ordinal, HWK_ROW_ORDINAL == 9);
+SAME(row_percent, HWK_ROW_PERCENT == 10);
+SAME(row_unit, HWK_ROW_UNIT == 11);
+SAME(row_one_word, HWK_ROW_ONE_WORD == 12);
+SAME(row_range, HWK_ROW_RANGE == 13);
+SAME(row_fraction, HWK_ROW_FRACTION == 14);
+
 /* The comparison with the Rust tests on every reading that these sums suffice. */
 SAME(store_most, HWK_WORDS_STORE_MOST(1000) == 11011);
 SAME(table_most, HWK_WORDS_TABLE_MOST(1000) == 16016);
@@ -161,11 +177,20 @@ static hwk_entry first_entry(const char *sheet, uint8_t *out, size_t out_len)
 /* A name of each row, and the row's number; the two signs. */
 static void check_rows(void)
 {
-    static const char *const rows[] = {"\" ", "A.B", "1,000", "9:30", "9:30am", "007", "7", "7.5", "7th", "7%", "7mm", "rack"};
+    static const struct {
+        const char *name;
+        uint8_t row;
+    } rows[] = {
+        {"\" ", HWK_ROW_EMPTY},       {"A.B", HWK_ROW_DOTTED},    {"1,000", HWK_ROW_COMMA_INT}, {"9:30", HWK_ROW_TIME},
+        {"9:30am", HWK_ROW_MERIDIEM}, {"7-12", HWK_ROW_RANGE},    {"7/12", HWK_ROW_FRACTION},   {"007", HWK_ROW_LEADING_ZERO},
+        {"7", HWK_ROW_DIGITS},        {"7.5", HWK_ROW_FIGURE},    {"7th", HWK_ROW_ORDINAL},     {"7%", HWK_ROW_PERCENT},
+        {"7mm", HWK_ROW_UNIT},        {"rack", HWK_ROW_ONE_WORD}, {"7-12%", HWK_ROW_PERCENT},   {"7/12%", HWK_ROW_PERCENT},
+    };
     uint8_t out[HWK_CALL_MOST(8)];
     for (size_t i = 0; i < sizeof rows / sizeof rows[0]; i++) {
-        hwk_entry called = first_entry(rows[i], out, sizeof out);
-        assert(called.refusal == HWK_ACCEPTED && called.row == i + 1 && called.sign == (i + 1 == 8 ? HWK_PLUS : 0));
+        hwk_entry called = first_entry(rows[i].name, out, sizeof out);
+        assert(called.refusal == HWK_ACCEPTED && called.row == rows[i].row);
+        assert(called.sign == (called.row == HWK_ROW_FIGURE ? HWK_PLUS : 0));
     }
     assert(first_entry("-7", out, sizeof out).sign == HWK_MINUS);
     assert(first_entry("-7%", out, sizeof out).sign == 0);
@@ -176,7 +201,8 @@ static void check_rows(void)
  * calls. */
 static void check_calls(void)
 {
-    static const char *const repeated[] = {"%", "777777777777 ", "777777777777e", "7 ", "a.", "( ", "-7777777777 "};
+    static const char *const repeated[] = {"%",  "777777777777 ", "777777777777e", "7 ",   "a.",
+                                           "( ", "-7777777777 ",  "7-7 ",          "7/7 ", "7/8 "};
     static uint8_t text[HWK_NAME_LIMIT + 1], out[HWK_CALL_MOST(HWK_NAME_LIMIT)];
     for (size_t i = 0; i < sizeof repeated / sizeof repeated[0]; i++) {
         for (size_t k = 0; k < HWK_NAME_LIMIT; k++) text[k] = (uint8_t)repeated[i][k % strlen(repeated[i])];

@@ -29,12 +29,17 @@ static reading *const readings[] = {hwk_cardinal, hwk_ordinal, hwk_year, hwk_dig
 static const char *const names[] = {
     "", "9:30am", "5kg", "kg", "mm", "-1.5e+10", "1,234,567", "U.S.A.", "1998-1999", "caf\xc3\xa9", "\xed\xa0\x80", "XIV",
     "0", "1984", "777777777777", "000000000001", "7777777777777", "-777777777777.5e-777777777777",
+    "12-18", "777777777777-777777777777", "000000000001-7777777777777", "1/2", "5/8", "777777777776/777777777777", "8/5",
     "(21st)?", "\"", "yahoo! a", "Dr. Smith ended.\n\nThen",
 };
 
 /* What a long text repeats: whole characters, digits, pairs, signs, letters of numbers, marks and whitespace. */
-static const char *const repeated[] = {"\xc3\xa9", "7",  "00", "-+",  "777777777777e", ".",
-                                       "IM",       "aZ", "(",  "\n", "a ",            "Rack. ( "};
+static const char *const repeated[] = {"\xc3\xa9", "7",  "00", "-+",  "777777777777e", ".",        "1-",
+                                       "IM",       "aZ", "(",  "\n", "a ",            "Rack. ( ", "1/"};
+
+/* What stands before many %: nothing, figures, ranges and fractions. */
+static const char *const before[] = {"", "5", "777777777777", "-777777777777.5e7", "12-18", "777777777777-777777777777", "5/8",
+                                     "777777777776/777777777777"};
 
 static uint8_t stack[1 << 20], sheet[HWK_TEXT_LIMIT], called[HWK_CALL_MOST(HWK_TEXT_LIMIT)];
 static uint8_t store[HWK_WORDS_STORE_MOST(HWK_TEXT_LIMIT)], table[HWK_WORDS_TABLE_MOST(HWK_TEXT_LIMIT)];
@@ -123,6 +128,23 @@ static void repeat(const char *piece, size_t most)
     text_len = most / len * len;
 }
 
+/* An entry of so many %, with each of the beginnings before them. */
+static size_t most_of_percents(size_t count)
+{
+    size_t most = 0, i;
+
+    for (i = 0; i < sizeof before / sizeof before[0]; i++) {
+        size_t len = strlen(before[i]);
+
+        memcpy(sheet, before[i], len);
+        memset(sheet + len, '%', count);
+        text = sheet;
+        text_len = len + count < HWK_NAME_LIMIT ? len + count : HWK_NAME_LIMIT;
+        most = larger(most, most_of_entries());
+    }
+    return most;
+}
+
 static size_t within(const char *what, size_t bytes, size_t most)
 {
     bytes -= touched(nothing);
@@ -147,10 +169,8 @@ int main(void)
         repeat(repeated[i], HWK_NAME_LIMIT);
         entries = larger(entries, most_of_entries());
     }
-    repeat("%", 100);
-    hundred = most_of_entries();
-    repeat("%", HWK_NAME_LIMIT);
-    percents = most_of_entries();
+    hundred = most_of_percents(100);
+    percents = most_of_percents(HWK_NAME_LIMIT);
     return !(within("entries without % at their end need", entries, CALL_MOST)
              & within("an entry of 100 % needs", hundred, CALL_MOST + 100 * LEVEL_MOST)
              & within("an entry of 4,096 % needs", percents, CALL_MOST + HWK_NAME_LIMIT * LEVEL_MOST)

@@ -21,9 +21,9 @@ mod steps;
 mod texts;
 
 use comparison::{Comparison, Counts};
-use expected::clear;
+use expected::{clear, rows};
 use random::Random;
-use texts::{distinguish, exhaustive, linear_forms, long, long_numbers, long_tokens, short, step_states, utf8};
+use texts::{distinguish, exhaustive, linear_forms, long, long_numbers, long_tokens, short, step_states, two_numbers, utf8};
 
 /// From this many seconds on there is time for texts of one piece more.
 const LONG: u64 = 600;
@@ -122,13 +122,18 @@ fn tokens(comparison: &mut Comparison, long: bool) {
 /// Sheets, entries and clear names; and that call sheets distinguish their sheets, on pairs.
 fn calls(comparison: &mut Comparison, long: bool) {
     clear::check_tables();
+    rows::check_taken(corners::entries::NAMES);
     texts::sheets::named(comparison);
     texts::sheets::one_byte_changed(comparison);
     texts::sheets::pairs(comparison);
     texts::sheets::exhaustive(comparison, long);
     texts::sheets::long_names(comparison);
     texts::sheets::long_sheets(comparison);
+    two_numbers::exhaustive(comparison, long);
+    two_numbers::long(comparison);
+    two_numbers::at_the_limit(comparison);
     distinguish::names(comparison);
+    distinguish::fractions(comparison);
 }
 
 /// Each random group for some tenths of a second.
@@ -156,5 +161,6 @@ fn tokens_round(comparison: &mut Comparison, random: &mut Random) {
 fn calls_round(comparison: &mut Comparison, random: &mut Random) {
     texts::sheets::random(comparison, random, 5_000);
     texts::sheets::random_pieces(comparison, random, 10_000);
+    two_numbers::random(comparison, random, 5_000);
     distinguish::sheets(comparison, random, 10_000);
 }

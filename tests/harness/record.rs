@@ -24,7 +24,7 @@ fn main() {
     write(&folder, "patterns.txt", &recorded::shapes::lines(), 250_000);
     write(&folder, "numbers.txt", &recorded::numbers::lines(), 400_000);
     write(&folder, "tokens.txt", &recorded::tokens::lines(), 250_000);
-    write(&folder, "calls.txt", &recorded::calls::lines(), 350_000);
+    write(&folder, "calls.txt", &recorded::calls::lines(), 450_000);
 }
 
 fn write(folder: &str, name: &str, lines: &[String], most: usize) {

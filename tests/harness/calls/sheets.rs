@@ -133,7 +133,7 @@ impl Comparison {
         }
     }
 
-    /// The verdict on a name, against document 01's list.
+    /// The verdict on a name, against the list of documents 01 and 02.
     pub fn clear(&mut self, lent: Lent) {
         // SAFETY: the text is lent for the call.
         let ours = unsafe { howhakiru::hwk_is_clear(lent.start, lent.text.len()) };

@@ -1,5 +1,5 @@
-//! Clear names, as document 01's list has them, with the full hours that document 02, A1, adds. No function of the reference or
-//! of the library is used; the words of the tables are written out here.
+//! Clear names, as document 01's list has them, with the full hours and the ranges that document 02, A1 and A2, adds. No function
+//! of the reference or of the library is used; the words of the tables are written out here.
 
 /// ONES, TEENS, TENS and their ordinal forms, and SCALES. No other word is by itself an answer of `cardinal` or `ordinal`.
 #[rustfmt::skip]
@@ -24,6 +24,7 @@ pub fn is_clear(name: &str) -> bool {
         || name.strip_suffix('%').is_some_and(is_number)
         || is_time(name)
         || is_meridiem(name)
+        || is_range(name)
         || is_ordinal(name)
         || UNITS.iter().any(|unit| name.strip_suffix(unit).is_some_and(is_plain))
         || is_initials(name)
@@ -66,6 +67,11 @@ fn is_time(name: &str) -> bool {
 
 fn is_meridiem(name: &str) -> bool {
     name.strip_suffix("am").or_else(|| name.strip_suffix("pm")).is_some_and(is_time)
+}
+
+/// Digits, a hyphen, digits; zeros may lead.
+fn is_range(name: &str) -> bool {
+    name.split_once('-').is_some_and(|(left, right)| is_digits(left) && is_digits(right))
 }
 
 /// th after a tens digit 1, else st, nd, rd for 1, 2, 3, else th.

@@ -1,4 +1,5 @@
-//! The call sheet: the twelve rows over the Rust's functions, and what the calls answer, in the types of include/howhakiru.h.
+//! The call sheet: document 01's twelve rows and the two of document 02, A2, over the Rust's functions, and what the calls answer, in
+//! the types of include/howhakiru.h.
 
 use reference::{numbers, patterns};
 
@@ -43,6 +44,10 @@ pub struct Reading {
 const PLUS: u8 = 1;
 const MINUS: u8 = 2;
 
+/// The numbers of rows 5a and 5b.
+const RANGE: u8 = 13;
+const FRACTION: u8 = 14;
+
 /// The first row that takes the name.
 pub fn read(name: &str) -> Reading {
     let reading = |row, words| Reading { row, sign: 0, words };
@@ -62,6 +67,12 @@ pub fn read(name: &str) -> Reading {
     if let Some((hour, minute, meridiem)) = patterns::split_time_meridiem(name) {
         return reading(5, joined(read_clock(hour, minute, None), numbers::letters(meridiem)));
     }
+    if let Some((left, right)) = split_range(name) {
+        return reading(RANGE, [read(left).words, said("to"), read(right).words].concat());
+    }
+    if patterns::is_digits_slash_digits(name) {
+        return reading(FRACTION, read_fraction(name));
+    }
     if patterns::is_leading_zero_digits(name) {
         return reading(6, numbers::digits(name));
     }
@@ -76,11 +87,11 @@ pub fn read(name: &str) -> Reading {
         return reading(9, numbers::ordinal(&name[..name.len() - 2]));
     }
     if let Some(before) = name.strip_suffix('%') {
-        return reading(10, joined(read(before).words, vec!["per".to_string(), "cent".to_string()]));
+        return reading(10, joined(read(before).words, said("per cent")));
     }
     if let Some((number, unit)) = patterns::split_unit(name) {
         let word = patterns::unit_word(unit).expect("a unit has a word");
-        return reading(11, joined(numbers::cardinal(number), vec![word.to_string()]));
+        return reading(11, joined(numbers::cardinal(number), said(word)));
     }
     reading(12, vec![name.to_ascii_lowercase()])
 }
@@ -88,6 +99,50 @@ pub fn read(name: &str) -> Reading {
 fn joined(mut words: Vec<String>, more: Vec<String>) -> Vec<String> {
     words.extend(more);
     words
+}
+
+/// The words of a phrase.
+fn said(phrase: &str) -> Vec<String> {
+    phrase.split(' ').map(str::to_string).collect()
+}
+
+/// The two parts of a range. "Digits, hyphen, digits" of document 02, A2: no other character, and one hyphen.
+fn split_range(name: &str) -> Option<(&str, &str)> {
+    let parts: Vec<&str> = name.split('-').collect();
+    let [left, right] = parts[..] else { return None };
+    let is_number = |part: &str| !part.is_empty() && part.chars().all(|c| c.is_ascii_digit());
+    (is_number(left) && is_number(right)).then_some((left, right))
+}
+
+/// Document 02, A2: the first and the last run of digits are numerator and denominator.
+fn read_fraction(name: &str) -> Vec<String> {
+    if name == "1/2" {
+        return said("a half");
+    }
+    let mut runs = name.split(|c: char| !c.is_ascii_digit()).filter(|run| !run.is_empty());
+    let numerator = runs.next().expect("digits before the slash");
+    let denominator = runs.next_back().expect("digits behind the slash");
+    let words = numbers::cardinal(numerator);
+    if !is_below(numerator, denominator) {
+        return [words, said("slash"), numbers::cardinal(denominator)].concat();
+    }
+    let plural = if is_below("1", numerator) { said("'s") } else { Vec::new() };
+    [words, numbers::ordinal(denominator), plural].concat()
+}
+
+/// Whether the first number is the smaller one, at any length: with zeros put before the shorter of the two, the order of the
+/// characters is that of the values.
+fn is_below(first: &str, second: &str) -> bool {
+    let width = first.len().max(second.len());
+    let drawn_out = |digits: &str| "0".repeat(width - digits.len()) + digits;
+    drawn_out(first) < drawn_out(second)
+}
+
+/// Each row takes one of these names; the first takes no name but the empty one.
+pub fn check_taken(names: &[&str]) {
+    for row in 1..=FRACTION {
+        assert!(names.iter().chain(&[""]).any(|name| read(name).row == row), "no name of row {row}");
+    }
 }
 
 /// `read_clock` of normalize.rs, which the reference does not make public, and the word for a minute of "00" that document 02, A1,

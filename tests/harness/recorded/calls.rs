@@ -12,7 +12,7 @@ use crate::corners::pieces;
 use crate::corners::shapes::DAMAGED;
 use crate::expected::answers;
 use crate::expected::clear::{self, BARRED};
-use crate::expected::rows::Called;
+use crate::expected::rows::{self, Called};
 use crate::random::Random;
 use crate::recorded::text::{each_once, hex, RecordedText};
 
@@ -33,6 +33,9 @@ const AT_THE_LIMIT: &[(u8, &[u8], usize)] = &[
     (b'7', b"", 4_097), (b'0', b"", 4_096), (b'0', b"", 4_097), (b'%', b"", 4_095), (b'%', b"", 4_096), (b'%', b"", 4_097), (b'-', b"", 4_096),
     (b'7', b"%", 4_096), (b'7', b"%", 4_097), (b'7', b"th", 4_096), (b'7', b"th", 4_097), (b'7', b"mm", 4_096), (b'7', b"mm", 4_097),
     (b'7', b".5e5", 4_096), (b'7', b".5e5", 4_097), (b'7', b",000", 4_096), (b',', b"5th", 4_096), (b',', b"5mm", 4_096), (b'9', b":30", 4_096),
+    (b'7', b"-5", 4_096), (b'7', b"-5", 4_097), (b'0', b"-05", 4_096), (b'7', b"-5%", 4_096), (b'7', b"-", 4_096), (b'5', b"-6-7", 4_096),
+    (b'7', b"/5", 4_096), (b'7', b"/5", 4_097), (b'0', b"/8", 4_096), (b'0', b"5/8", 4_096), (b'0', b"1/2", 4_096), (b'0', b"/00", 4_096),
+    (b'7', b"/5%", 4_096), (b'7', b"/", 4_096), (b'1', b"/2/3", 4_096), (b'/', b"5", 4_096),
     (b'0', b".0", 4_096), (b'a', b"\xc3\xa9", 4_096), (b'a', b"\xc3\xa9", 4_097), (b'.', b"x", 4_096), (b'.', b"x", 4_097),
     (b'a', b"! b", 4_099), (b'a', b"! B", 4_099), (b'a', b"! B", 4_100), (b'a', b" b. 5% C", 4_104), (b'a', b" b. 5% C", 4_105),
     (b'7', b". 5mm (21st)", 4_108), (b'7', b". 5mm (21st)", 4_109), (b'%', b" 007", 4_100), (b'%', b" 007", 4_101), (b'(', b"x", 4_098),
@@ -50,6 +53,7 @@ const AT_THE_LIMIT: &[(u8, &[u8], usize)] = &[
 pub fn lines() -> Vec<String> {
     let called = Called::of(Ok(SHEET)).sheet();
     assert_eq!(called, CALL_SHEET.as_bytes(), "document 01's example");
+    rows::check_taken(NAMES);
     each_once(texts()).iter().map(line).collect()
 }
 

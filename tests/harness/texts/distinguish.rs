@@ -5,7 +5,7 @@ use std::collections::HashMap;
 
 use crate::comparison::{Comparison, Lent};
 use crate::expected::clear::{self, UNITS};
-use crate::expected::rows::call_most;
+use crate::expected::rows::{call_most, Called};
 use crate::expected::tokens::Tokenized;
 use crate::howhakiru;
 use crate::random::Random;
@@ -15,6 +15,8 @@ use crate::texts::exhaustive::each_text;
 const ALPHABETS: &[(usize, &[&str])] = &[
     (5, &["0", "1", "2", "10", "12", ".", "-", "+", "e", "%"]),
     (5, &["0", "1", "2", "5", "9", ":", "am", "pm", "%", "10", "20", "00"]),
+    (6, &["0", "1", "2", "12", "00", "-", "."]),
+    (5, &["0", "2", "20", "1000000000000", "-", "%", "to", "e"]),
     (4, &["0", "1", "2", "3", "11", "100", "000", "st", "nd", "rd", "th", "mm", "kg", "LB"]),
     (5, &["A", "B", "Z", ".", "a", "zz", "oh", "one", "cent", "per", "hundred", "point", "e", "m", "p"]),
 ];
@@ -22,7 +24,7 @@ const ALPHABETS: &[(usize, &[&str])] = &[
 #[rustfmt::skip]
 const WORDS: &[&str] = &[
     "aa", "zz", "bar", "rack", "to", "oh", "per", "cent", "point", "minus", "plus", "am", "pm", "mm", "pounds", "feet", "hertz", "hundred",
-    "hundredth", "thousandth", "millionth", "eth", "teen", "oneone", "clock", "oclock",
+    "hundredth", "thousandth", "millionth", "eth", "teen", "oneone", "clock", "oclock", "half", "slash", "toto",
 ];
 
 /// Every clear name of a few pieces: no two have the same line.
@@ -50,8 +52,34 @@ pub fn names(comparison: &mut Comparison) {
         visit(number.to_string().as_bytes());
         ["st", "nd", "rd", "th"].iter().for_each(|suffix| visit(format!("{number}{suffix}").as_bytes()));
     }
+    for left in 0..130 {
+        (0..130).for_each(|right| visit(format!("{left}-{right}").as_bytes()));
+        (0..1_300).step_by(7).for_each(|right| visit(format!("0{right}-{left}").as_bytes()));
+    }
     for unit in UNITS {
         (0..1_200).for_each(|number| visit(format!("{number}{unit}").as_bytes()));
+    }
+}
+
+/// Fractions that are called alike, two by two. So no fraction is a clear name: of two runs of digits beside each other nobody hears
+/// where the first one ends.
+pub fn fractions(comparison: &mut Comparison) {
+    comparison.begin("fractions that are called alike");
+    let ones = |count: usize| "1".repeat(count);
+    let long = [13, 14].map(|count| format!("{}/{}", ones(count), ones(29 - count)));
+    for (names, words) in [
+        (["100/21000", "120/1000"].map(str::to_string), "one hundred twenty one thousandth 's".to_string()),
+        (long, format!("{}first 's", "one ".repeat(28))),
+    ] {
+        let line = format!("+ {words}\n").into_bytes();
+        for name in names {
+            assert_eq!((clear::is_clear(&name), Called::of(Ok(&name)).sheet()), (false, line.clone()), "{name}");
+            comparison.with(name.as_bytes(), 0, |comparison, lent| {
+                let called = comparison.sheet_of(lent);
+                comparison.settle(lent, format_args!("the line of this name"), &called, &line);
+                comparison.clear(lent);
+            });
+        }
     }
 }
 
@@ -63,15 +91,24 @@ pub fn sheets(comparison: &mut Comparison, random: &mut Random, pairs: usize) {
         let mut others = names.clone();
         if random.below(2) == 0 && !others.is_empty() {
             let place = random.below(others.len());
-            match random.below(4) {
+            match random.below(5) {
                 0 => others[place] = some_name(random),
                 1 => others[place] = neighbour(random, &others[place]),
                 2 => drop(others.remove(place)),
-                _ => others.insert(place, some_name(random)),
+                3 => others.insert(place, some_name(random)),
+                _ => taken_apart(&mut others, place),
             }
         }
         let (first, second) = (sheet_of(random, &names), sheet_of(random, &others));
         comparison.distinguished(first.as_bytes(), second.as_bytes());
+    }
+}
+
+/// In place of a range its numbers and the word between them, which are clear names too.
+fn taken_apart(names: &mut Vec<String>, place: usize) {
+    if let Some((left, right)) = names[place].split_once('-').filter(|(left, _)| !left.is_empty() && !left.ends_with('e')) {
+        let parts = [left, "to", right].map(str::to_string);
+        names.splice(place..=place, parts);
     }
 }
 
@@ -81,7 +118,8 @@ fn neighbour(random: &mut Random, name: &str) -> String {
         format!("{name}%"), format!("{name}0"), format!("0{name}"), format!("-{name}"), format!("{name}.0"), format!("{name}e0"),
         format!("{name}th"), format!("{name}:00"), format!("{name}:01"), format!("{name}:00am"), format!("{name}am"), format!("{name}mm"),
         name.replace('1', "2"), name.replace('0', ""), name.replace('%', ""), name.replace("am", "pm"), name.replace(":00", ""),
-        name.replace(":00am", ":00"),
+        name.replace(":00am", ":00"), format!("{name}-0"), format!("0-{name}"), format!("{name}-{name}"), name.replace('-', ""),
+        name.replace('-', "0-"), name.replace('-', "-0"), name.replace("0-", "-0"), name.replace("-0", "0-"),
     ];
     let changed = random.one_of(&changes);
     if clear::is_clear(changed) { changed.clone() } else { name.to_string() }
@@ -94,7 +132,7 @@ fn some_name(random: &mut Random) -> String {
             (0..len).map(|_| char::from(*random.one_of(b"0001257"))).collect()
         };
         let (a, b) = (digits(random), digits(random));
-        let name = match random.below(11) {
+        let name = match random.below(13) {
             0 => a,
             1 => format!("{a}%"),
             2 => format!("-{a}"),
@@ -105,6 +143,7 @@ fn some_name(random: &mut Random) -> String {
             7 => format!("{a}{}", random.one_of(&["st", "nd", "rd", "th"])),
             8 => format!("{a}{}", random.one_of(UNITS)),
             9 => (0..2 + random.below(3)).map(|_| random.one_of(&["A", "B", "E", "M", "P", "Z"]).to_string()).collect::<Vec<_>>().join("."),
+            10 | 11 => format!("{a}-{b}"),
             _ => random.one_of(WORDS).to_string(),
         };
         if clear::is_clear(&name) {

@@ -12,4 +12,5 @@ pub mod short;
 pub mod step_states;
 pub mod steps;
 pub mod tokens;
+pub mod two_numbers;
 pub mod utf8;

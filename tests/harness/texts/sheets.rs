@@ -15,12 +15,14 @@ const ALPHABETS: &[(&str, usize, &[&str])] = &[
     ("rows: numbers", 5, &["0", "1", "12", ".", ",", "-", "+", "e", "%", "000"]),
     ("rows: times and units", 4, &["0", "9", "12", ":", ".", "30", "00", "am", "PM", "%", "mm", "LBS", ",", "-"]),
     ("rows: ordinals and letters", 4, &["1", "2", "11", "0", ",", "st", "TH", "nd", "A", "b", ".", "%", "é"]),
+    ("rows: ranges, fractions and others", 4, &["0", "1", "2", "12", "007", "-", "/", "%", "mm", "th", "am", ":30", ",", ".", " ", "é", "１"]),
     ("sheets of short entries", 5, &["5", "0", "A", "b", ".", ":", "%", "(", " ", "\n", "!"]),
 ];
 
 const CLEAR_ALPHABETS: &[(&str, usize, &[&str])] = &[
     ("clear: numbers", 6, &["0", "1", "9", ".", "-", "+", "e", "E", "%", ","]),
     ("clear: times", 5, &["0", "1", "9", "5", "6", ":", ".", "am", "pm", "AM", "m", "%", "00"]),
+    ("clear: ranges", 6, &["0", "1", "00", "-", "%", "e", "/", ".", "é"]),
     ("clear: ordinals", 5, &["0", "1", "2", "3", "4", "st", "nd", "rd", "th", "TH", ",", "s", "t"]),
     ("clear: units", 4, &["0", "5", "LB", "LBS", "lb", "lbs", "ft", "FT", "kg", "km", "cm", "mm", "ml", "oz", "hz", "Hz", "HZ", "KHz",
         "MHz", "GHz", "KB", "GB", "MB", "TB", ",", "S", "m"]),
@@ -33,6 +35,7 @@ pub fn named(comparison: &mut Comparison) {
     comparison.begin("entries, every buffer");
     for name in NAMES {
         comparison.every_call_room(name.as_bytes(), 0);
+        comparison.clear_name(name.as_bytes(), 0);
         comparison.every_call_room(format!(" ({name}). {name}!\n\n\"{name}").as_bytes(), 1);
     }
     comparison.begin("damaged sheets");
@@ -42,10 +45,10 @@ pub fn named(comparison: &mut Comparison) {
     }
 }
 
-/// Each with each of its bytes replaced by every byte, left out, and with every ASCII byte put before it.
+/// Each short one with each of its bytes replaced by every byte, left out, and with every ASCII byte put before it.
 pub fn one_byte_changed(comparison: &mut Comparison) {
     comparison.begin("entries, one byte changed");
-    for name in NAMES.iter().map(|name| name.as_bytes()) {
+    for name in NAMES.iter().map(|name| name.as_bytes()).filter(|name| name.len() <= 20) {
         for place in 0..=name.len() {
             let (front, back) = name.split_at(place);
             let after = back.get(1..).unwrap_or(b"");
@@ -88,6 +91,8 @@ const LONG_NAMES: &[Pattern] = &[
     ("", "%", ""), ("5", "%", ""), ("", "7", ""), ("", "7", "%"), ("", "0", ""), ("0", "7", ""), ("", "a", ""), ("", "Z", ""), ("", "-", ""),
     ("", "A.", "A"), ("", "a.", ""), ("1", ",000", ""), ("-", "7", ".5"), ("1.", "7", ""), ("1", "7", "e5"), ("1e", "7", ""), ("", "7", "th"),
     ("", "7", "mm"), ("1", ",", "mm"), ("", "é", ""), ("", "7%", ""), ("-7", "e7", ""), ("", "e", ""), ("x", "!", "x"), ("", "a%", ""),
+    ("", "7", "-7"), ("7-", "7", ""), ("0-", "7", "%"), ("", "7-", ""), ("", "7-", "7"),
+    ("", "7", "/7"), ("7/", "7", ""), ("7/", "0", "8%"), ("", "7/", ""), ("", "7/", "7"),
 ];
 
 /// Names of 4,095 to 4,097 bytes, alone and with marks and neighbours, which do not count.
@@ -116,7 +121,8 @@ pub fn long_names(comparison: &mut Comparison) {
 const LONG_SHEETS: &[Pattern] = &[
     ("", "7 ", ""), ("", "777777777777 ", ""), ("", "% ", ""), ("", "-1.5e-10% ", ""), ("", "Bar 12 at 9:30. Rack 5mm (21st)\n", ""),
     ("", "( ", ""), ("", "\n", ""), ("", ". ", ""), ("", "A.B.C. 007 1,000 ", ""), ("", "9:00pm 00:00 000,000 ", ""), ("", "é ", ""),
-    ("", "9:00 ", ""), ("", "21:00% ", ""), ("", "word ", ""), ("", "- ", ""), ("", "5mm!\n\n", ""),
+    ("", "9:00 ", ""), ("", "21:00% ", ""), ("", "word ", ""), ("", "- ", ""), ("", "5mm!\n\n", ""), ("", "12-18 ", ""), ("", "007-5% ", ""),
+    ("", "5/8 ", ""), ("", "1/2 8/5 00/00% ", ""), ("", "5- ", ""), ("", "5/ ", ""), ("", "777777777777-7/7 ", ""),
 ];
 
 /// Sheets of 65,535 to 65,537 bytes.
