@@ -7,12 +7,14 @@ use rows::{Entry, Row, Sign};
 use std::alloc::Global;
 
 // Searched by number in place of a TryFrom: the enum is another crate's, so this crate can't implement the trait for it.
-const ROWS: [Row; 13] = [
+const ROWS: [Row; 15] = [
     Row::Empty,
     Row::Dotted,
     Row::CommaInt,
     Row::Time,
     Row::Meridiem,
+    Row::Range,
+    Row::Fraction,
     Row::LeadingZero,
     Row::Digits,
     Row::Figure(Sign::Plus),
