@@ -9,7 +9,7 @@ use lib.ListN.{length, take}
 use Rattle.vocabulary.specs.Vocabulary.{word_of}
 use Rattle.vocabulary.proofs.Laws.{unfold_vocabulary}
 use Rattle.numerals.specs.Words.{spelled, spell}
-use Rattle.numerals.proofs.Said.{says_more}
+use Rattle.numerals.proofs.Said.{said_nothing, says_more}
 use Rattle.word_writer.specs.Writer.{Says}
 use Rattle.word_writer.specs.declared.Writer.{Writer}
 use Rattle.word_writer.proofs.Saying.{says_append}
@@ -20,7 +20,7 @@ use Rattle.rows.specs.declared.Row.TheVariants.{Range, Percent}
 use Rattle.rows.proofs.Percent.{percent_read}
 use Rattle.rows.proofs.Ranges.{range_read}
 use Rattle.row_readers.specs.Walk.{Reads}
-use Rattle.row_readers.proofs.Laws.{none_said, reads_same}
+use Rattle.row_readers.proofs.Laws.{reads_same}
 use Rattle.entry_reader.specs.Percents.{per_cents, with_percents}
 
 per_cents_suc : (n : ℕ) → per_cents (n + 1) ≡ per_cent ++ per_cents n
@@ -40,7 +40,7 @@ percent_said a b = says_append a b
 -- no sign is said
 pub no_percents_said : {p : Writer} → Says (spelled (per_cents 0)) p p
 unfolding per_cents
-no_percents_said = none_said
+no_percents_said = said_nothing
 
 -- one sign is said after n of them
 pub one_percent_more : (n : ℕ) {p q r : Writer} → Says (spelled (per_cents n)) p q → Says (spelled per_cent) q r → Says (spelled (per_cents (n + 1))) p r

@@ -86,15 +86,15 @@ shorter_below a (c ∷ b) h k n l =
     omega (arith, value_below a h, value_least c b k n)
 
 -- the first bytes that differ decide, and else the shorter text is before the longer one
-abbrev pub before : List ℕ → List ℕ → Bool
-before [] [] = false
-before [] (y ∷ ys) = true
-before (x ∷ xs) [] = false
-before (x ∷ xs) (y ∷ ys) = ltb x y || (eqb x y && before xs ys)
+abbrev pub lex_less : List ℕ → List ℕ → Bool
+lex_less [] [] = false
+lex_less [] (y ∷ ys) = true
+lex_less (x ∷ xs) [] = false
+lex_less (x ∷ xs) (y ∷ ys) = ltb x y || (eqb x y && lex_less xs ys)
 
 -- what `<` answers for two slices of bytes
-pub slice_before : (a b : List ℕ) {r : Bool} → r ≡ is_some_and is_lt (slice_partial_cmp (λ x y. Some (nat_cmp x y)) a b) → r ≡ before a b
-slice_before a b {r} = same_from_slice_cmp_tested nat_cmp is_lt before refl (λ _ _. refl) (λ _ _. refl) (λ x y xs ys o h. grind (arith, nat_tests)) a b r
+pub slice_lex_less : (a b : List ℕ) {r : Bool} → r ≡ is_some_and is_lt (slice_partial_cmp (λ x y. Some (nat_cmp x y)) a b) → r ≡ lex_less a b
+slice_lex_less a b {r} = same_from_slice_cmp_tested nat_cmp is_lt lex_less refl (λ _ _. refl) (λ _ _. refl) (λ x y xs ys o h. grind (arith, nat_tests)) a b r
 
 ltb_add : (n a b : ℕ) → ltb (n + a) (n + b) ≡ ltb a b
 ltb_add n a b = go (ltb a b) refl
@@ -115,7 +115,7 @@ first_decides x y s t h k e l =
 
 -- of two numbers of the same length the first digits that differ decide
 pub same_length_below : (a b : List ℕ) → all digit a ≡ true → all digit b ≡ true → length a ≡ length b
-    → ltb (value a) (value b) ≡ before a b
+    → ltb (value a) (value b) ≡ lex_less a b
 unfolding all
 same_length_below [] [] h k e = le-ltb (value []) (value []) (omega arith)
 same_length_below [] (y ∷ b) h k e = absurd (omega arith)
@@ -128,8 +128,8 @@ same_length_below (x ∷ a) (y ∷ b) h k e =
     l : length a ≡ length b
     l = omega arith
 
-    go : (t u : Bool) → ltb x y ≡ t → eqb x y ≡ u → ltb (value a) (value b) ≡ before a b
-        → ltb (value (x ∷ a)) (value (y ∷ b)) ≡ t || (u && before a b)
+    go : (t u : Bool) → ltb x y ≡ t → eqb x y ≡ u → ltb (value a) (value b) ≡ lex_less a b
+        → ltb (value (x ∷ a)) (value (y ∷ b)) ≡ t || (u && lex_less a b)
     go true u p q i = lt-ltb _ _ (first_decides x y a b h k l (ltb-true x y p))
     go false true p q i =
         rw (value_cons x a h, value_cons y b k, ← l, eqb-true x y q) (ltb_add (digit_value y * 10 ^ length a) (value a) (value b) ∙ i)
@@ -139,7 +139,7 @@ same_length_below (x ∷ a) (y ∷ b) h k e =
 
 -- the order of decimal numbers without leading zeros: by length, and at the same length by the first digits that differ
 abbrev pub shortlex : List ℕ → List ℕ → Bool
-shortlex a b = cond (eqb (length a) (length b)) (before a b) (ltb (length a) (length b))
+shortlex a b = cond (eqb (length a) (length b)) (lex_less a b) (ltb (length a) (length b))
 
 -- it is the order of the values, once the leading zeros are taken off
 pub shortlex_below : (a b : List ℕ) → all digit a ≡ true → all digit b ≡ true
@@ -158,7 +158,7 @@ shortlex_below a b h k = rw (← value_significant a, ← value_significant b) (
     no_zero : (s : List ℕ) → except (code "0") (get_or (significant s) 0 0) ≡ true
     no_zero = span_front (only 48) (except 48) refl (λ b e. rw e)
 
-    go : (t u : Bool) → eqb (length x) (length y) ≡ t → ltb (length x) (length y) ≡ u → cond t (before x y) u ≡ ltb (value x) (value y)
+    go : (t u : Bool) → eqb (length x) (length y) ≡ t → ltb (length x) (length y) ≡ u → cond t (lex_less x y) u ≡ ltb (value x) (value y)
     go true u p q = sym (same_length_below x y (digits_left a h) (digits_left b k) (eqb-true _ _ p))
     go false true p q = sym (lt-ltb _ _ (shorter_below x y (digits_left a h) (digits_left b k) (no_zero b) (ltb-true _ _ q)))
     go false false p q =

@@ -1,4 +1,4 @@
 pub mod Compare
 pub mod Read
 pub mod Room
-pub mod Saying
+pub mod WordNumbers

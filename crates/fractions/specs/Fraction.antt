@@ -1,6 +1,5 @@
 -- Document 02, A2: fractions. Definitions only.
 use Rattle.std.specs.Prelude.{cond, List, [], ◌∷◌, ◌++◌, ℕ, ltb, drop}
-use Prim.Native.Char.{code}
 use Rattle.lists.specs.Bytes.{bytes, same, after_last, take_while}
 use Rattle.lists.specs.Classes.{digit, non_digit}
 use Rattle.numerals.specs.Words.{Word, other}
@@ -21,14 +20,12 @@ value s = decimal (digit_values s)
 
 -- "the word "'s" if the numerator exceeds 1"
 unfoldable pub plural : List ℕ → List Word
-plural above = cond (ltb 1 (value above)) (other (bytes "'s") ∷ []) []
+plural num = cond (ltb 1 (value num)) (other (bytes "'s") ∷ []) []
 
 -- "with a numerator below the denominator, it is the cardinal, then the ordinal, then the word "'s" ..; else cardinal, "slash",
 -- cardinal"
 unfoldable pub fraction_of : List ℕ → List ℕ → List Word
-fraction_of above below =
-    cond (ltb (value above) (value below)) (cardinal above ++ (ordinal below ++ plural above))
-    (cardinal above ++ other (bytes "slash") ∷ cardinal below)
+fraction_of num den = cond (ltb (value num) (value den)) (cardinal num ++ (ordinal den ++ plural num)) (cardinal num ++ other (bytes "slash") ∷ cardinal den)
 
 -- "only the name "1/2" is "a", "half""
 unfoldable pub fraction : List ℕ → List Word

@@ -23,12 +23,12 @@ use Rattle.vocabulary.proofs.Laws.{unfold_vocabulary}
 use Rattle.numerals.specs.Words.{Word, other, spell, spelled}
 use Rattle.numerals.specs.Cardinal.{cardinal}
 use Rattle.numerals.proofs.Digits.{spelled_append}
-use Rattle.numerals.proofs.Said.{said_word, says_more}
+use Rattle.numerals.proofs.Said.{says_more}
 use Rattle.years.specs.Year.{year}
 use Rattle.letters.specs.Letters.{letter_word, letters}
 use Rattle.word_writer.specs.Writer.{Says}
 use Rattle.word_writer.specs.declared.Writer.{Writer}
-use Rattle.word_writer.proofs.Saying.{says_nothing, says_same}
+use Rattle.word_writer.proofs.Saying.{says_same}
 use Rattle.rows.specs.Rows.{Reading, by, clock, full_hour, clock_letters, is_percent, read_step, read}
 use Rattle.rows.specs.declared.Row.{Row}
 use Rattle.rows.specs.declared.Row.TheVariants.{Meridiem, Unit, OneWord}
@@ -36,16 +36,6 @@ use Rattle.rows.proofs.Laws.{read_eq}
 use Rattle.rows.proofs.Dotted.{letter_chars}
 use Rattle.rows.proofs.Taken.{dotted_byte, dotted_bytes}
 use Rattle.row_readers.specs.Walk.{Reads, initials, word_of_unit, rows_after}
-
--- no word is said
-pub none_said : {p : Writer} → Says (spelled []) p p
-unfolding spelled
-none_said = says_nothing
-
--- a word that no table of numbers has is said
-pub other_said : (w : List ℕ) {p q : Writer} → Says (w ∷ []) p q → Says (spelled (other w ∷ [])) p q
-unfolding spell
-other_said w a = said_word (other w) a
 
 -- an equal reading is read
 pub reads_same : {g h : Reading} → g ≡ h → {p q : Writer} {r : Row} → Reads h p q r → Reads g p q r

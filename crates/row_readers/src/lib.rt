@@ -57,7 +57,7 @@ fn say_time(hour: &[u8], minute: &[u8], out: &mut Writer)
 }
 
 // Says the letter b. If b is a point, nothing is said.
-#[tactic(auto, using(crate::proofs::Laws::point_initial, crate::proofs::Laws::none_said))]
+#[tactic(auto, using(crate::proofs::Laws::point_initial, numerals::proofs::Said::said_nothing))]
 fn say_initial(b: u8, out: &mut Writer)
     ensures { Says (spelled (initials (b ∷ []))) out.old out.new }
 {
@@ -67,7 +67,7 @@ fn say_initial(b: u8, out: &mut Writer)
 }
 
 // Says one word for each byte that is no point.
-#[tactic(auto, using(crate::proofs::Laws::no_initials, crate::proofs::Laws::none_said))]
+#[tactic(auto, using(crate::proofs::Laws::no_initials, numerals::proofs::Said::said_nothing))]
 fn say_initials(name: &[u8], out: &mut Writer)
     ensures { Says (spelled (initials name.now)) out.old out.new }
 {
@@ -145,7 +145,7 @@ fn from_meridiem(name: &[u8], out: &mut Writer) -> Row
 }
 
 // All rows but 5a and 10: says the words of a name, and answers the first of them that takes it.
-#[tactic(auto, using(crate::proofs::Laws::dotted_initials, crate::proofs::Laws::none_said), unfolding(crate::specs::Walk::rows_after))]
+#[tactic(auto, using(crate::proofs::Laws::dotted_initials, numerals::proofs::Said::said_nothing), unfolding(crate::specs::Walk::rows_after))]
 pub fn read_by_row(name: &[u8], out: &mut Writer) -> Row
     ensures { Reads (rows_after 0 name.now) out.old out.new result }
 {

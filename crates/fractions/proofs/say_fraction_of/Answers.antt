@@ -5,10 +5,10 @@ use Rattle.lists.specs.Bytes.{bytes}
 use Rattle.numerals.specs.Words.{other}
 use Rattle.numerals.specs.Cardinal.{cardinal}
 use Rattle.numerals.specs.Ordinal.{ordinal}
-use Rattle.numerals.proofs.Said.{says_more}
+use Rattle.numerals.proofs.Said.{said_other, says_more}
 use Rattle.fractions.specs.Fraction.{plural}
 use Rattle.fractions.proofs.Read.{proper_of, improper_of}
-use Rattle.fractions.proofs.Saying.{other_said, slash_number}
+use Rattle.fractions.proofs.WordNumbers.{slash_number}
 use Rattle.fractions.proofs.say_fraction_of.Goals as goal
 
 pub returns-then-is_proper : goal.returns-then-is_proper
@@ -24,6 +24,6 @@ returns-else-is_proper c =
     let a = c.args.numerator.now in
     let b = c.args.denominator.now in
     let upto = ltb-false _ _ (sym c.is_below-is_proper.ensures ∙ c.if-is_proper.false) in
-    let slash = other_said _ (c.word.ensures ∙ slash_number) c.put_word.ensures in
+    let slash = said_other _ (rw (c.word.ensures, slash_number) at c.put_word.ensures) in
     says_more (cardinal a) (other (bytes "slash") ∷ cardinal b) (improper_of a b upto) c.say_cardinal.ensures
     (says_more (other (bytes "slash") ∷ []) (cardinal b) refl slash c.say_cardinal-else-is_proper.ensures)
