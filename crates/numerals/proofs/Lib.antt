@@ -8,3 +8,4 @@ pub mod Room
 pub mod Picking
 pub mod Flushing
 pub mod Said
+pub mod Unfolded

@@ -3,24 +3,16 @@ use mathlib.Core.List.{flat_map}
 use lib.Dec.{T}
 use Rattle.lists.specs.Bytes.{same_by, split, onto, non_empty, span, filter_if, all, after_last, any}
 use Rattle.lists.specs.Recur.{recur, recur_at}
-use Rattle.vocabulary.proofs.Laws.{unfold_vocabulary}
-use Rattle.numerals.specs.Words.{spell, spelled}
-use Rattle.numerals.specs.Cardinal.{digit_values, pair_words, join_at_scale, by_scale, cardinal_step, short_cardinal, cardinal_of, cardinal, digits}
-use Rattle.numerals.specs.Ordinal.{form_in, ordinal_form, or_zero, on_last, ordinal}
+use Rattle.numerals.proofs.Unfolded.{unfold_numerals}
 use Rattle.years.specs.Year.{year_step, year_of, year}
 use Rattle.reals.specs.Real.{pointed, real_step, real}
 use Rattle.roman.specs.Roman.{roman_letter_value, sum_added, sum_subtracted, roman_value}
 use Rattle.tokens.specs.Tokens.{cut, tokens_step, tokens}
 use Rattle.set_pieces.specs.SetPieces.{set_pieces, reading_corners, same_texts, piece_holds}
 
--- what is unfolded to compute the words of numbers
-unfoldable unfold_numbers : Unit {0}
-unfolding unfold_vocabulary spell spelled digit_values pair_words join_at_scale by_scale cardinal_step short_cardinal cardinal_of cardinal digits
-unfold_numbers = tt
-
--- and all readings that have set pieces
+-- what is unfolded to compute all readings that have set pieces
 unfoldable unfold_readings : Unit {0}
-unfolding unfold_numbers form_in ordinal_form or_zero on_last ordinal year_step year_of year pointed real_step real
+unfolding unfold_numerals year_step year_of year pointed real_step real
 unfold_readings = tt
 
 -- and roman values, tokens and the pieces

@@ -10,7 +10,8 @@ use Rattle.numerals.specs.Words.{spelled}
 use Rattle.numerals.specs.Ordinal.{ordinal}
 use Rattle.shapes.specs.Shapes.{is_comma_groups}
 use Rattle.rows.specs.Rows.{read}
-use Rattle.witness.proofs.Unfolded.{unfold_tokens, unfold_shapes, unfold_clear, unfold_ordinal, unfold_readings}
+use Rattle.witness.proofs.Unfolded.{unfold_tokens, unfold_shapes, unfold_clear, unfold_readings}
+use Rattle.numerals.proofs.Unfolded.{unfold_numerals}
 use Rattle.clear.specs.Clear.{suffix}
 use Rattle.clear.specs.Test.{last_two, is_clear}
 use Rattle.decoder.specs.Decode.{digit_bytes, decimal_digits, last_word}
@@ -40,7 +41,7 @@ clear_names = refl
 
 -- the right suffix of each number below 100 is what its ordinal's last word ends with
 pub suffix_said : upto (λ k. let s = digit_bytes (decimal_digits 1 k []) in same (last_two (last_word (spelled (ordinal s)))) (suffix s)) 100 ≡ true
-unfolding digit_bytes decimal_digits suffix same_by span all any recur recur_at unfold_ordinal
+unfolding digit_bytes decimal_digits suffix same_by span all any recur recur_at unfold_numerals
 suffix_said = refl
 
 -- 02, A2: "fractions don't, because two long digit runs side by side can't be told apart"

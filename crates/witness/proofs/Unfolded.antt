@@ -1,14 +1,11 @@
 -- What is unfolded to compute the definitions on whole sheets. Assumes nothing.
 use mathlib.Core.List.{flatten}
-use Rattle.lists.specs.Bytes.{same_by, filter_if, split, onto, span, all, any, after_last}
+use Rattle.lists.specs.Bytes.{same_by, split, onto, span, all, any, after_last}
 use Rattle.lists.specs.Recur.{recur, recur_at}
-use Rattle.vocabulary.proofs.Laws.{unfold_vocabulary}
 use Rattle.vocabulary.specs.Vocabulary.{ones, teens, tens, ordinal_ones, ordinal_teens, ordinal_tens}
 use Rattle.units.specs.Units.{unit_abbreviations, abbreviations, unit_words, index_of}
 use Rattle.shapes.specs.Shapes.{is_digits, is_alpha, split_once, is_hour_minute, is_dotted_abbrev}
-use Rattle.numerals.specs.Words.{spell, spelled}
-use Rattle.numerals.specs.Cardinal.{digit_values, pair_words, join_at_scale, by_scale, cardinal_step, short_cardinal, cardinal_of, cardinal, digits}
-use Rattle.numerals.specs.Ordinal.{form_in, ordinal_form, or_zero, on_last, ordinal}
+use Rattle.numerals.proofs.Unfolded.{unfold_numerals}
 use Rattle.numerals.specs.Value.{decimal_from, decimal}
 use Rattle.years.specs.Year.{year_step, year_of, year}
 use Rattle.reals.specs.Real.{pointed, real_step, real}
@@ -36,18 +33,9 @@ unfoldable pub unfold_clear : Unit {0}
 unfolding unfold_shapes is_clear is_exponent_clear is_fraction_clear is_figure_clear suffix table_words ones teens tens ordinal_ones ordinal_teens ordinal_tens
 unfold_clear = tt
 
--- for cardinal and ordinal numbers
-unfoldable pub unfold_cardinal : Unit {0}
-unfolding unfold_vocabulary spell spelled filter_if digit_values pair_words join_at_scale by_scale cardinal_step short_cardinal cardinal_of cardinal
-unfold_cardinal = tt
-
-unfoldable pub unfold_ordinal : Unit {0}
-unfolding unfold_cardinal form_in ordinal_form or_zero on_last ordinal
-unfold_ordinal = tt
-
 -- for the rows and their readings
 unfoldable pub unfold_readings : Unit {0}
-unfolding unfold_ordinal digits year_step year_of year pointed real_step real letter_word chars letters clock full_hour clock_letters decimal decimal_from plural fraction_of fraction read_step read_with
+unfolding unfold_numerals year_step year_of year pointed real_step real letter_word chars letters clock full_hour clock_letters decimal decimal_from plural fraction_of fraction read_step read_with
 unfold_readings = tt
 
 -- for sentences and lines
