@@ -1,4 +1,3 @@
 pub mod Compare
 pub mod Read
 pub mod Room
-pub mod WordNumbers
