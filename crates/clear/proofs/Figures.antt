@@ -15,9 +15,9 @@ use Rattle.lists.proofs.Scan.{span_all, span_le, starts_with_first}
 use Rattle.lists.proofs.Bools.{or_true_elim}
 use Rattle.shapes.specs.Shapes.{is_digits, is_leading_zero_digits, strip_sign}
 use Rattle.shapes.proofs.Laws.{digits_all, digits_nonempty, starts_with_cons}
-use Rattle.clear.specs.Clear.{plain, OptionalMinus, no_minus, a_minus, Fraction, no_point, a_point, ExponentSign, no_sign, plus_sign, minus_sign}
+use Rattle.clear.specs.Clear.{plain, OptionalMinus, no_minus, a_minus, Decimals, no_point, a_point, ExponentSign, no_sign, plus_sign, minus_sign}
 use Rattle.clear.specs.Clear.{Exponent, no_exponent, an_exponent, Number, number_digits, number_figure, Clear, clear_percent}
-use Rattle.clear.specs.Test.{is_exponent_clear, is_fraction_clear, is_figure_clear, is_number_clear, is_percent_clear}
+use Rattle.clear.specs.Test.{is_exponent_clear, is_decimals_clear, is_figure_clear, is_number_clear, is_percent_clear}
 use Rattle.clear.proofs.Cuts.{cut_front, ends_with_snoc, snoc_ends_with, take_while_seam, drop_while_seam, span_seam, starts_with_digits, digits_alone}
 
 -- plain digits are digits
@@ -66,10 +66,10 @@ exponent_front s (an_exponent g x r h) = refl
 -- ---- a point with digits, and an exponent
 
 -- what follows the whole digits
-record FractionTail (s : List ℕ) : Type 0 where
+record DecimalsTail (s : List ℕ) : Type 0 where
   f : List ℕ
   x : List ℕ
-  point : Fraction f
+  point : Decimals f
   exponent : Exponent x
   whole : f ++ x ≡ s
 
@@ -77,15 +77,15 @@ span_digits : (s : List ℕ) → eqb (span digit s) 0 ≡ false → is_digits (t
 unfolding is_digits
 span_digits s h = rw (length-take-le (span digit s) s (span_le digit s), h, span_all digit s)
 
-test_fraction : (s : List ℕ) → is_fraction_clear s ≡ true → FractionTail s
-unfolding is_fraction_clear
-test_fraction s h = go (starts_with (code ".") s) refl h
+test_decimals : (s : List ℕ) → is_decimals_clear s ≡ true → DecimalsTail s
+unfolding is_decimals_clear
+test_decimals s h = go (starts_with (code ".") s) refl h
   where
     d : List ℕ
     d = drop 1 s
 
     go : (t : Bool) → starts_with (code ".") s ≡ t
-        → cond t (not (eqb (span digit d) 0) && is_exponent_clear (drop_while digit d)) (is_exponent_clear s) ≡ true → FractionTail s
+        → cond t (not (eqb (span digit d) 0) && is_exponent_clear (drop_while digit d)) (is_exponent_clear s) ≡ true → DecimalsTail s
     go true e h =
         let p = (and-eq-true_iff (not (eqb (span digit d) 0)) (is_exponent_clear (drop_while digit d))).0 h in
         record {
@@ -102,26 +102,26 @@ pub exponent_point : (x : List ℕ) → Exponent x → starts_with (code ".") x 
 exponent_point x no_exponent = refl
 exponent_point x (an_exponent g y r h) = starts_with_first (code ".") (code "e") (g ++ y)
 
-fraction_test : (f x : List ℕ) → Fraction f → Exponent x → is_fraction_clear (f ++ x) ≡ true
-unfolding is_fraction_clear
-fraction_test f x no_point e = rw (exponent_point x e) (exponent_test x e)
-fraction_test f x (a_point d h) e =
+decimals_test : (f x : List ℕ) → Decimals f → Exponent x → is_decimals_clear (f ++ x) ≡ true
+unfolding is_decimals_clear
+decimals_test f x no_point e = rw (exponent_point x e) (exponent_test x e)
+decimals_test f x (a_point d h) e =
     let z = exponent_front x e in
     let a = digits_all d h in
     rw (starts_with_first (code ".") (code ".") (d ++ x), drop_while_seam digit d x a z, span_seam digit d x a z, digits_nonempty d h) (exponent_test x e)
 
-fraction_front : (f x : List ℕ) → Fraction f → Exponent x → span digit (f ++ x) ≡ 0
+decimals_front : (f x : List ℕ) → Decimals f → Exponent x → span digit (f ++ x) ≡ 0
 unfolding span
-fraction_front f x no_point e = exponent_front x e
-fraction_front f x (a_point d h) e = refl
+decimals_front f x no_point e = exponent_front x e
+decimals_front f x (a_point d h) e = refl
 
 -- ---- figures
 
 figure_number : (m s : List ℕ) → OptionalMinus m → is_figure_clear s ≡ true → Number (m ++ s)
 unfolding is_figure_clear
 figure_number m s r h =
-    let p = (and-eq-true_iff (plain (take_while digit s)) (is_fraction_clear (drop_while digit s))).0 h in
-    let t = test_fraction (drop_while digit s) p.1 in
+    let p = (and-eq-true_iff (plain (take_while digit s)) (is_decimals_clear (drop_while digit s))).0 h in
+    let t = test_decimals (drop_while digit s) p.1 in
     rw (t.whole, take-append-drop) at (number_figure m (take_while digit s) t.f t.x r p.0 t.point t.exponent)
 
 -- a name that passes the test is a number
@@ -142,13 +142,13 @@ unfolding is_figure_clear
 number_test s (number_digits t h) = rw h
 number_test s (number_figure m a f x r h p e) =
     let d = plain_digits a h in
-    let z = fraction_front f x p e in
+    let z = decimals_front f x p e in
     rw (
       strip_minus m a (f ++ x) r d,
       take_while_seam digit a (f ++ x) (digits_all a d) z,
       drop_while_seam digit a (f ++ x) (digits_all a d) z,
       h,
-      fraction_test f x p e,
+      decimals_test f x p e,
     )
     (or-true (is_digits (m ++ (a ++ (f ++ x)))))
 

@@ -5,4 +5,5 @@ pub mod Suffixes
 pub mod Initials
 pub mod Words
 pub mod Tested
+pub mod Bytes
 pub mod Lookups

@@ -20,8 +20,9 @@ use Rattle.clear.proofs.Words.{test_word, word_test}
 
 -- ---- ranges
 
-test_range : (s : List ℕ) → is_range s ≡ true → Clear s
-test_range s h = go s ((range_form s).0 h)
+-- 02, A2: "Ranges join the clear entries"
+pub range_clear : (s : List ℕ) → is_range s ≡ true → Clear s
+range_clear s h = go s ((range_form s).0 h)
   where
     go : (s : List ℕ) → SeparatedForm (code "-") s → Clear s
     go _ (separated a b p q) = clear_range a b p q
@@ -36,7 +37,7 @@ pub test_clear : (s : List ℕ) → is_clear s ≡ true → Clear s
 unfolding is_clear
 test_clear s =
     either (either (either (either (either (either (either (either (λ h. clear_number s (test_number s h)) (test_percent s)) (test_time s))
-    (test_meridiem s)) (test_ordinal s)) (test_unit s)) (test_range s)) (test_initials s)) (test_word s)
+    (test_meridiem s)) (test_ordinal s)) (test_unit s)) (range_clear s)) (test_initials s)) (test_word s)
   where
     either : {a b : Bool} → (a ≡ true → Clear s) → (b ≡ true → Clear s) → (a || b) ≡ true → Clear s
     either {a} {b} = or_true_elim a b

@@ -20,9 +20,9 @@ pub data OptionalMinus : List ℕ → Type 0 where
   a_minus : OptionalMinus (bytes "-")
 
 -- "optional point with one or more digits"
-pub data Fraction : List ℕ → Type 0 where
-  no_point : Fraction []
-  a_point : (f : List ℕ) → is_digits f ≡ true → Fraction (bytes "." ++ f)
+pub data Decimals : List ℕ → Type 0 where
+  no_point : Decimals []
+  a_point : (f : List ℕ) → is_digits f ≡ true → Decimals (bytes "." ++ f)
 
 -- "optional sign"
 pub data ExponentSign : List ℕ → Type 0 where
@@ -38,7 +38,7 @@ pub data Exponent : List ℕ → Type 0 where
 -- the first two kinds: "one or more digits"; "optional minus, plain digits, optional point .., optional "e" .."
 pub data Number : List ℕ → Type 0 where
   number_digits : (s : List ℕ) → is_digits s ≡ true → Number s
-  number_figure : (m a f x : List ℕ) → OptionalMinus m → plain a ≡ true → Fraction f → Exponent x → Number (m ++ (a ++ (f ++ x)))
+  number_figure : (m a f x : List ℕ) → OptionalMinus m → plain a ≡ true → Decimals f → Exponent x → Number (m ++ (a ++ (f ++ x)))
 
 -- "plain hour of 1 or 2 digits"
 abbrev pub is_hour : List ℕ → Bool

@@ -13,14 +13,14 @@ unfoldable pub is_exponent_clear : List ℕ → Bool
 is_exponent_clear s = cond (starts_with (code "e") s) (plain (strip_sign (drop 1 s))) (eqb (length s) 0)
 
 -- what may follow its whole digits: an optional point with digits, and an optional exponent
-unfoldable pub is_fraction_clear : List ℕ → Bool
-is_fraction_clear s =
+unfoldable pub is_decimals_clear : List ℕ → Bool
+is_decimals_clear s =
     let f : ℕ = span digit (drop 1 s) in
     cond (starts_with (code ".") s) (not (eqb f 0) && is_exponent_clear (drop f (drop 1 s))) (is_exponent_clear s)
 
 -- what may follow its minus
 unfoldable pub is_figure_clear : List ℕ → Bool
-is_figure_clear s = plain (take_while digit s) && is_fraction_clear (drop_while digit s)
+is_figure_clear s = plain (take_while digit s) && is_decimals_clear (drop_while digit s)
 
 -- the first two kinds
 abbrev pub is_number_clear : List ℕ → Bool

@@ -4,7 +4,7 @@ ghost use Rattle.std.specs.Prelude.{◌≡◌, ◌&&◌, [], ltb, eqb, length, g
 ghost use Rattle.lists.specs.Bytes.{lowercase, listed};
 ghost use Rattle.units.specs.Units.{abbreviations, unit_words, index_of};
 ghost use Rattle.clear.specs.Clear.{plain, suffix, suffix_for, table_words};
-ghost use Rattle.clear.specs.Test.{uppercase_or_point, is_exponent_clear, is_fraction_clear, is_figure_clear, is_number_clear, is_percent_clear, is_time_clear};
+ghost use Rattle.clear.specs.Test.{uppercase_or_point, is_exponent_clear, is_decimals_clear, is_figure_clear, is_number_clear, is_percent_clear, is_time_clear};
 ghost use Rattle.clear.specs.Test.{is_meridiem_clear, is_ordinal_clear, is_unit_clear, is_initials_clear, is_word_clear, is_clear};
 
 use lists::{
@@ -58,9 +58,9 @@ fn is_exponent_clear(s: &[u8]) -> bool
 }
 
 // Whether s may follow its whole digits.
-#[tactic(auto, unfolding(crate::specs::Test::is_fraction_clear))]
-fn is_fraction_clear(s: &[u8]) -> bool
-    ensures { result ≡ is_fraction_clear s.now }
+#[tactic(auto, unfolding(crate::specs::Test::is_decimals_clear))]
+fn is_decimals_clear(s: &[u8]) -> bool
+    ensures { result ≡ is_decimals_clear s.now }
 {
     if starts_with(s, b'.') {
         let after = tail(s, 1);
@@ -76,7 +76,7 @@ fn is_figure_clear(s: &[u8]) -> bool
     ensures { result ≡ is_figure_clear s.now }
 {
     let whole = span(s, Digit);
-    is_plain(front(s, whole)) & is_fraction_clear(tail(s, whole))
+    is_plain(front(s, whole)) & is_decimals_clear(tail(s, whole))
 }
 
 pub fn is_number_clear(s: &[u8]) -> bool

@@ -16,6 +16,7 @@ use Rattle.shapes.proofs.Laws.{digits_all, digits_some}
 use Rattle.numerals.specs.Cardinal.{digit_values, digit_value}
 use Rattle.numerals.specs.Value.{decimal_from, decimal}
 use Rattle.numerals.specs.Walk.{BelowTen}
+use Rattle.numerals.proofs.Digits.{digit_values_count}
 use Rattle.clear.specs.Clear.{plain}
 use Rattle.clear.proofs.Figures.{plain_digits}
 use Rattle.decoder.specs.Decode.{digit_bytes, decimal_digits}
@@ -47,7 +48,7 @@ digit_bytes_digit_values s h = ap digit_bytes (digit_values_all s (digits_all s 
 
 -- there are as many values as digits
 pub digit_values_length : (s : List ℕ) → is_digits s ≡ true → length (digit_values s) ≡ length s
-digit_values_length s h = ap length (digit_values_all s (digits_all s h)) ∙ length-map s digit_value
+digit_values_length s h = digit_values_count s (digits_all s h)
 
 -- ---- plain digits
 

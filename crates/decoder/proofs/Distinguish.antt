@@ -1,6 +1,6 @@
 -- Call sheets distinguish their sheets: one theorem about two whole sheets. Assumes nothing.
 use mathlib.Core.Path.{◌≡◌, refl, sym, ap, ◌∙◌}
-use mathlib.Core.Bool.{Bool, true, false}
+use mathlib.Core.Bool.{Bool, false}
 use mathlib.Core.List.{List, [], ◌∷◌, map, cons-eq-cons, flatten}
 use mathlib.Core.Logic.{◌↔◌}
 use Prim.Native.Nat.{ℕ, zero, suc, ◌≤◌}
@@ -9,6 +9,7 @@ use lib.ListN.{length, drop, length-map}
 use lib.Seq.{take_at, ext_get_or}
 use borrow.Author.Tests.{le-ltb}
 use Rattle.lists.specs.Bytes.{overwrite, Every}
+use Rattle.shapes.proofs.Laws.{same_truth}
 use Rattle.tokens.specs.Tokens.{Token, tokens}
 use Rattle.sentences.specs.Sentences.{sentence_starts}
 use Rattle.sentences.specs.Calls.{flags}
@@ -60,11 +61,6 @@ entries_same (b ∷ bs) [] (u ∷ us) h = cc
 entries_same (b ∷ bs) (t ∷ ts) [] h = cc
 entries_same (b ∷ bs) (t ∷ ts) (u ∷ us) h = let k = cons-eq-cons.0 h in rw (k.0, entries_same bs ts us k.1)
 
-both_true : (b c : Bool) → (b ≡ true) ↔ (c ≡ true) → b ≡ c
-both_true true c h = sym (h.0 refl)
-both_true false true h = h.1 refl
-both_true false false h = refl
-
 -- equal entries have the same marks and names
 entries_same_parts : (s t : List ℕ) → entries s ≡ entries t → SameEntries s t
 entries_same_parts s t e =
@@ -82,7 +78,7 @@ entries_same_parts s t e =
 entries_from : (s t : List ℕ) → SameEntries s t → entries s ≡ entries t
 entries_from s t h =
     let marks : sentence_starts (tokens s) ≡ sentence_starts (tokens t) =
-    ext_get_or false _ _ (marks_length s ∙ h.same_count ∙ sym (marks_length t)) (λ k l. both_true _ _ (h.same_starts k)) in
+    ext_get_or false _ _ (marks_length s ∙ h.same_count ∙ sym (marks_length t)) (λ k l. same_truth _ _ (h.same_starts k)) in
     rw marks (entries_same (sentence_starts (tokens t)) (tokens s) (tokens t) h.same_names)
 
 -- sheets with the same entries have the same call sheet, whether their names are clear or not

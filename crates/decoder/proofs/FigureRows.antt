@@ -2,19 +2,17 @@
 use mathlib.Core.Path.{◌≡◌, refl, sym, ◌∙◌}
 use mathlib.Core.Bool.{Bool, true, false, cond, not, ◌&&◌, and-false, true≢false, false≢true, and-eq-true_iff}
 use mathlib.Core.List.{List, [], ◌∷◌, ◌++◌, append-nil}
-use Prim.Native.Nat.{ℕ, suc, ◌+◌, ◌-◌, ◌<◌}
+use Prim.Native.Nat.{ℕ, ◌+◌, ◌-◌, ◌<◌}
 use Prim.Native.Char.{code}
 use native.Mathlib.Omega.{arith}
-use lib.Dec.{ltb, eqb}
+use lib.Dec.{ltb}
 use lib.ListN.{length, get_or}
 use lib.Seq.{drop-append_seam}
-use borrow.Author.Tests.{not-true, ne_eqb}
+use borrow.Author.Tests.{not-true}
 use Rattle.lists.specs.Bytes.{all, span, starts_with, uppercase, to_lower}
 use Rattle.lists.specs.Classes.{digit, letter}
 use Rattle.lists.proofs.Scan.{all_append, all_at, starts_with_first}
 use Rattle.shapes.specs.Shapes.{is_digits, is_range, is_digits_slash_digits, is_leading_zero_digits, is_exponent, is_unsigned, is_double}
-use Rattle.shapes.specs.Grammar.{SeparatedForm, separated}
-use Rattle.shapes.proofs.Grammar.{range_form}
 use Rattle.shapes.specs.Times.{is_meridiem_time}
 use Rattle.shapes.proofs.Laws.{digits_all, digits_some, digits_nonempty}
 use Rattle.numerals.specs.Cardinal.{cardinal, digits}
@@ -22,10 +20,11 @@ use Rattle.reals.specs.Real.{real}
 use Rattle.rows.specs.Rows.{read_step, read_with}
 use Rattle.rows.proofs.Laws.{step_eq}
 use Rattle.rows.proofs.Taken.{digit_no_letter, untaken, double_byte, meridiem_last, double_bytes, no_fraction, PastTimes, past_times}
-use Rattle.clear.specs.Clear.{plain, OptionalMinus, no_minus, a_minus, Fraction, no_point, a_point, Exponent, no_exponent, an_exponent}
+use Rattle.clear.specs.Clear.{plain, OptionalMinus, no_minus, a_minus, Decimals, no_point, a_point, Exponent, no_exponent, an_exponent, Number, number_digits, number_figure}
 use Rattle.clear.proofs.Figures.{plain_digits, strip_sign_lem, exponent_front, exponent_point}
+use Rattle.clear.proofs.Bytes.{number_no_range}
 use Rattle.clear.proofs.Cuts.{span_seam, starts_with_digits}
-use Rattle.decoder.proofs.Real.{real_digits, minus_words, fraction_words, exponent_words, real_figure}
+use Rattle.decoder.proofs.Real.{real_digits, minus_words, decimals_words, exponent_words, real_figure}
 
 -- ---- rows 1 to 5b take no such name
 
@@ -37,31 +36,12 @@ not_m b h = go (uppercase b)
     go true e = let z : b ≡ code "M" = omega arith in false≢true (rw z at h)
     go false e = false≢true (rw e at h)
 
--- digits with a hyphen after them are no figure
-hyphen_no_double : (a b : List ℕ) → is_digits a ≡ true → is_double (a ++ (code "-" ∷ b)) ≡ false
-unfolding is_unsigned is_exponent span
-hyphen_no_double a b h =
-    rw (
-      starts_with_digits (code "-") a (code "-" ∷ b) refl h,
-      span_seam digit a (code "-" ∷ b) (digits_all a h) refl,
-      drop-append_seam a (code "-" ∷ b),
-      ne_eqb (suc (length b)) 0 (omega arith),
-    )
-    (and-false (not (eqb (length a) 0)))
-
--- so a figure is no range
-double_no_range : (s : List ℕ) → is_double s ≡ true → is_range s ≡ false
-double_no_range s d = untaken (is_range s) (λ e. go s d ((range_form s).0 e))
-  where
-    go : (s : List ℕ) → is_double s ≡ true → SeparatedForm (code "-") s → ⊥
-    go _ d (separated a b p q) = false≢true (sym (hyphen_no_double a b p) ∙ d)
-
-module _ (s : List ℕ) (z : 0 < length s) (l : letter (get_or s 0 0) ≡ false) (d : is_double s ≡ true) where
+module _ (s : List ℕ) (z : 0 < length s) (l : letter (get_or s 0 0) ≡ false) (d : is_double s ≡ true) (n : Number s) where
   h : all double_byte s ≡ true
   h = double_bytes s d
 
   not_range : is_range s ≡ false
-  not_range = double_no_range s d
+  not_range = untaken (is_range s) (number_no_range s n)
 
   not_fraction : is_digits_slash_digits s ≡ false
   not_fraction = no_fraction double_byte s h refl
@@ -93,7 +73,7 @@ unfolding is_exponent
 exponent_is no_exponent = refl
 exponent_is (an_exponent g x s h) = let d = plain_digits x h in rw (starts_with_first (code "e") (code "e") (g ++ x), strip_sign_lem g x s d) d
 
-unsigned_is : (a : List ℕ) → is_digits a ≡ true → {f x : List ℕ} → Fraction f → Exponent x → is_unsigned (a ++ (f ++ x)) ≡ true
+unsigned_is : (a : List ℕ) → is_digits a ≡ true → {f x : List ℕ} → Decimals f → Exponent x → is_unsigned (a ++ (f ++ x)) ≡ true
 unfolding is_unsigned span
 unsigned_is a h {f} {x} no_point e =
     rw (span_seam digit a x (digits_all a h) (exponent_front x e), drop-append_seam a x, exponent_point x e, digits_nonempty a h) (exponent_is e)
@@ -108,7 +88,7 @@ unsigned_is a h {x = x} (a_point f k) e =
     )
     (exponent_is e)
 
-figure_double : {m f x : List ℕ} → OptionalMinus m → (a : List ℕ) → is_digits a ≡ true → Fraction f → Exponent x → is_double (m ++ (a ++ (f ++ x))) ≡ true
+figure_double : {m f x : List ℕ} → OptionalMinus m → (a : List ℕ) → is_digits a ≡ true → Decimals f → Exponent x → is_double (m ++ (a ++ (f ++ x))) ≡ true
 figure_double {f = f} {x = x} no_minus a h t e = rw (starts_with_digits (code "-") a (f ++ x) refl h) (unsigned_is a h t e)
 figure_double {f = f} {x = x} a_minus a h t e = rw (starts_with_first (code "-") (code "-") (a ++ (f ++ x))) (unsigned_is a h t e)
 
@@ -132,7 +112,7 @@ sign_not_leading_zero a c r n =
     (sym (digits_all s ((and-eq-true_iff (ltb 1 (length s) && starts_with (code "0") s) (is_digits s)).0 e).1) ∙ all_append digit a (c ∷ r)
     ∙ rw n (and-false (all digit a))))
 
-figure_leading : {m f x : List ℕ} → OptionalMinus m → (a : List ℕ) → plain a ≡ true → Fraction f → Exponent x → is_leading_zero_digits (m ++ (a ++ (f ++ x))) ≡ false
+figure_leading : {m f x : List ℕ} → OptionalMinus m → (a : List ℕ) → plain a ≡ true → Decimals f → Exponent x → is_leading_zero_digits (m ++ (a ++ (f ++ x))) ≡ false
 figure_leading {f = f} {x = x} a_minus a h t e = sign_not_leading_zero [] (code "-") (a ++ (f ++ x)) refl
 figure_leading no_minus a h no_point no_exponent =
     rw (append-nil a) (not-true (is_leading_zero_digits a) ((and-eq-true_iff (is_digits a) (not (is_leading_zero_digits a))).0 h).1)
@@ -140,14 +120,14 @@ figure_leading no_minus a h no_point (an_exponent g x s k) = sign_not_leading_ze
 figure_leading {x = x} no_minus a h (a_point f k) e = sign_not_leading_zero a (code ".") (f ++ x) refl
 
 -- a figure is read as the words of its parts
-pub figure_read : (word : List ℕ → List ℕ) {m f x : List ℕ} (p : OptionalMinus m) (a : List ℕ) → plain a ≡ true → (t : Fraction f) (e : Exponent x)
-    → (read_with word (m ++ (a ++ (f ++ x)))).words ≡ minus_words p ++ (cardinal a ++ (fraction_words t ++ exponent_words e))
+pub figure_read : (word : List ℕ → List ℕ) {m f x : List ℕ} (p : OptionalMinus m) (a : List ℕ) → plain a ≡ true → (t : Decimals f) (e : Exponent x)
+    → (read_with word (m ++ (a ++ (f ++ x)))).words ≡ minus_words p ++ (cardinal a ++ (decimals_words t ++ exponent_words e))
 figure_read word {m} {f} {x} p a h t e =
     let s = m ++ (a ++ (f ++ x)) in
     let k = plain_digits a h in
     let d = figure_double p a k t e in
     let o = figure_front p a (f ++ x) k in
-    read_real s o.0 o.1 d word (figure_leading p a h t e) ∙ real_figure p a k t e
+    read_real s o.0 o.1 d (number_figure m a f x p h t e) word (figure_leading p a h t e) ∙ real_figure p a k t e
 
 -- plain digits are read as a cardinal number
 pub plain_read : (word : List ℕ → List ℕ) (s : List ℕ) → plain s ≡ true → (read_with word s).words ≡ cardinal s
@@ -159,4 +139,4 @@ leading_read word s h =
     let k = ((and-eq-true_iff (ltb 1 (length s) && starts_with (code "0") s) (is_digits s)).0 h).1 in
     let d : is_double s ≡ true = rw (append-nil s) at (figure_double no_minus s k no_point no_exponent) in
     let o = figure_front no_minus s [] k in
-    read_leading s (digits_some s k) (rw (append-nil s) at o.1) d word h
+    read_leading s (digits_some s k) (rw (append-nil s) at o.1) d (number_digits s k) word h

@@ -18,13 +18,13 @@ use Rattle.shapes.proofs.Laws.{digits_some}
 use Rattle.numerals.specs.Words.{Word, one, other, spell, consecutive_words, number_words}
 use Rattle.numerals.specs.Cardinal.{digit_values, cardinal, digits}
 use Rattle.rows.specs.Rows.{to}
-use Rattle.clear.specs.Clear.{plain, table_words, Fraction, no_point, a_point, no_sign, plus_sign, minus_sign, Exponent, no_exponent, an_exponent}
+use Rattle.clear.specs.Clear.{plain, table_words, Decimals, no_point, a_point, no_sign, plus_sign, minus_sign, Exponent, no_exponent, an_exponent}
 use Rattle.decoder.specs.Decode.{parse_word_in, parse_word, digit_bytes, digit_of, symbol_byte, value_below_hundred, decode_digits, decode_after_symbol, decode_from_right, decode_figure}
 use Rattle.decoder.proofs.DecimalDigits.{digit_bytes_digit_values, digit_values_length}
 use Rattle.numerals.proofs.NumberWords.{NumberWord, number_word_test, cardinal_number_words, digits_number_words}
 use Rattle.decoder.proofs.NumberWords.{number_word_parsed, digits_back, plain_some, decode_plain, decode_leading}
 use Rattle.decoder.proofs.NotTime.{NotTime, cardinal_not_time, digits_not_time}
-use Rattle.decoder.proofs.Real.{fraction_words, exponent_words}
+use Rattle.decoder.proofs.Real.{decimals_words, exponent_words}
 
 -- ---- words that a figure may have
 
@@ -163,10 +163,10 @@ exponent_tail (an_exponent g x no_sign h) k = digits_part e_is refl (plain_words
 exponent_tail (an_exponent g x plus_sign h) k = symbol_part (other (bytes "e")) (code "e") [] [] e_is tt refl (digits_part plus_is refl (plain_words x h) k)
 exponent_tail (an_exponent g x minus_sign h) k = symbol_part (other (bytes "e")) (code "e") [] [] e_is tt refl (digits_part minus_is refl (plain_words x h) k)
 
-fraction_tail : {f t : List ℕ} {r : List Word} (d : Fraction f) → SymbolTail t r → SymbolTail (f ++ t) (fraction_words d ++ r)
-fraction_tail no_point k = k
-fraction_tail (a_point f h) k = symbol_part (other (bytes "point")) (code ".") (digits f) f point_is (digits_number_words f) (point_after f h) k
+decimals_tail : {f t : List ℕ} {r : List Word} (d : Decimals f) → SymbolTail t r → SymbolTail (f ++ t) (decimals_words d ++ r)
+decimals_tail no_point k = k
+decimals_tail (a_point f h) k = symbol_part (other (bytes "point")) (code ".") (digits f) f point_is (digits_number_words f) (point_after f h) k
 
--- a fraction and an exponent, and the words that are decoded as them
-pub figure_tail : {f x : List ℕ} (d : Fraction f) (e : Exponent x) → SymbolTail (f ++ x) (fraction_words d ++ exponent_words e)
-figure_tail {f} {x} d e = rw (append-nil x, append-nil (exponent_words e)) at (fraction_tail d (exponent_tail e no_tail))
+-- decimals and an exponent, and the words that are decoded as them
+pub figure_tail : {f x : List ℕ} (d : Decimals f) (e : Exponent x) → SymbolTail (f ++ x) (decimals_words d ++ exponent_words e)
+figure_tail {f} {x} d e = rw (append-nil x, append-nil (exponent_words e)) at (decimals_tail d (exponent_tail e no_tail))

@@ -21,7 +21,7 @@ use Rattle.rows.specs.Rows.{read_with, per_cent, to}
 use Rattle.rows.proofs.Percent.{percent_with}
 use Rattle.rows.proofs.Ranges.{range_row}
 use Rattle.clear.proofs.Cuts.{cut_front, snoc_ends_with}
-use Rattle.clear.specs.Clear.{plain, table_words, OptionalMinus, no_minus, a_minus, Fraction, Exponent, Number, number_digits, number_figure}
+use Rattle.clear.specs.Clear.{plain, table_words, OptionalMinus, no_minus, a_minus, Decimals, Exponent, Number, number_digits, number_figure}
 use Rattle.decoder.specs.Decode.{parse_word, parse_words, first_word, last_word, value_below_hundred, time_like, decode_after_symbol, decode_figure, is_letter_word, is_one_word_name, decode, is_below_hundred}
 use Rattle.decoder.proofs.Decoded.{DecodedWith}
 use Rattle.numerals.proofs.NumberWords.{NumberWord, number_word_test}
@@ -106,7 +106,7 @@ digits_words word s h = go (is_leading_zero_digits s) refl
     go true e = rw (leading_read word s e) (leading_words s e)
     go false e = let k : plain s ≡ true = rw (e, h) in rw (plain_read word s k) (plain_words s k)
 
-figure_number_decoded : (word : List ℕ → List ℕ) {m f x : List ℕ} → OptionalMinus m → (a : List ℕ) → plain a ≡ true → Fraction f → Exponent x
+figure_number_decoded : (word : List ℕ → List ℕ) {m f x : List ℕ} → OptionalMinus m → (a : List ℕ) → plain a ≡ true → Decimals f → Exponent x
     → NumberDecoded (m ++ (a ++ (f ++ x))) (read_with word (m ++ (a ++ (f ++ x)))).words
 figure_number_decoded word p a h t e = rw (figure_read word p a h t e) (plain_number p a h (figure_tail t e))
 

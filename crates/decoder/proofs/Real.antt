@@ -19,7 +19,7 @@ use Rattle.reals.specs.Real.{point_at, e_at, pointed, real_step, real}
 use Rattle.reals.proofs.RealLaws.{real_eq, real_plain}
 use Rattle.clear.proofs.Figures.{plain_digits}
 use Rattle.clear.proofs.Cuts.{starts_with_digits, digits_alone}
-use Rattle.clear.specs.Clear.{OptionalMinus, no_minus, a_minus, Fraction, no_point, a_point, ExponentSign, no_sign, plus_sign, minus_sign, Exponent, no_exponent, an_exponent}
+use Rattle.clear.specs.Clear.{OptionalMinus, no_minus, a_minus, Decimals, no_point, a_point, ExponentSign, no_sign, plus_sign, minus_sign, Exponent, no_exponent, an_exponent}
 
 -- ---- digits
 
@@ -92,9 +92,9 @@ abbrev pub minus_words : {m : List ℕ} → OptionalMinus m → List Word
 minus_words no_minus = []
 minus_words a_minus = other (bytes "minus") ∷ []
 
-abbrev pub fraction_words : {f : List ℕ} → Fraction f → List Word
-fraction_words no_point = []
-fraction_words (a_point f h) = other (bytes "point") ∷ digits f
+abbrev pub decimals_words : {f : List ℕ} → Decimals f → List Word
+decimals_words no_point = []
+decimals_words (a_point f h) = other (bytes "point") ∷ digits f
 
 abbrev pub sign_words : {g : List ℕ} → ExponentSign g → List Word
 sign_words no_sign = []
@@ -110,40 +110,40 @@ real_sign no_sign x = refl
 real_sign plus_sign x = real_plus x
 real_sign minus_sign x = real_minus x
 
-fraction_not_e : {f : List ℕ} → Fraction f → all not_e f ≡ true
+decimals_not_e : {f : List ℕ} → Decimals f → all not_e f ≡ true
 unfolding all
-fraction_not_e no_point = refl
-fraction_not_e (a_point f h) = digits_not_e f (digits_all f h)
+decimals_not_e no_point = refl
+decimals_not_e (a_point f h) = digits_not_e f (digits_all f h)
 
 module _ (a : List ℕ) (h : is_digits a ≡ true) where
-  pointed_fraction : {f : List ℕ} (t : Fraction f) → pointed (a ++ f) ≡ cardinal a ++ fraction_words t
-  pointed_fraction no_point = rw (append-nil a, append-nil (cardinal a)) (pointed_none a (digits_all a h))
-  pointed_fraction (a_point f k) = pointed_some a f (digits_all a h)
+  pointed_decimals : {f : List ℕ} (t : Decimals f) → pointed (a ++ f) ≡ cardinal a ++ decimals_words t
+  pointed_decimals no_point = rw (append-nil a, append-nil (cardinal a)) (pointed_none a (digits_all a h))
+  pointed_decimals (a_point f k) = pointed_some a f (digits_all a h)
 
-  -- digits and a fraction, alone or before an exponent
-  module _ {f : List ℕ} (t : Fraction f) where
+  -- digits and decimals, alone or before an exponent
+  module _ {f : List ℕ} (t : Decimals f) where
     start : (c : ℕ) → digit c ≡ false → starts_with c (a ++ f) ≡ false
     start c n = starts_with_digits c a f n h
 
     not_e_all : all not_e (a ++ f) ≡ true
-    not_e_all = all_append not_e a f ∙ rw (digits_not_e a (digits_all a h)) (fraction_not_e t)
+    not_e_all = all_append not_e a f ∙ rw (digits_not_e a (digits_all a h)) (decimals_not_e t)
 
-    real_fraction : real (a ++ f) ≡ cardinal a ++ fraction_words t
-    real_fraction = real_pointed (a ++ f) (start (code "-") refl) (start (code "+") refl) not_e_all ∙ pointed_fraction t
+    real_decimals : real (a ++ f) ≡ cardinal a ++ decimals_words t
+    real_decimals = real_pointed (a ++ f) (start (code "-") refl) (start (code "+") refl) not_e_all ∙ pointed_decimals t
 
-    real_exponent : {x : List ℕ} (e : Exponent x) → real (a ++ (f ++ x)) ≡ cardinal a ++ (fraction_words t ++ exponent_words e)
-    real_exponent no_exponent = rw (append-nil f, append-nil (fraction_words t)) real_fraction
+    real_exponent : {x : List ℕ} (e : Exponent x) → real (a ++ (f ++ x)) ≡ cardinal a ++ (decimals_words t ++ exponent_words e)
+    real_exponent no_exponent = rw (append-nil f, append-nil (decimals_words t)) real_decimals
     real_exponent (an_exponent g x s k) =
         let whole : (c : ℕ) → digit c ≡ false
         → starts_with c ((a ++ f) ++ (bytes "e" ++ (g ++ x))) ≡ false = λ c n.
         rw (append_assoc a f (bytes "e" ++ (g ++ x))) (starts_with_digits c a (f ++ (bytes "e" ++ (g ++ x))) n h) in
         ap real (sym (append_assoc a f (bytes "e" ++ (g ++ x))))
         ∙ real_e (a ++ f) (start (code "-") refl) (start (code "+") refl) not_e_all (g ++ x) (whole (code "-") refl) (whole (code "+") refl)
-        ∙ rw (real_fraction, real_sign s x, real_digits x (plain_digits x k))
-        (append_assoc (cardinal a) (fraction_words t) (other (bytes "e") ∷ (sign_words s ++ cardinal x)))
+        ∙ rw (real_decimals, real_sign s x, real_digits x (plain_digits x k))
+        (append_assoc (cardinal a) (decimals_words t) (other (bytes "e") ∷ (sign_words s ++ cardinal x)))
 
 -- the words of a figure are those of its parts
-pub real_figure : {m f x : List ℕ} (p : OptionalMinus m) (a : List ℕ) → is_digits a ≡ true → (t : Fraction f) (e : Exponent x)
-    → real (m ++ (a ++ (f ++ x))) ≡ minus_words p ++ (cardinal a ++ (fraction_words t ++ exponent_words e))
+pub real_figure : {m f x : List ℕ} (p : OptionalMinus m) (a : List ℕ) → is_digits a ≡ true → (t : Decimals f) (e : Exponent x)
+    → real (m ++ (a ++ (f ++ x))) ≡ minus_words p ++ (cardinal a ++ (decimals_words t ++ exponent_words e))
 real_figure no_minus a h t e = real_exponent a h t e
 real_figure {f = f} {x = x} a_minus a h t e = real_minus (a ++ (f ++ x)) ∙ ap (λ (ws : List Word). other (bytes "minus") ∷ ws) (real_exponent a h t e)

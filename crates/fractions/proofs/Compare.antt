@@ -21,6 +21,7 @@ use Rattle.lists.specs.Classes.{digit, only, except}
 use Rattle.lists.proofs.Scan.{all_split, span_front}
 use Rattle.numerals.specs.Cardinal.{digit_value, digit_values}
 use Rattle.numerals.specs.Value.{decimal, decimal_from}
+use Rattle.numerals.proofs.Digits.{digit_values_count}
 use Rattle.numerals.proofs.Value.{decimal_append}
 use Rattle.fractions.specs.Fraction.{value}
 use Rattle.fractions.specs.Walk.{significant}
@@ -29,22 +30,16 @@ use Rattle.fractions.specs.Walk.{significant}
 pub value_significant : (s : List ℕ) → value (significant s) ≡ value s
 unfolding digit_values filter_if span decimal decimal_from
 value_significant [] = refl
-value_significant (b ∷ s) = go (eqb b 48) refl (value_significant s)
+value_significant (b ∷ s) = go (eqb b (code "0")) refl (value_significant s)
   where
-    go : (t : Bool) → eqb b 48 ≡ t → value (significant s) ≡ value s
-        → value (drop (cond t (suc (span (only 48) s)) 0) (b ∷ s)) ≡ value (b ∷ s)
-    go true e i = i ∙ rw (eqb-true b 48 e)
+    go : (t : Bool) → eqb b (code "0") ≡ t → value (significant s) ≡ value s
+        → value (drop (cond t (suc (span (only (code "0")) s)) 0) (b ∷ s)) ≡ value (b ∷ s)
+    go true e i = i ∙ rw (eqb-true b (code "0") e)
     go false e i = refl
 
--- the bytes of the digits
-digit_bytes : (b : ℕ) → digit b ≡ true → (48 ≤ b) × (b ≤ 57)
-digit_bytes b h = let k = (and-eq-true_iff (leb 48 b) (leb b 57)).0 h in (leb-true 48 b k.0, leb-true b 57 k.1)
-
--- n digits have n values
-pub value_count : (s : List ℕ) → all digit s ≡ true → length (digit_values s) ≡ length s
-unfolding all digit_values filter_if
-value_count [] h = refl
-value_count (b ∷ s) h = let k = (and-eq-true_iff (digit b) (all digit s)).0 h in rw k.0 (ap suc (value_count s k.1))
+-- a digit is a byte from 0 to 9
+digit_bounds : (b : ℕ) → digit b ≡ true → (code "0" ≤ b) × (b ≤ code "9")
+digit_bounds b h = let k = (and-eq-true_iff (leb (code "0") b) (leb b (code "9"))).0 h in (leb-true (code "0") b k.0, leb-true b (code "9") k.1)
 
 decimal_cons : (d : ℕ) (ds : List ℕ) → decimal (d ∷ ds) ≡ d * 10 ^ length ds + decimal ds
 unfolding decimal decimal_from
@@ -53,11 +48,11 @@ decimal_cons d ds =
     decimal_append (d ∷ []) ds ∙ ap (λ (n : ℕ). n * 10 ^ length ds + decimal ds) one
 
 -- the first of n + 1 digits counts 10 ^ n times
-value_cons : (b : ℕ) (s : List ℕ) → all digit (b ∷ s) ≡ true → value (b ∷ s) ≡ digit_value b * 10 ^ length s + value s
+pub value_cons : (b : ℕ) (s : List ℕ) → all digit (b ∷ s) ≡ true → value (b ∷ s) ≡ digit_value b * 10 ^ length s + value s
 unfolding all digit_values filter_if
 value_cons b s h =
     let k = (and-eq-true_iff (digit b) (all digit s)).0 h in
-    rw (k.0, ← value_count s k.1) (decimal_cons (digit_value b) (digit_values s))
+    rw (k.0, ← digit_values_count s k.1) (decimal_cons (digit_value b) (digit_values s))
 
 -- n digits have a value below 10 ^ n
 pub value_below : (s : List ℕ) → all digit s ≡ true → value s < 10 ^ length s
@@ -65,7 +60,7 @@ unfolding all digit_values filter_if decimal decimal_from
 value_below [] h = omega arith
 value_below (b ∷ s) h =
     let k = (and-eq-true_iff (digit b) (all digit s)).0 h in
-    let few : digit_value b ≤ 9 = omega (arith, digit_bytes b k.0) in
+    let few : digit_value b ≤ 9 = omega (arith, digit_bounds b k.0) in
     rw (value_cons b s h, pow-suc) (omega (arith, value_below s k.1, mul-le-mul_right (10 ^ length s) few))
 
 -- n + 1 digits without a leading zero have a value of at least 10 ^ n
@@ -73,8 +68,8 @@ pub value_least : (b : ℕ) (s : List ℕ) → all digit (b ∷ s) ≡ true → 
 unfolding all
 value_least b s h n =
     let k = (and-eq-true_iff (digit b) (all digit s)).0 h in
-    let apart = eqb-false b 48 (not-true (eqb b 48) n) in
-    let some : 1 ≤ digit_value b = omega (arith, digit_bytes b k.0, apart) in
+    let apart = eqb-false b (code "0") (not-true (eqb b (code "0")) n) in
+    let some : 1 ≤ digit_value b = omega (arith, digit_bounds b k.0, apart) in
     rw (value_cons b s h) (omega (arith, mul-le-mul_right (10 ^ length s) some))
 
 -- so the shorter of two numbers is smaller if the longer one has no leading zero
@@ -110,7 +105,7 @@ unfolding all
 first_decides x y s t h k e l =
     let d = (and-eq-true_iff (digit x) (all digit s)).0 h in
     let f = (and-eq-true_iff (digit y) (all digit t)).0 k in
-    let more : suc (digit_value x) ≤ digit_value y = omega (arith, digit_bytes x d.0, digit_bytes y f.0) in
+    let more : suc (digit_value x) ≤ digit_value y = omega (arith, digit_bounds x d.0, digit_bounds y f.0) in
     rw (value_cons x s h, value_cons y t k, ← e) (omega (arith, value_below s d.1, mul-le-mul_right (10 ^ length s) more))
 
 -- of two numbers of the same length the first digits that differ decide
@@ -153,10 +148,10 @@ shortlex_below a b h k = rw (← value_significant a, ← value_significant b) (
     y = significant b
 
     digits_left : (s : List ℕ) → all digit s ≡ true → all digit (significant s) ≡ true
-    digits_left s h = (all_split digit s (span (only 48) s) h).1
+    digits_left s h = (all_split digit s (span (only (code "0")) s) h).1
 
     no_zero : (s : List ℕ) → except (code "0") (get_or (significant s) 0 0) ≡ true
-    no_zero = span_front (only 48) (except 48) refl (λ b e. rw e)
+    no_zero = span_front (only (code "0")) (except (code "0")) refl (λ b e. rw e)
 
     go : (t u : Bool) → eqb (length x) (length y) ≡ t → ltb (length x) (length y) ≡ u → cond t (lex_less x y) u ≡ ltb (value x) (value y)
     go true u p q = sym (same_length_below x y (digits_left a h) (digits_left b k) (eqb-true _ _ p))

@@ -22,7 +22,7 @@ use Rattle.numerals.specs.Ordinal.{ordinal}
 use Rattle.numerals.specs.Value.{decimal, decimal_from, value_of, ordinal_value_of}
 use Rattle.numerals.proofs.Value.{cardinal_names, ordinal_names}
 use Rattle.fractions.specs.Fraction.{numerator, denominator, value, plural, fraction_of, fraction}
-use Rattle.fractions.proofs.Compare.{value_count}
+use Rattle.numerals.proofs.Digits.{digit_values_count}
 
 -- ---- numerator and denominator
 
@@ -130,8 +130,8 @@ proper_names a b h k n l p q =
       cardinal_words = cardinal a;
       ordinal_words = ordinal b;
       words = proper_read a b h k n l;
-      names_numerator = cardinal_names a (rw (value_count a h) p);
-      names_denominator = ordinal_names b (rw (value_count b k) q);
+      names_numerator = cardinal_names a (rw (digit_values_count a h) p);
+      names_denominator = ordinal_names b (rw (digit_values_count b k) q);
     }
 
 -- words of any other fraction n / d: cardinal numbers that name n and d, with the word "slash" between them
@@ -150,8 +150,8 @@ improper_names a b h k l p q =
       over_words = cardinal a;
       under_words = cardinal b;
       words = improper_read a b h k l;
-      names_numerator = cardinal_names a (rw (value_count a h) p);
-      names_denominator = cardinal_names b (rw (value_count b k) q);
+      names_numerator = cardinal_names a (rw (digit_values_count a h) p);
+      names_denominator = cardinal_names b (rw (digit_values_count b k) q);
     }
 
 -- ---- what holds of all words

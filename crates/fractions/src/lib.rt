@@ -11,7 +11,7 @@ ghost use Rattle.fractions.specs.Walk.{significant};
 
 use lists::{Byte, Digit, Not, equal, front, last_end, span, tail};
 use numerals::number::{say_cardinal, say_ordinal};
-use vocabulary::{A, HALF, S, SLASH, word};
+use vocabulary::{A, APOSTROPHE_S, HALF, SLASH, word};
 use word_writer::Writer;
 
 // Digits without the zeros at their front.
@@ -42,7 +42,7 @@ fn say_plural(numerator: &[u8], out: &mut Writer)
     ensures { Says (spelled (plural numerator.now)) out.old out.new }
 {
     if is_below(b"1", numerator) {
-        out.put_word(word(S));
+        out.put_word(word(APOSTROPHE_S));
     }
 }
 

@@ -1,13 +1,13 @@
 -- The digits of a text, byte by byte. Assumes nothing.
 use mathlib.Core.Path.{◌≡◌, refl, sym, ap, ◌∙◌}
-use mathlib.Core.Bool.{Bool, true, false, cond, not}
+use mathlib.Core.Bool.{Bool, true, false, cond, not, and-eq-true_iff}
 use mathlib.Core.List.{List, [], ◌∷◌, ◌++◌, map, map-append, append_assoc}
 use Prim.Native.Nat.{ℕ, suc, ◌+◌, ◌-◌, ◌≤◌, ◌<◌}
 use native.Mathlib.Omega.{arith}
 use lib.Dec.{eqb}
 use lib.ListN.{length, get_or, take, drop}
 use borrow.Author.Tests.{le-leb, eqb-true, eqb-false}
-use Rattle.lists.specs.Bytes.{bytes, filter_if, after_last}
+use Rattle.lists.specs.Bytes.{bytes, all, filter_if, after_last}
 use Rattle.lists.specs.Classes.{digit, except}
 use Rattle.lists.proofs.Scan.{filter_if_append, ByParts, next_byte}
 use Rattle.numerals.specs.Words.{Word, one, spell, spelled}
@@ -32,6 +32,12 @@ digit_values_append s t = ap (map digit_value) (filter_if_append digit s t) ∙ 
 -- the digits from byte i on: that byte, if it is a digit, and the digits from the next byte on
 pub digit_values_at : (s : List ℕ) (i : ℕ) → i < length s → digit_values (drop i s) ≡ digit_values (get_or s i 0 ∷ []) ++ digit_values (drop (i + 1) s)
 digit_values_at = next_byte digit_values digit_values_append
+
+-- digits have a value each
+pub digit_values_count : (s : List ℕ) → all digit s ≡ true → length (digit_values s) ≡ length s
+unfolding all digit_values filter_if
+digit_values_count [] h = refl
+digit_values_count (b ∷ s) h = let k = (and-eq-true_iff (digit b) (all digit s)).0 h in rw k.0 (ap suc (digit_values_count s k.1))
 
 -- a byte that is a digit gives its value
 pub digit_values_digit : (b : ℕ) → 48 ≤ b → b ≤ 57 → digit_values (b ∷ []) ≡ digit_value b ∷ []

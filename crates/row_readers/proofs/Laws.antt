@@ -32,10 +32,10 @@ use Rattle.word_writer.proofs.Saying.{says_same}
 use Rattle.rows.specs.Rows.{Reading, by, clock, full_hour, clock_letters, is_percent, read_step, read}
 use Rattle.rows.specs.declared.Row.{Row}
 use Rattle.rows.specs.declared.Row.TheVariants.{Meridiem, Unit, OneWord}
-use Rattle.rows.proofs.Laws.{read_eq}
+use Rattle.rows.proofs.Laws.{number_in, read_eq}
 use Rattle.rows.proofs.Dotted.{letter_chars}
 use Rattle.rows.proofs.Taken.{dotted_byte, dotted_bytes}
-use Rattle.row_readers.specs.Walk.{Reads, initials, word_of_unit, rows_after}
+use Rattle.row_readers.specs.Walk.{Reads, initials, word_of_unit, rows_once, rows_after}
 
 -- an equal reading is read
 pub reads_same : {g h : Reading} → g ≡ h → {p q : Writer} {r : Row} → Reads h p q r → Reads g p q r
@@ -48,6 +48,10 @@ reads_same {g} {h} e {p} {q} a =
 -- a reading is read if its words are said and its row is answered
 pub reads_by : {g : Reading} {row : Row} {ws : List Word} → g ≡ by row ws → {p q : Writer} → Says (spelled ws) p q → Reads g p q row
 reads_by e a = reads_same e (record { row = refl; words = a })
+
+-- the rows that these readers have, by their numbers
+pub rows_once_numbered : (s : List ℕ) → map number_in (rows_once s) ≡ 1 ∷ 2 ∷ 3 ∷ 4 ∷ 5 ∷ 14 ∷ 6 ∷ 7 ∷ 8 ∷ 9 ∷ 11 ∷ 12 ∷ []
+rows_once_numbered s = refl
 
 -- a name that neither row 5a nor row 10 takes is read by the others
 pub once_read : (s : List ℕ) → is_range s ≡ false → is_percent s ≡ false → read s ≡ rows_after 0 s

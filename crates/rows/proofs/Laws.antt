@@ -13,7 +13,7 @@ use Rattle.lists.specs.Bytes.{span, ends_with, to_lower}
 use Rattle.lists.specs.Classes.{except}
 use Rattle.lists.proofs.Recursion.{Local, recur_eq}
 use Rattle.shapes.specs.Shapes.{split_once, are_digits, is_range}
-use Rattle.rows.specs.Rows.{Rule, ◌reads◌, Reading, no_reading, row_number, before, after, rows, read_step, read_with, read}
+use Rattle.rows.specs.Rows.{Rule, ◌reads◌, Reading, no_reading, row_number, row_sign, sign_number, sign_of, before, after, rows, read_step, read_with, read}
 
 -- a text that ends in a byte is not empty
 pub ends_some : (c : ℕ) (s : List ℕ) → ends_with c s ≡ true → 1 ≤ length s
@@ -58,3 +58,12 @@ number_in (takes reads g) = row_number g.row
 pub rows_numbered : (word : List ℕ → List ℕ) (again : List ℕ → Reading) (s : List ℕ)
     → map number_in (rows word again s) ≡ 1 ∷ 2 ∷ 3 ∷ 4 ∷ 5 ∷ 13 ∷ 14 ∷ 6 ∷ 7 ∷ 8 ∷ 9 ∷ 10 ∷ 11 ∷ 12 ∷ []
 rows_numbered word again s = refl
+
+-- the value of the sign of a rule's row
+abbrev pub sign_in : Rule → ℕ
+sign_in (takes reads g) = row_sign g.row
+
+-- of the rows only row 8 has a sign
+pub rows_signed : (word : List ℕ → List ℕ) (again : List ℕ → Reading) (s : List ℕ)
+    → map sign_in (rows word again s) ≡ 0 ∷ 0 ∷ 0 ∷ 0 ∷ 0 ∷ 0 ∷ 0 ∷ 0 ∷ 0 ∷ sign_number (sign_of s) ∷ 0 ∷ 0 ∷ 0 ∷ 0 ∷ []
+rows_signed word again s = refl

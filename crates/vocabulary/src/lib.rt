@@ -38,8 +38,7 @@ pub const A: usize = 93;
 
 pub const HALF: usize = 94;
 
-// What is said after a fraction of more than one part.
-pub const S: usize = 95;
+pub const APOSTROPHE_S: usize = 95;
 
 pub const SLASH: usize = 96;
 

@@ -14,8 +14,8 @@ infix 70 ◌calls◌
 pub data CallExample : Type 0 where
   ◌calls◌ : String → String → CallExample
 
--- document 01's example; sentences that end, and some that do not; full hours; a name for most rows; ranges and fractions, and
--- names next to them
+-- document 01's example; sentences that end, and some that do not; full hours; a name for most rows; ranges and fractions, names
+-- next to them, and fractions past 64 bits
 unfoldable pub call_examples : List CallExample
 call_examples =
     "Bar 12 at 9:30. Rack 5mm (21st)\n"
@@ -30,8 +30,14 @@ call_examples =
     calls "+ _a b\n- one thousand two hundred\n- zero zero seven\n- one point five e three\n- minus two\n- five per cent\n- five kilograms\n- three pounds\n"
     ∷ "12-18 007-5 0-00 12-18% 1-2-3 -5-6 5-"
     calls "+ twelve to eighteen\n- zero zero seven to five\n- zero to zero zero\n- twelve to eighteen per cent\n- 1-2-3\n- -5-6\n- 5-\n"
-    ∷ "1/2 5/8 1/8 7/4 3/3 0/0 01/2 0005/8 00/5 00/00 1/2% 1/2/3 12-1/2"
-    calls "+ a half\n- five eighth 's\n- one eighth\n- seven slash four\n- three slash three\n- zero slash zero\n- one second\n- zero thousand five eighth 's\n- fifth\n- slash\n- a half per cent\n- 1/2/3\n- 12-1/2\n"
+    ∷ "1/2 5/8 1/8 7/4 3/3 0/0 01/2"
+    calls "+ a half\n- five eighth 's\n- one eighth\n- seven slash four\n- three slash three\n- zero slash zero\n- one second\n"
+    ∷ "0005/8 00/5 00/00 1/2% 1/2/3 12-1/2"
+    calls "+ zero thousand five eighth 's\n- fifth\n- slash\n- a half per cent\n- 1/2/3\n- 12-1/2\n"
+    ∷ "0/18446744073709551616"
+    calls "+ zero one eight four four six seven four four zero seven three seven zero nine five five one six one sixth\n"
+    ∷ "18446744073709551617/2"
+    calls "+ one eight four four six seven four four zero seven three seven zero nine five five one six one seven slash two\n"
     ∷ []
 
 unfoldable pub example_holds : CallExample → Bool

@@ -16,7 +16,7 @@ use Rattle.tokens.specs.Tokens.{cut, tokens_step, tokens}
 use Rattle.sentences.specs.Sentences.{sentence_starts, sentence_starts_after, break_after}
 use Rattle.call_spec.specs.Sheet.{entries_of, spaced_words, line_of}
 use Rattle.clear.specs.Clear.{suffix, table_words}
-use Rattle.clear.specs.Test.{is_exponent_clear, is_fraction_clear, is_figure_clear, is_clear}
+use Rattle.clear.specs.Test.{is_exponent_clear, is_decimals_clear, is_figure_clear, is_clear}
 
 -- for the tokens of a text
 unfoldable pub unfold_tokens : Unit {0}
@@ -30,7 +30,7 @@ unfold_shapes = tt
 
 -- for the test of a clear name
 unfoldable pub unfold_clear : Unit {0}
-unfolding unfold_shapes is_clear is_exponent_clear is_fraction_clear is_figure_clear suffix table_words ones teens tens ordinal_ones ordinal_teens ordinal_tens
+unfolding unfold_shapes is_clear is_exponent_clear is_decimals_clear is_figure_clear suffix table_words ones teens tens ordinal_ones ordinal_teens ordinal_tens
 unfold_clear = tt
 
 -- for the rows and their readings
