@@ -445,7 +445,7 @@ hwk_sheet hwk_call_sheet(const uint8_t *s, size_t s_len, uint8_t *out, size_t ou
  *     which may have a + or a - before them: "-1.50e+3"
  *   - either of these with one % behind it
  *   - a plain hour of 1 or 2 digits, a colon, and a minute of 00 to 59: "9:00", "12:05"; am or pm may follow: "9:00am"
- *   - one or more digits, a hyphen, one or more digits: "12-18", "007-5"
+ *   - one or more digits, a hyphen, one or more digits, and no % behind them: "12-18", "007-5"
  *   - plain digits and their right suffix: "1st", "11th", "22nd"
  *   - plain digits and one of  LB ft kg km cm mm ml oz hz KHz MHz GHz KB GB MB TB
  *   - two or more capitals with single points between: "A.B"

@@ -47,8 +47,8 @@ fn say_per_cents(percents: usize, out: &mut Writer)
     }
 }
 
-// Says a name that neither ends in % nor is a range, and the percent signs after it. If the compiler inlined it, each call of `read_entry` would
-// take its stack frame as well.
+// Says a name that neither ends in % nor is a range, and the percent signs after it. If the compiler inlined it, each call of
+// `read_entry` would take its stack frame as well.
 #[inline(never)]
 fn read_before_percents(name: &[u8], percents: usize, out: &mut Writer) -> Row
     requires { (is_percent name.now ≡ false) × (is_range name.now ≡ false) }

@@ -7,7 +7,7 @@ use Rattle.numerals.specs.Cardinal.{digit_values, cardinal}
 use Rattle.numerals.specs.Ordinal.{ordinal}
 use Rattle.numerals.specs.Value.{decimal}
 
--- "its first and last runs of digits being numerator and denominator"
+-- "its first and last runs of digits being numerator and denominator": a name that row 5b takes begins and ends with one
 abbrev pub numerator : List ℕ → List ℕ
 numerator s = take_while digit s
 
