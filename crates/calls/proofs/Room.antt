@@ -108,8 +108,8 @@ meridiem_room s e =
     rw e (omega (arith, together (clock (take n t) (drop (n + 1) t)) (letters m), letters_room m, length-take (length s - 2) s, length-drop (length s - 2) s))
 
 -- the words of a range have room, if those of its parts have
-range_room : (n : ℕ) (left right : List ℕ) (ws vs : List Word) → length left + 1 + length right ≤ n → RoomFor (length left) ws → RoomFor (length right) vs
-    → RoomFor n (ws ++ to ∷ vs)
+range_room : (n : ℕ) (left right : List ℕ) (ws vs : List Word) → length left + 1 + length right ≤ n
+    → RoomFor (length left) ws → RoomFor (length right) vs → RoomFor n (ws ++ to ∷ vs)
 unfolding spell
 range_room n left right ws vs l p q = omega (arith, together ws (to ∷ vs))
 

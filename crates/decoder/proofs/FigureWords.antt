@@ -136,7 +136,8 @@ leading_words s h =
       decoded = decode_leading s h;
     }
 
-digits_after : (c : ℕ) (ws : List Word) (s : List ℕ) → eqb c (code ".") ≡ false → 0 < length ws → decode_digits ws ≡ s → decode_after_symbol c ws ≡ s
+digits_after : (c : ℕ) (ws : List Word) (s : List ℕ) → eqb c (code ".") ≡ false → 0 < length ws → decode_digits ws ≡ s
+    → decode_after_symbol c ws ≡ s
 unfolding decode_after_symbol
 digits_after c [] s n z e = absurd (omega arith)
 digits_after c (w ∷ ws) s n z e = rw n e

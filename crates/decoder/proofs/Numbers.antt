@@ -180,7 +180,8 @@ pub number_decoded : {word : List ℕ → List ℕ} (s : List ℕ) → Number s 
 number_decoded {word} s n = record { decoded = decode_number (number_words_decoded word s n) }
 
 -- so is a range
-pub range_decoded : {word : List ℕ → List ℕ} (a b : List ℕ) → is_digits a ≡ true → is_digits b ≡ true → DecodedWith word (a ++ (bytes "-" ++ b))
+pub range_decoded : {word : List ℕ → List ℕ} (a b : List ℕ) → is_digits a ≡ true → is_digits b ≡ true
+    → DecodedWith word (a ++ (bytes "-" ++ b))
 range_decoded {word} a b p q =
     decoded (a ++ (bytes "-" ++ b)) ((read_with word a).words ++ to ∷ (read_with word b).words) (ap (λ r. r.words) (range_row word a b p q))
     (decode_number (range_words_decoded word a b p q))

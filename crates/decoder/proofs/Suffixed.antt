@@ -70,7 +70,21 @@ module _ (s u : List ℕ) (h : is_digits s ≡ true) (l : all letter u ≡ true)
   -- row 9 reads the name if it is an ordinal number
   pub read_ordinal : (word : List ℕ → List ℕ) → is_ordinal name ≡ true → (read_with word name).words ≡ ordinal (take (length name - 2) name)
   unfolding read_step
-  read_ordinal word o = rw (step_eq word name, o, no_double, no_leading, suffix_not_digits, not_fraction, not_range, past.meridiem, past.time, past.comma, past.dotted, past.empty)
+  read_ordinal word o =
+      rw (
+        step_eq word name,
+        o,
+        no_double,
+        no_leading,
+        suffix_not_digits,
+        not_fraction,
+        not_range,
+        past.meridiem,
+        past.time,
+        past.comma,
+        past.dotted,
+        past.empty,
+      )
 
   -- row 11 reads it if it is no ordinal number and has a unit
   pub read_unit : (word : List ℕ → List ℕ) → is_ordinal name ≡ false → has_unit name ≡ true
@@ -78,4 +92,19 @@ module _ (s u : List ℕ) (h : is_digits s ≡ true) (l : all letter u ≡ true)
   unfolding read_step
   read_unit word o k =
       let p = no_ending letter_or_digit (code "%") name refl plain_bytes in
-      rw (step_eq word name, k, p, o, no_double, no_leading, suffix_not_digits, not_fraction, not_range, past.meridiem, past.time, past.comma, past.dotted, past.empty)
+      rw (
+        step_eq word name,
+        k,
+        p,
+        o,
+        no_double,
+        no_leading,
+        suffix_not_digits,
+        not_fraction,
+        not_range,
+        past.meridiem,
+        past.time,
+        past.comma,
+        past.dotted,
+        past.empty,
+      )

@@ -218,10 +218,12 @@ all_parted p q f g both d s h =
     (all_within digit p f (drop (span q s + 1) s) m.1)
 
 -- two texts of digits with the byte c between are digits and c
-separated_bytes : (c : ℕ) (both : List ℕ → List ℕ → Bool) → DigitsBoth both → (s : List ℕ) → split_once c both s ≡ true → all (digit_or c) s ≡ true
+separated_bytes : (c : ℕ) (both : List ℕ → List ℕ → Bool) → DigitsBoth both → (s : List ℕ) → split_once c both s ≡ true
+    → all (digit_or c) s ≡ true
 unfolding split_once
 separated_bytes c both d s h =
-    all_parted (digit_or c) (except c) (λ b e. or_true_left (digit b) (eqb b c) e) (λ b e. or_true_right (digit b) (eqb b c) (not-false (eqb b c) e)) both d s h
+    all_parted (digit_or c) (except c) (λ b e. or_true_left (digit b) (eqb b c) e)
+    (λ b e. or_true_right (digit b) (eqb b c) (not-false (eqb b c) e)) both d s h
 
 -- a time is digits and colons
 pub time_bytes : (s : List ℕ) → is_time s ≡ true → all (digit_or (code ":")) s ≡ true
