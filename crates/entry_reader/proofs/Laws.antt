@@ -1,4 +1,4 @@
--- How percent signs are counted. Assumes nothing.
+-- How percent signs are counted, and how a range is said. Assumes nothing.
 use mathlib.Core.Path.{◌≡◌, refl, sym, ap, ◌∙◌}
 use mathlib.Core.Bool.{true}
 use mathlib.Core.List.{List, [], ◌∷◌, ◌++◌, append_assoc, append-nil}
