@@ -115,9 +115,9 @@ clear_bytes _ (clear_word s l h n c o) = inl (letters_in lowercase (λ b e. rw (
 -- ---- names that are not clear
 
 -- no text around a byte outside a class makes up for it
-outside : (p : ℕ → Bool) (s : List ℕ) (c : ℕ) (t : List ℕ) → p c ≡ false → all p (s ++ (c ∷ t)) ≡ true → ⊥
+byte_outside : (p : ℕ → Bool) (s : List ℕ) (c : ℕ) (t : List ℕ) → p c ≡ false → all p (s ++ (c ∷ t)) ≡ true → ⊥
 unfolding all
-outside p s c t n k = false≢true (sym (all_append p s (c ∷ t) ∙ rw n (and-false (all p s))) ∙ k)
+byte_outside p s c t n k = false≢true (sym (all_append p s (c ∷ t) ∙ rw n (and-false (all p s))) ∙ k)
 
 unclear : (n : List ℕ) → (Clear n → ⊥) → is_clear n ≡ false
 unclear n h = go (is_clear n) refl
@@ -143,7 +143,7 @@ unfolding any
 fraction_unclear s h = unclear s (λ k. go s ((slashed_form s).0 h) k)
   where
     go : (s : List ℕ) → SeparatedForm (code "/") s → Clear s → ⊥
-    go _ (separated a b p q) k = outside clear_byte a (code "/") b refl (clear_all (a ++ (code "/" ∷ b)) k)
+    go _ (separated a b p q) k = byte_outside clear_byte a (code "/") b refl (clear_all (a ++ (code "/" ∷ b)) k)
 
 -- no number is a range
 pub number_no_range : (s : List ℕ) → Number s → is_range s ≡ true → ⊥
@@ -158,7 +158,7 @@ number_no_range s n h = go s n ((range_form s).0 h)
     no_number : (a b : List ℕ) → is_digits a ≡ true → is_number_clear (a ++ (code "-" ∷ b)) ≡ true → ⊥
     no_number a b p =
         or_true_elim (is_digits (a ++ (code "-" ∷ b))) (is_figure_clear (strip_prefix (code "-") (a ++ (code "-" ∷ b))))
-        (λ e. outside digit a (code "-") b refl (digits_all (a ++ (code "-" ∷ b)) e))
+        (λ e. byte_outside digit a (code "-") b refl (digits_all (a ++ (code "-" ∷ b)) e))
         (λ e. false≢true (sym (no_figure a b p) ∙ (rw (starts_with_digits (code "-") a (code "-" ∷ b) refl p) at e)))
 
     go : (s : List ℕ) → Number s → SeparatedForm (code "-") s → ⊥
@@ -168,7 +168,7 @@ number_no_range s n h = go s n ((range_form s).0 h)
 pub percent_range_unclear : (s : List ℕ) → is_range s ≡ true → is_clear (s ++ bytes "%") ≡ false
 unfolding any
 percent_range_unclear s h =
-    unclear (s ++ bytes "%") (λ k. ⊎_elim (outside name_byte s (code "%") [] refl) (λ o. other o.0 o.1 o.2) (clear_bytes (s ++ bytes "%") k))
+    unclear (s ++ bytes "%") (λ k. ⊎_elim (byte_outside name_byte s (code "%") [] refl) (λ o. other o.0 o.1 o.2) (clear_bytes (s ++ bytes "%") k))
   where
     other : (t : List ℕ) → Number t → s ++ bytes "%" ≡ t ++ bytes "%" → ⊥
     other t n e =

@@ -28,7 +28,8 @@ use Rattle.numerals.proofs.NumberWords.{NumberWord, number_word_test}
 use Rattle.decoder.proofs.NumberWords.{every_parsed, plain_some}
 use Rattle.decoder.proofs.Dispatch.{last_word_lem, but_last_lem, not_one_word, number_word_no_letter, decoded}
 use Rattle.decoder.proofs.Real.{minus_words}
-use Rattle.decoder.proofs.FigureWords.{FigureWord, is_figure_end, unfold_decoder, number_word_figure, minus_is, to_is, SymbolTail, no_tail, symbol_part, front_decoded, tail_figure_words, DigitsDecoded, plain_words, leading_words, digits_part, figure_tail}
+use Rattle.decoder.proofs.FigureWords.{FigureWord, is_figure_end, unfold_decoder, number_word_figure, minus_is, to_is, SymbolTail, no_tail}
+use Rattle.decoder.proofs.FigureWords.{symbol_part, front_decoded, tail_figure_words, DigitsDecoded, plain_words, leading_words, digits_part, figure_tail}
 use Rattle.decoder.proofs.FigureRows.{figure_read, plain_read, leading_read}
 use Rattle.decoder.proofs.NotTime.{NotTime, large_not_time}
 

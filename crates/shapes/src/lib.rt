@@ -1,4 +1,5 @@
-// The shapes of patterns.rs under its names, and in its order but for is_n_digits. Each takes all bytes, and demands nothing.
+// The shapes of patterns.rs under its names, and in its order but for is_n_digits; and the test of a range, which is like
+// is_digits_slash_digits. Each takes all bytes, and demands nothing.
 // None tests for a refusal: the public calls of the crate patterns do that before they ask a shape.
 #![tactic(auto)]
 
@@ -6,7 +7,8 @@ ghost use Rattle.std.specs.Prelude.{◌≡◌, false, length};
 ghost use Rattle.std.specs.Option.{option_copied};
 ghost use Rattle.lists.specs.Bytes.{split, non_empty};
 ghost use Rattle.shapes.specs.Shapes.{is_digits, is_alpha, strip_sign, is_exponent, is_unsigned, is_double, is_comma_int, is_ordinal_suffix, is_ordinal, is_amount, is_us_money, is_illion, is_small_roman, is_roman, is_dr_or_st};
-ghost use Rattle.shapes.specs.Shapes.{is_number_s, is_leading_zero_digits, is_seven_digit_phone, is_n_digits, is_hour_minute, is_time, is_one_letter, is_dotted_abbrev, split_once, are_digits, is_digits_slash_digits, is_range, is_digits_dash_digits, split_unit};
+ghost use Rattle.shapes.specs.Shapes.{is_number_s, is_leading_zero_digits, is_seven_digit_phone, is_n_digits, is_hour_minute, is_time, is_one_letter, is_dotted_abbrev};
+ghost use Rattle.shapes.specs.Shapes.{split_once, are_digits, is_digits_slash_digits, is_range, is_digits_dash_digits, split_unit};
 ghost use Rattle.lists.specs.Classes.{digit};
 ghost use Rattle.shapes.specs.Times.{ends_in_meridiem, SplitsTime};
 
