@@ -6,7 +6,7 @@ use Prim.Native.Nat.{ℕ, ◌+◌, ◌-◌, ◌<◌}
 use Prim.Native.Char.{code}
 use native.Mathlib.Omega.{arith}
 use lib.Dec.{ltb}
-use lib.ListN.{length, get_or}
+use lib.ListN.{length, drop, get_or}
 use lib.Seq.{drop-append_seam}
 use borrow.Author.Tests.{not-true}
 use Rattle.lists.specs.Bytes.{all, span, starts_with, uppercase, to_lower}
@@ -17,7 +17,7 @@ use Rattle.shapes.specs.Times.{is_meridiem_time}
 use Rattle.shapes.proofs.Laws.{digits_all, digits_some, digits_nonempty}
 use Rattle.numerals.specs.Cardinal.{cardinal, digits}
 use Rattle.reals.specs.Real.{real}
-use Rattle.rows.specs.Rows.{read_step, read_with}
+use Rattle.rows.specs.Rows.{first_taking, rows, read_step, read_with}
 use Rattle.rows.proofs.Laws.{step_eq}
 use Rattle.rows.proofs.Taken.{digit_no_letter, untaken, double_byte, meridiem_last, double_bytes, no_fraction, PastTimes, past_times}
 use Rattle.clear.specs.Clear.{plain, OptionalMinus, no_minus, a_minus, Decimals, no_point, a_point, Exponent, no_exponent, an_exponent, Number, number_digits, number_figure}
@@ -52,19 +52,23 @@ module _ (s : List ℕ) (z : 0 < length s) (l : letter (get_or s 0 0) ≡ false)
   past : PastTimes s
   past = past_times double_byte s h refl refl z l not_meridiem
 
+  -- no row before row 6 takes it; in the list seven rows stand before it
+  from_leading_zero : (word : List ℕ → List ℕ) → read_with word s ≡ first_taking (drop 7 (rows word (read_with word) s))
+  unfolding read_step
+  from_leading_zero word =
+      step_eq word s ∙ rw (past.dotted, past.comma, past.time, past.meridiem, not_range, not_fraction, past.empty)
+
   -- row 6 reads it if it has a leading zero
   read_leading : (word : List ℕ → List ℕ) → is_leading_zero_digits s ≡ true → (read_with word s).words ≡ digits s
-  unfolding read_step
-  read_leading word e = rw (step_eq word s, past.dotted, past.comma, past.time, past.meridiem, not_range, not_fraction, e, past.empty)
+  read_leading word e = rw (from_leading_zero word, e)
 
   -- else row 7 or row 8 reads it; both say what `real` says
   read_real : (word : List ℕ → List ℕ) → is_leading_zero_digits s ≡ false → (read_with word s).words ≡ real s
-  unfolding read_step
   read_real word e = go (is_digits s) refl
     where
       go : (t : Bool) → is_digits s ≡ t → (read_with word s).words ≡ real s
-      go true k = rw (step_eq word s, past.dotted, past.comma, past.time, past.meridiem, not_range, not_fraction, e, k, past.empty) (sym (real_digits s k))
-      go false k = rw (step_eq word s, past.dotted, past.comma, past.time, past.meridiem, not_range, not_fraction, e, k, d, past.empty)
+      go true k = rw (from_leading_zero word, e, k) (sym (real_digits s k))
+      go false k = rw (from_leading_zero word, e, k, d)
 
 -- ---- a figure is a double
 

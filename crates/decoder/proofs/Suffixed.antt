@@ -16,7 +16,7 @@ use Rattle.units.specs.Units.{unit_word}
 use Rattle.numerals.specs.Words.{other}
 use Rattle.numerals.specs.Cardinal.{cardinal}
 use Rattle.numerals.specs.Ordinal.{ordinal}
-use Rattle.rows.specs.Rows.{read_step, read_with}
+use Rattle.rows.specs.Rows.{first_taking, rows, read_step, read_with}
 use Rattle.rows.proofs.Laws.{step_eq}
 use Rattle.rows.proofs.Taken.{digit_no_letter, untaken, double_byte, double_bytes, digit_double, no_meridiem, no_range, no_fraction, no_ending, PastTimes, past_times}
 
@@ -67,44 +67,18 @@ module _ (s u : List ℕ) (h : is_digits s ≡ true) (l : all letter u ≡ true)
   not_fraction : is_digits_slash_digits name ≡ false
   not_fraction = no_fraction letter_or_digit name plain_bytes refl
 
-  -- row 9 reads the name if it is an ordinal number
-  pub read_ordinal : (word : List ℕ → List ℕ) → is_ordinal name ≡ true → (read_with word name).words ≡ ordinal (take (length name - 2) name)
+  -- no row before row 9 takes the name; in the list ten rows stand before it
+  from_ordinal : (word : List ℕ → List ℕ) → read_with word name ≡ first_taking (drop 10 (rows word (read_with word) name))
   unfolding read_step
-  read_ordinal word o =
-      rw (
-        step_eq word name,
-        o,
-        no_double,
-        no_leading,
-        suffix_not_digits,
-        not_fraction,
-        not_range,
-        past.meridiem,
-        past.time,
-        past.comma,
-        past.dotted,
-        past.empty,
-      )
+  from_ordinal word =
+      step_eq word name
+      ∙ rw (past.dotted, past.comma, past.time, past.meridiem, not_range, not_fraction, no_leading, suffix_not_digits, no_double, past.empty)
+
+  -- row 9 reads it if it is an ordinal number
+  pub read_ordinal : (word : List ℕ → List ℕ) → is_ordinal name ≡ true → (read_with word name).words ≡ ordinal (take (length name - 2) name)
+  read_ordinal word o = rw (from_ordinal word, o)
 
   -- row 11 reads it if it is no ordinal number and has a unit
   pub read_unit : (word : List ℕ → List ℕ) → is_ordinal name ≡ false → has_unit name ≡ true
       → (read_with word name).words ≡ cardinal (take (unit_at name) name) ++ other (unit_word (drop (unit_at name) name)) ∷ []
-  unfolding read_step
-  read_unit word o k =
-      let p = no_ending letter_or_digit (code "%") name refl plain_bytes in
-      rw (
-        step_eq word name,
-        k,
-        p,
-        o,
-        no_double,
-        no_leading,
-        suffix_not_digits,
-        not_fraction,
-        not_range,
-        past.meridiem,
-        past.time,
-        past.comma,
-        past.dotted,
-        past.empty,
-      )
+  read_unit word o k = rw (from_ordinal word, o, no_ending letter_or_digit (code "%") name refl plain_bytes, k)
