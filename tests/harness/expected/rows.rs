@@ -1,5 +1,5 @@
-//! The call sheet: document 01's twelve rows and the two of document 02, A2, over the Rust's functions, and what the calls answer, in
-//! the types of include/howhakiru.h.
+//! The call sheet: document 01's twelve rows and the two of document 02, A2, over the Rust's functions, and what the calls
+//! answer, in the types of include/howhakiru.h.
 
 use reference::{numbers, patterns};
 
