@@ -49,6 +49,24 @@ reading_corners =
     ∷ reads_as real "1.2.3" "one point two three"
     ∷ []
 
+-- texts, and the numbers that they are refused with; 0 is none. U+0080 and U+009F are two bytes each, and no control bytes
+unfoldable pub text_corners : List (List ℕ × ℕ)
+text_corners =
+    ([], 0)
+    ∷ (bytes " ~\t\n\r", 0)
+    ∷ (0x00 ∷ [], 6)
+    ∷ (0x08 ∷ [], 6)
+    ∷ (0x0B ∷ [], 6)
+    ∷ (0x0C ∷ [], 6)
+    ∷ (0x0E ∷ [], 6)
+    ∷ (0x1F ∷ [], 6)
+    ∷ (0x7F ∷ [], 6)
+    ∷ (0xC2 ∷ 0x80 ∷ 0xC2 ∷ 0x9F ∷ [], 0)
+    ∷ (0xC2 ∷ 0x80 ∷ 0x00 ∷ [], 6)
+    ∷ (0x00 ∷ 0xC2 ∷ [], 2)
+    ∷ (0xFF ∷ 0x7F ∷ [], 2)
+    ∷ []
+
 -- the same texts in the same order
 unfoldable pub same_texts : List (List ℕ) → List (List ℕ) → Bool
 same_texts [] [] = true
