@@ -1,7 +1,7 @@
 -- Control bytes: what the code tests of a byte, and what a text without them is, byte by byte and character by character.
 -- Assumes nothing.
 use mathlib.Core.Path.{◌≡◌, refl, sym, ◌∙◌}
-use mathlib.Core.Bool.{Bool, true, false, cond, not, ◌&&◌, ◌||◌, or-false, and-eq-true_iff, false≢true, true≢false}
+use mathlib.Core.Bool.{Bool, true, false, cond, not, ◌&&◌, ◌||◌, or-false, and-true, and_assoc, and-eq-true_iff, false≢true, true≢false}
 use mathlib.Core.List.{List, [], ◌∷◌, flatten}
 use Prim.Native.Nat.{ℕ, ◌+◌, ◌%◌, ◌/◌, ◌≤◌, ◌<◌}
 use native.Mathlib.Omega.{arith}
@@ -10,6 +10,7 @@ use lib.Dec.{eqb}
 use borrow.Author.Tests.{lt-leb, ne_eqb, lt-ltb}
 use Rattle.std.specs.Prelude.{◌⊎◌, ℤ, pos, int_lt}
 use Rattle.std.specs.List.{fold}
+use Rattle.std.proofs.Math.Bool.{or_assoc}
 use Rattle.std.specs.Int.{cast_signed, cast_unsigned, w8}
 use Rattle.lists.specs.Bytes.{any, all}
 use Rattle.lists.specs.Classes.{ascii, one_of}
@@ -78,12 +79,12 @@ ascii_text_clear (b ∷ s) h =
     no_control true true h = absurd (false≢true h)
     no_control false true h = absurd (false≢true h)
 
--- a fold that joins what each byte answers
-pub any_folded : (p : ℕ → Bool) (found : Bool) (s : List ℕ) → fold (λ found b. found || p b) found s ≡ (found || any p s)
-unfolding any
-any_folded p found [] = sym (or-false found)
-any_folded p true (b ∷ s) = any_folded p true s
-any_folded p false (b ∷ s) = any_folded p (p b) s
+-- a fold that joins two answers of each byte
+pub both_folded : (p q : ℕ → Bool) (f : Bool × Bool) (s : List ℕ)
+    → fold (λ f b. (f.0 && p b, f.1 || q b)) f s ≡ (f.0 && all p s, f.1 || any q s)
+unfolding all any
+both_folded p q f [] = rw (and-true f.0, or-false f.1) refl
+both_folded p q f (b ∷ s) = both_folded p q (f.0 && p b, f.1 || q b) s ∙ rw (and_assoc f.0 (p b) (all p s), or_assoc f.1 (q b) (any q s)) refl
 
 -- the encoding of a character has a control byte exactly if the character is one
 encode_control : (c : ℕ) → has_control (encode c) ≡ control c

@@ -1,6 +1,6 @@
 -- How the test of UTF-8 goes on: past one character, or past a run of ASCII. Assumes nothing.
-use mathlib.Core.Path.{◌≡◌, refl, sym, ap, ◌∙◌}
-use mathlib.Core.Bool.{Bool, true, false, cond, ◌&&◌, and_assoc, and-true}
+use mathlib.Core.Path.{◌≡◌, refl, ap, ◌∙◌}
+use mathlib.Core.Bool.{Bool, true, false, cond, ◌&&◌}
 use mathlib.Core.List.{List, [], ◌∷◌}
 use Prim.Native.Nat.{ℕ, zero, suc, ◌≤◌, ◌<◌}
 use native.Mathlib.Omega.{arith}
@@ -8,7 +8,6 @@ use lib.Dec.{eqb}
 use lib.ListN.{length, take, drop, length-drop}
 use lib.Seq.{take-length}
 use borrow.Author.Tests.{ne_eqb, eqb-false}
-use Rattle.std.specs.List.{fold}
 use Rattle.lists.specs.Bytes.{all}
 use Rattle.lists.proofs.Recursion.{Local, recur_eq, cond_cong}
 use Rattle.lists.specs.Classes.{ascii}
@@ -74,9 +73,3 @@ utf8_run (suc n) (a ∷ s) h = go (ascii a) refl h (utf8_run n s)
 -- a text that is all ASCII is UTF-8
 pub utf8_all : (s : List ℕ) → all ascii s ≡ true → utf8 s ≡ true
 utf8_all s h = utf8_run (length s) s (rw take-length h) ∙ utf8_end s (length s) (omega arith)
-
--- a fold that joins what each byte answers
-pub all_folded : (p : ℕ → Bool) (ok : Bool) (s : List ℕ) → fold (λ ok b. ok && p b) ok s ≡ (ok && all p s)
-unfolding all
-all_folded p ok [] = sym (and-true ok)
-all_folded p ok (b ∷ s) = all_folded p (ok && p b) s ∙ and_assoc ok (p b) (all p s)

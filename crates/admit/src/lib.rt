@@ -3,6 +3,7 @@
 
 ghost use Rattle.std.specs.Prelude.{◌≡◌};
 ghost use Rattle.lists.specs.Bytes.{all};
+ghost use Rattle.lists.specs.Classes.{ascii};
 ghost use Rattle.admit.specs.Utf8.{utf8};
 ghost use Rattle.admit.specs.Refusals.{refusal_number, answer_number, ascii_text, control, has_control, text_limit, text_refusal};
 
@@ -66,43 +67,36 @@ impl ByteClass for AsciiText {
     }
 }
 
-// Whether every byte is ASCII and none a control byte. The fold has no early exit, so that the compiler can test many bytes at
-// once.
-fn all_ascii_text(s: &[u8]) -> bool
-    ensures { result ≡ all ascii_text s.now }
+// Whether every byte is ASCII, and whether there is a control byte. The fold has no early exit, so that the compiler can test
+// many bytes at once.
+fn survey(s: &[u8]) -> (bool, bool)
+    ensures { result ≡ (all ascii s.now, has_control s.now) }
 {
-    s.iter().fold(true, |ok, b| ok & is_ascii_text(*b))
+    s.iter().fold((true, false), |(is_ascii, has_control), b| {
+        (is_ascii & (*b < 0x80), has_control | is_control(*b))
+    })
 }
 
-// Whether there is a control byte, in the same way.
-fn has_control(s: &[u8]) -> bool
-    ensures { result ≡ has_control s.now }
-{
-    s.iter().fold(false, |found, b| found | is_control(*b))
-}
-
-// Whether s is UTF-8.
-pub fn is_utf8(s: &[u8]) -> bool
+// Whether s is UTF-8, if it is known whether it is ASCII. Most texts are, and the fast pass is enough for these.
+fn is_utf8(s: &[u8], is_ascii: bool) -> bool
+    requires { is_ascii ≡ all ascii s.now }
     ensures { result ≡ utf8 s.now }
 {
-    str::from_utf8(s).is_ok()
+    is_ascii || str::from_utf8(s).is_ok()
 }
 
-// The tests of one text, in their order: its length, and then its bytes. Most texts are ASCII, and one fast pass is enough for
-// these.
+// The tests of one text, in their order: its length, and then its bytes.
 pub fn admit(limit: usize, s: &[u8]) -> Result<(), Refusal>
     ensures { answer_number result ≡ text_refusal limit s.now }
 {
     if limit < s.len() {
         return Err(Refusal::TextTooLong);
     }
-    if all_ascii_text(s) {
-        return Ok(());
-    }
-    if !is_utf8(s) {
+    let (is_ascii, has_control) = survey(s);
+    if !is_utf8(s, is_ascii) {
         return Err(Refusal::NotUtf8);
     }
-    if has_control(s) {
+    if has_control {
         return Err(Refusal::ControlByte);
     }
     Ok(())
