@@ -23,7 +23,8 @@ mod texts;
 use comparison::{Comparison, Counts};
 use expected::{clear, rows};
 use random::Random;
-use texts::{distinguish, exhaustive, linear_forms, long, long_numbers, long_tokens, short, step_states, two_numbers, utf8};
+use texts::{control_bytes, distinguish, exhaustive, linear_forms, long, long_numbers, long_tokens, short, step_states};
+use texts::{two_numbers, utf8};
 
 /// From this many seconds on there is time for texts of one piece more.
 const LONG: u64 = 600;
@@ -58,7 +59,7 @@ struct Share {
 
 const NAMES: Share = Share { name: "shapes and numbers", divisor: 1, fixed: names, round: names_round };
 const SHEETS: Share = Share { name: "tokens", divisor: 2, fixed: tokens, round: tokens_round };
-const CALL_SHEETS: Share = Share { name: "call sheets", divisor: 2, fixed: calls, round: calls_round };
+const CALL_SHEETS: Share = Share { name: "call sheets", divisor: 2, fixed: calls_and_controls, round: calls_round };
 
 fn compare(share: Share, seconds: u64, seed: u64) -> Counts {
     let start = Instant::now();
@@ -117,6 +118,24 @@ fn tokens(comparison: &mut Comparison, long: bool) {
     texts::steps::long(comparison);
     texts::steps::cut_characters(comparison);
     step_states::every_choice(comparison);
+}
+
+fn calls_and_controls(comparison: &mut Comparison, long: bool) {
+    calls(comparison, long);
+    controls(comparison);
+}
+
+/// Control bytes, in all calls.
+fn controls(comparison: &mut Comparison) {
+    control_bytes::check_list();
+    control_bytes::named(comparison);
+    control_bytes::each_place(comparison);
+    control_bytes::beside_each_other(comparison);
+    control_bytes::long(comparison);
+    control_bytes::with_broken_utf8(comparison);
+    control_bytes::other_controls(comparison);
+    control_bytes::steps(comparison);
+    control_bytes::before_later_tests(comparison);
 }
 
 /// Sheets, entries and clear names; and that call sheets distinguish their sheets, on pairs.
