@@ -58,8 +58,8 @@ struct Share {
 }
 
 const NAMES: Share = Share { name: "shapes and numbers", divisor: 1, fixed: names, round: names_round };
-const SHEETS: Share = Share { name: "tokens", divisor: 2, fixed: tokens, round: tokens_round };
-const CALL_SHEETS: Share = Share { name: "call sheets", divisor: 2, fixed: calls_and_controls, round: calls_round };
+const SHEETS: Share = Share { name: "tokens and control bytes", divisor: 2, fixed: tokens_and_controls, round: tokens_round };
+const CALL_SHEETS: Share = Share { name: "call sheets", divisor: 2, fixed: calls, round: calls_round };
 
 fn compare(share: Share, seconds: u64, seed: u64) -> Counts {
     let start = Instant::now();
@@ -102,6 +102,11 @@ fn numbers(comparison: &mut Comparison, long: bool) {
     long_numbers::limits(comparison);
 }
 
+fn tokens_and_controls(comparison: &mut Comparison, long: bool) {
+    tokens(comparison, long);
+    controls(comparison);
+}
+
 /// In a long run texts have one piece more. So all texts of seven of the eleven characters are in it; else each round takes some.
 fn tokens(comparison: &mut Comparison, long: bool) {
     texts::tokens::named(comparison);
@@ -120,12 +125,7 @@ fn tokens(comparison: &mut Comparison, long: bool) {
     step_states::every_choice(comparison);
 }
 
-fn calls_and_controls(comparison: &mut Comparison, long: bool) {
-    calls(comparison, long);
-    controls(comparison);
-}
-
-/// Control bytes, in all calls.
+/// Control bytes in every call, and not only in those about tokens, since this share takes the least time.
 fn controls(comparison: &mut Comparison) {
     control_bytes::check_list();
     control_bytes::named(comparison);

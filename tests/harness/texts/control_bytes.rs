@@ -5,6 +5,7 @@ use crate::comparison::{Comparison, CALLS};
 use crate::corners::control_bytes::{CONTROL_BYTES, TEXTS};
 use crate::expected::answers::{self, TEXT_LIMIT};
 use crate::expected::rows::NAME_LIMIT;
+use crate::howhakiru;
 use crate::steps::Fed;
 use crate::texts::step_states::ODD;
 
@@ -66,30 +67,39 @@ pub fn beside_each_other(comparison: &mut Comparison) {
 /// What a long text is filled with.
 const FILLERS: &[&str] = &["a", "5 ", "é"];
 
-/// Every byte at the ends and in the middle of texts at the limit, one call each. A control byte there, every call: at the limit
-/// it is refused, and over the limit the length is.
+/// A control byte near the ends and the middle of texts at the limit, which is refused, and of longer ones, of which the length is
+/// refused. All other bytes there too, in the verdicts.
 pub fn long(comparison: &mut Comparison) {
+    comparison.begin("control bytes in long texts, one call each");
     let mut call = 0;
     for filler in FILLERS {
-        for len in [TEXT_LIMIT - 1, TEXT_LIMIT, TEXT_LIMIT + 1] {
+        for len in TEXT_LIMIT - 1..=TEXT_LIMIT + 1 {
             let places = [0, 1, 31, 32, 63, 64, len / 2 - 1, len / 2, len - 65, len - 64, len - 33, len - 32, len - 2, len - 1];
-            let fill = |from: usize, to: usize| filled(filler, to - from);
             for place in places {
-                let (front, back) = (fill(0, place), fill(place + 1, len));
-                comparison.begin("each byte at the ends of long texts");
-                for byte in 0..=255 {
-                    comparison.one_call(&[&front[..], &[byte], &back].concat(), call % 64, call % CALLS);
-                    call += 1;
-                }
-            }
-            comparison.begin("control bytes at the ends of long texts");
-            for place in [0, len / 2, len - 1] {
                 for byte in CONTROL_BYTES {
-                    comparison.every_call(&[&fill(0, place)[..], &[*byte], &fill(place + 1, len)].concat(), 0);
+                    comparison.one_call(&with_byte(filler, len, place, *byte), call % 64, call % CALLS);
+                    call += 1;
                 }
             }
         }
     }
+    comparison.begin("control bytes in long texts, every call");
+    for len in TEXT_LIMIT..=TEXT_LIMIT + 1 {
+        for place in [0, len / 2, len - 1] {
+            CONTROL_BYTES.iter().for_each(|byte| comparison.every_call(&with_byte("a", len, place, *byte), 0));
+        }
+    }
+    comparison.begin("each byte in long texts");
+    for place in [0, TEXT_LIMIT / 2, TEXT_LIMIT - 1] {
+        for byte in 0..=255 {
+            comparison.one_call(&with_byte("a", TEXT_LIMIT, place, byte), 0, usize::from(byte) % howhakiru::VERDICTS.len());
+        }
+    }
+}
+
+/// A text of `len` bytes with this one at `place`, filled before and behind it.
+fn with_byte(filler: &str, len: usize, place: usize, byte: u8) -> Vec<u8> {
+    [&filled(filler, place)[..], &[byte], &filled(filler, len - place - 1)].concat()
 }
 
 /// Whole characters of the filler, and then bytes of one each.
