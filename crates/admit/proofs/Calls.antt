@@ -1,18 +1,31 @@
 -- A refused call answers its number and nothing else, an accepted one its value. And laws of the tests of a call.
 -- Assumes nothing.
 use mathlib.Core.Path.{◌≡◌, refl, sym, ap, ◌∙◌}
-use mathlib.Core.Bool.{true, false, or-false}
+use mathlib.Core.Bool.{true, false, not, or-false, and-eq-true_iff}
 use mathlib.Core.List.{List, [], ◌∷◌, ◌++◌}
 use Rattle.std.specs.Prelude.{Result, Ok, Err, IsErrAnd}
 use Prim.Native.Nat.{ℕ, zero, suc, ◌≤◌}
 use native.Mathlib.Omega.{arith}
 use lib.ListN.{length}
 use borrow.Author.Tests.{ltb-false, le-ltb, not-false}
-use Rattle.lists.specs.Bytes.{any, Every}
+use Rattle.lists.specs.Bytes.{all, any, Every}
+use Rattle.lists.specs.Classes.{ascii}
+use Rattle.lists.proofs.Scan.{all_within}
 use Rattle.admit.specs.Utf8.{utf8}
-use Rattle.admit.specs.Refusals.{refusal_number, Test, ◌when◌, first_refusal, text_tests, text_refusal, call, answer_number, answered}
+use Rattle.admit.specs.Refusals.{refusal_number, Test, ◌when◌, first_refusal, text_tests, text_refusal, call, answer_number, answered, control, has_control, ascii_text}
+use Rattle.admit.proofs.Utf8.{utf8_all}
+use Rattle.admit.proofs.Control.{ascii_text_clear}
 use Rattle.admit.specs.declared.Refusal.{Refusal}
-use Rattle.admit.specs.declared.Refusal.TheVariants.{TextTooLong, NotUtf8, NoSuchEntry, NameTooLong, BufferTooShort}
+use Rattle.admit.specs.declared.Refusal.TheVariants.{TextTooLong, NotUtf8, NoSuchEntry, NameTooLong, BufferTooShort, ControlByte}
+
+-- no refusal has the number 0
+pub numbered : (r : Refusal) → refusal_number r ≡ 0 → ⊥
+numbered TextTooLong e = absurd (omega arith)
+numbered NotUtf8 e = absurd (omega arith)
+numbered NoSuchEntry e = absurd (omega arith)
+numbered NameTooLong e = absurd (omega arith)
+numbered BufferTooShort e = absurd (omega arith)
+numbered ControlByte e = absurd (omega arith)
 
 refused_same : {A : Type 0} (nothing given : A) (n : ℕ) → (n ≡ 0 → ⊥) → record { refusal = n; value = nothing } ≡ call nothing n given
 refused_same nothing given zero h = absurd (h refl)
@@ -38,18 +51,14 @@ abbrev pub or_else : ℕ → ℕ → ℕ
 or_else zero m = m
 or_else (suc n) m = suc n
 
--- no refusal has the number 0
-numbered : (r : Refusal) (m : ℕ) → refusal_number r ≡ or_else (refusal_number r) m
-numbered TextTooLong m = refl
-numbered NotUtf8 m = refl
-numbered NoSuchEntry m = refl
-numbered NameTooLong m = refl
-numbered BufferTooShort m = refl
+or_else_some : (n m : ℕ) → (n ≡ 0 → ⊥) → n ≡ or_else n m
+or_else_some zero m h = absurd (h refl)
+or_else_some (suc n) m h = refl
 
 -- the tests a and then b give the refusal of a, or that of b if no test of a holds
 pub first_refusal_append : (a b : List Test) → first_refusal (a ++ b) ≡ or_else (first_refusal a) (first_refusal b)
 first_refusal_append [] b = refl
-first_refusal_append (r when true ∷ a) b = numbered r (first_refusal b)
+first_refusal_append (r when true ∷ a) b = or_else_some (refusal_number r) (first_refusal b) (numbered r)
 first_refusal_append (r when false ∷ a) b = first_refusal_append a b
 
 -- n is the number that the code has for the tests a; the tests b follow
@@ -81,7 +90,7 @@ Fails (r when holds) = holds ≡ false
 -- if a call is not refused, no test holds
 pub none_refused : (tests : List Test) → first_refusal tests ≡ 0 → Every Fails tests
 none_refused [] h = tt
-none_refused (r when true ∷ tests) h = absurd (omega (arith, h, numbered r 1 ∙ ap (λ (n : ℕ). or_else n 1) h))
+none_refused (r when true ∷ tests) h = absurd (numbered r h)
 none_refused (r when false ∷ tests) h = (refl, none_refused tests h)
 
 -- ---- calls that answer a `Result`
@@ -98,14 +107,7 @@ module _ (a b : List Test) {T : Type 0} {made : Result T Refusal} (made_eq : ans
 
       go : (result : Result A Refusal) → IsErrAnd result (λ e. e ≡ r) → answered nothing f result ≡ call nothing (first_refusal (a ++ b)) given
       go (Ok v) h = absurd h
-      go (Err q) h = rw (h, first_refusal_append a b, ← n) (left r)
-        where
-          left : (r : Refusal) → record { refusal = refusal_number r; value = nothing } ≡ call nothing (or_else (refusal_number r) (first_refusal b)) given
-          left TextTooLong = refl
-          left NotUtf8 = refl
-          left NoSuchEntry = refl
-          left NameTooLong = refl
-          left BufferTooShort = refl
+      go (Err q) h = rw h (refused_first a b n nothing given (numbered r))
 
   -- if it is accepted, the tests b decide
   pub decides_next : {v : T} → made ≡ Ok v → first_refusal (a ++ b) ≡ first_refusal b
@@ -119,19 +121,30 @@ leaves_same nothing f g (Err q) e h = rw (e, h)
 
 -- ---- one text
 
--- what an accepted text is: within the limit, and UTF-8
+-- what an accepted text is: within the limit, UTF-8, and without control bytes
 pub record ValidText (limit : ℕ) (s : List ℕ) : Type 0 where
   pub within_limit : length s ≤ limit
   pub valid_utf8 : utf8 s ≡ true
+  pub no_control : has_control s ≡ false
 
 -- an accepted text is valid
 pub text_valid : (limit : ℕ) (s : List ℕ) → text_refusal limit s ≡ 0 → ValidText limit s
 unfolding text_tests any
 text_valid limit s h =
     let k = none_refused (text_tests limit (s ∷ [])) h in
-    record { within_limit = ltb-false _ _ (sym (or-false _) ∙ k.0); valid_utf8 = not-false _ (sym (or-false _) ∙ k.1.0) }
+    record {
+      within_limit = ltb-false _ _ (sym (or-false _) ∙ k.0);
+      valid_utf8 = not-false _ (sym (or-false _) ∙ k.1.0);
+      no_control = sym (or-false _) ∙ k.1.1.0;
+    }
 
 -- a valid text is accepted
 pub text_accepted : (limit : ℕ) (s : List ℕ) → ValidText limit s → text_refusal limit s ≡ 0
 unfolding text_tests any
-text_accepted limit s h = rw (le-ltb limit (length s) h.within_limit, h.valid_utf8)
+text_accepted limit s h = rw (le-ltb limit (length s) h.within_limit, h.valid_utf8, h.no_control)
+
+-- ASCII text within the limit is accepted
+pub ascii_text_accepted : (limit : ℕ) (s : List ℕ) → length s ≤ limit → all ascii_text s ≡ true → text_refusal limit s ≡ 0
+ascii_text_accepted limit s h k =
+    let ascii_s = all_within ascii_text ascii (λ b e. ((and-eq-true_iff (ascii b) (not (control b))).0 e).0) s k in
+    text_accepted limit s (record { within_limit = h; valid_utf8 = utf8_all s ascii_s; no_control = ascii_text_clear s k })

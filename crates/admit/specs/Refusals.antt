@@ -1,10 +1,11 @@
--- Document 01, "Calls held back": the refusals, their numbers, the tests of a call, and what a refused call answers.
--- Definitions only.
-use Rattle.std.specs.Prelude.{Bool, true, cond, not, ◌&&◌, List, [], ◌∷◌, ℕ, zero, suc, ltb, length, Result, Ok, Err}
-use Rattle.lists.specs.Bytes.{any}
+-- Document 01, "Calls held back", and number 6 of document 02: the refusals, their numbers, the tests of a call, and what a
+-- refused call answers. Definitions only.
+use Rattle.std.specs.Prelude.{Bool, true, cond, not, ◌&&◌, ◌||◌, List, [], ◌∷◌, ℕ, zero, suc, leb, ltb, eqb, length, Result, Ok, Err}
+use Rattle.lists.specs.Bytes.{any, span}
+use Rattle.lists.specs.Classes.{ascii, except, one_of}
 use Rattle.admit.specs.Utf8.{utf8}
 use Rattle.admit.specs.declared.Refusal.{Refusal}
-use Rattle.admit.specs.declared.Refusal.TheVariants.{TextTooLong, NotUtf8, NoSuchEntry, NameTooLong, BufferTooShort}
+use Rattle.admit.specs.declared.Refusal.TheVariants.{TextTooLong, NotUtf8, NoSuchEntry, NameTooLong, BufferTooShort, ControlByte}
 
 -- the column "No." of the table
 abbrev pub refusal_number : Refusal → ℕ
@@ -13,6 +14,8 @@ refusal_number NotUtf8 = 2
 refusal_number NoSuchEntry = 3
 refusal_number NameTooLong = 4
 refusal_number BufferTooShort = 5
+-- document 02, A3
+refusal_number ControlByte = 6
 
 -- the number that a call answers, 0 if it is accepted
 abbrev pub answer_number : {A : Type 0} → Result A Refusal → ℕ
@@ -30,11 +33,20 @@ abbrev pub first_refusal : List Test → ℕ
 first_refusal [] = 0
 first_refusal (refusal when holds ∷ tests) = cond holds (refusal_number refusal) (first_refusal tests)
 
--- "Tests run in the order 1 to 5": the number of each is larger than that of the one before
+-- "Tests run in the order 1 to 5"; and 6 is "tested after 2 and before 3"
+abbrev pub test_order : List ℕ
+test_order = 1 ∷ 2 ∷ 6 ∷ 3 ∷ 4 ∷ 5 ∷ []
+
+-- the place of a refusal's number in that order, from 0
+unfoldable pub test_place : ℕ → ℕ
+test_place number = span (except number) test_order
+
+-- each test has its place behind that of the one before
 abbrev pub in_order : List Test → Bool
 in_order [] = true
 in_order (a ∷ []) = true
-in_order (refusal when holds ∷ next when too ∷ tests) = ltb (refusal_number refusal) (refusal_number next) && in_order (next when too ∷ tests)
+in_order (refusal when holds ∷ next when too ∷ tests) =
+    ltb (test_place (refusal_number refusal)) (test_place (refusal_number next)) && in_order (next when too ∷ tests)
 
 -- ---- the tests that every call makes first
 
@@ -50,11 +62,24 @@ is_too_long limit s = ltb limit (length s)
 abbrev pub is_not_utf8 : List ℕ → Bool
 is_not_utf8 s = not (utf8 s)
 
+-- "bytes 0x00 to 0x1F, except 0x09, 0x0A and 0x0D, and .. 0x7F"
+abbrev pub control : ℕ → Bool
+control b = (leb b 0x1F && not (one_of (0x09 ∷ 0x0A ∷ 0x0D ∷ []) b)) || eqb b 0x7F
+
+-- "a text holds such a byte"
+abbrev pub has_control : List ℕ → Bool
+has_control s = any control s
+
+-- ASCII, and no control byte
+abbrev pub ascii_text : ℕ → Bool
+ascii_text b = ascii b && not (control b)
+
 -- the tests of the texts that a call is given, one or several
 unfoldable pub text_tests : ℕ → List (List ℕ) → List Test
 text_tests limit texts =
     TextTooLong when any (is_too_long limit) texts
     ∷ NotUtf8 when any is_not_utf8 texts
+    ∷ ControlByte when any has_control texts
     ∷ []
 
 -- the number that a call answers if it is given one text and makes no other tests

@@ -1,21 +1,20 @@
-// The refusals of document 01, and the tests of a text for the first two of them.
+// The refusals, and the tests of a text, which are those that every call makes first.
 #![tactic(auto)]
 
 ghost use Rattle.std.specs.Prelude.{◌≡◌};
 ghost use Rattle.lists.specs.Bytes.{all};
-ghost use Rattle.lists.specs.Classes.{ascii};
 ghost use Rattle.admit.specs.Utf8.{utf8};
-ghost use Rattle.admit.specs.Refusals.{refusal_number, answer_number, text_limit, text_refusal};
+ghost use Rattle.admit.specs.Refusals.{refusal_number, answer_number, ascii_text, control, has_control, text_limit, text_refusal};
 
-use lists::{Ascii, all};
+use lists::{ByteClass, all};
 
 // The most bytes that a text may have.
 pub const TEXT_LIMIT: usize = 65536;
 
-// A text of at most this many bytes is tested for ASCII byte by byte first.
+// A text of at most this many bytes is tested byte by byte first.
 const SHORT_TEXT: usize = 12;
 
-// Why a call is held back (document 01, "Calls held back"), and its number.
+// Why a call is held back (document 01, "Calls held back", and document 02), and its number.
 #[derive(Clone, Copy, Debug, PartialEq, Eq)]
 pub enum Refusal {
     // over-long sheet
@@ -28,6 +27,8 @@ pub enum Refusal {
     NameTooLong = 4,
     // short bar
     BufferTooShort = 5,
+    // document 02, A3: a line printer's code on the sheet
+    ControlByte = 6,
 }
 
 // Its number, from which C learns of it.
@@ -39,31 +40,72 @@ impl From<Refusal> for u8 {
     }
 }
 
-// Whether every byte is ASCII. The fold has no early exit, so that the compiler can test many bytes at once.
-fn is_ascii(s: &[u8]) -> bool
-    ensures { result ≡ all ascii s.now }
+// Whether b is ASCII and no control byte. If 1 is added, 0x7F and the bytes above it are no positive signed numbers, so one
+// comparison shuts out these and what is below the space.
+fn is_ascii_text(b: u8) -> bool
+    ensures { result ≡ ascii_text b }
 {
-    s.iter().fold(true, |ok, b| ok & (*b < 0x80))
+    (0x20 < b.wrapping_add(1).cast_signed()) | (b == b'\t') | (b == b'\n') | (b == b'\r')
 }
 
-// Whether s is UTF-8. Most texts are ASCII, and one fast pass is enough for these.
+// Whether number 6 bars b.
+fn is_control(b: u8) -> bool
+    ensures { result ≡ control b }
+{
+    (b < 0x80) & !is_ascii_text(b)
+}
+
+#[derive(Clone, Copy)]
+struct AsciiText;
+
+impl ByteClass for AsciiText {
+    ghost contains = { λ _. ascii_text };
+
+    fn contains(self, b: u8) -> bool {
+        is_ascii_text(b)
+    }
+}
+
+// Whether every byte is ASCII and none a control byte. The fold has no early exit, so that the compiler can test many bytes at
+// once.
+fn all_ascii_text(s: &[u8]) -> bool
+    ensures { result ≡ all ascii_text s.now }
+{
+    s.iter().fold(true, |ok, b| ok & is_ascii_text(*b))
+}
+
+// Whether there is a control byte, in the same way.
+fn has_control(s: &[u8]) -> bool
+    ensures { result ≡ has_control s.now }
+{
+    s.iter().fold(false, |found, b| found | is_control(*b))
+}
+
+// Whether s is UTF-8.
 pub fn is_utf8(s: &[u8]) -> bool
     ensures { result ≡ utf8 s.now }
 {
-    is_ascii(s) || str::from_utf8(s).is_ok()
+    str::from_utf8(s).is_ok()
 }
 
-// The tests of one text, in their order: its length, and then its bytes.
+// The tests of one text, in their order: its length, and then its bytes. Most texts are ASCII, and one fast pass is enough for
+// these.
 pub fn admit(limit: usize, s: &[u8]) -> Result<(), Refusal>
     ensures { answer_number result ≡ text_refusal limit s.now }
 {
     if limit < s.len() {
         return Err(Refusal::TextTooLong);
     }
-    if is_utf8(s) {
+    if all_ascii_text(s) {
         return Ok(());
     }
-    Err(Refusal::NotUtf8)
+    if !is_utf8(s) {
+        return Err(Refusal::NotUtf8);
+    }
+    if has_control(s) {
+        return Err(Refusal::ControlByte);
+    }
+    Ok(())
 }
 
 // The tests of a text of any length.
@@ -79,7 +121,7 @@ pub fn admit_text(s: &[u8]) -> Result<(), Refusal>
     ensures { answer_number result ≡ text_refusal text_limit s.now }
 {
     if s.len() <= SHORT_TEXT {
-        if all(s, Ascii) {
+        if all(s, AsciiText) {
             return Ok(());
         }
         return admit_any(s);
