@@ -1,8 +1,8 @@
 -- Document 01, "Calls held back", and number 6 of document 02: the refusals, their numbers, the tests of a call, and what a
 -- refused call answers. Definitions only.
 use Rattle.std.specs.Prelude.{Bool, true, cond, not, ◌&&◌, ◌||◌, List, [], ◌∷◌, ℕ, zero, suc, leb, ltb, eqb, length, Result, Ok, Err}
-use Rattle.lists.specs.Bytes.{any, span}
-use Rattle.lists.specs.Classes.{ascii, except, one_of}
+use Rattle.lists.specs.Bytes.{any}
+use Rattle.lists.specs.Classes.{ascii, one_of}
 use Rattle.admit.specs.Utf8.{utf8}
 use Rattle.admit.specs.declared.Refusal.{Refusal}
 use Rattle.admit.specs.declared.Refusal.TheVariants.{TextTooLong, NotUtf8, NoSuchEntry, NameTooLong, BufferTooShort, ControlByte}
@@ -37,9 +37,14 @@ first_refusal (refusal when holds ∷ tests) = cond holds (refusal_number refusa
 abbrev pub test_order : List ℕ
 test_order = 1 ∷ 2 ∷ 6 ∷ 3 ∷ 4 ∷ 5 ∷ []
 
--- the place of a refusal's number in that order, from 0
-unfoldable pub test_place : ℕ → ℕ
-test_place number = span (except number) test_order
+-- the place of a number in a list, from 0
+abbrev pub place_in : List ℕ → ℕ → ℕ
+place_in [] number = 0
+place_in (n ∷ list) number = cond (eqb n number) 0 (suc (place_in list number))
+
+-- the place of a refusal's number in that order
+abbrev pub test_place : ℕ → ℕ
+test_place = place_in test_order
 
 -- each test has its place behind that of the one before
 abbrev pub in_order : List Test → Bool

@@ -2,20 +2,21 @@
 use mathlib.Core.Path.{◌≡◌, refl, sym, ap, ◌∙◌}
 use mathlib.Core.Bool.{Bool, true, false, cond, ◌&&◌, and-eq-true_iff}
 use mathlib.Core.List.{List, [], ◌∷◌, ◌++◌, flatten}
-use Prim.Native.Nat.{ℕ, ◌+◌}
+use Prim.Native.Nat.{ℕ, ◌+◌, ◌≤◌}
 use native.Mathlib.Omega.{arith}
 use lib.Dec.{eqb}
 use lib.ListN.{length, take, drop, get_or, length-append, take-append-drop}
 use borrow.Author.Tests.{not-false}
 use Rattle.lists.specs.Bytes.{all, span, take_while, drop_while, Every}
 use Rattle.lists.specs.Classes.{ascii, whitespace_bytes, prepunctuation_marks, postpunctuation_marks, whitespace, non_whitespace, prepunctuation_mark, postpunctuation_mark, non_postpunctuation}
-use Rattle.lists.proofs.Scan.{span_all, span_front, all_front, all_within, last_rest, one_of_all}
+use Rattle.lists.proofs.Bools.{or_false_both}
+use Rattle.lists.proofs.Scan.{span_all, span_front, all_front, all_within, any_append, last_rest, one_of_all}
 use Rattle.admit.specs.Utf8.{utf8}
-use Rattle.admit.specs.Refusals.{text_refusal}
+use Rattle.admit.specs.Refusals.{control, has_control, text_refusal}
 use Rattle.admit.proofs.Utf8.{utf8_run, utf8_all}
 use Rattle.admit.proofs.Utf8Parts.{utf8_append}
 use Rattle.admit.proofs.Calls.{text_valid, text_accepted}
-use Rattle.tokens.specs.Tokens.{Token, peel, name_size, cut, after_whitespace, after_run, first_token, tokens}
+use Rattle.tokens.specs.Tokens.{Token, peel, name_size, cut, after_whitespace, after_run, first_token, token_parts, tokens}
 use Rattle.tokens.proofs.Forward.{tokens_none, tokens_more, first_joined, tokens_induct}
 
 -- each part of a token has P
@@ -73,6 +74,24 @@ first_utf8 s h =
     let l = utf8_both run (after_run s) a (rw take-append-drop k.1) in
     (cut_utf8 (take_while whitespace s) run (eqb (length (after_run s)) 0) k.0 l.0, l.1)
 
+abbrev NoControl : List ℕ → Type 0
+NoControl s = has_control s ≡ false
+
+-- both parts of a text without control bytes are without them
+no_control_both : (x y : List ℕ) → NoControl (x ++ y) → NoControl x × NoControl y
+no_control_both x y h = or_false_both (has_control x) (has_control y) (sym (any_append control x y) ∙ h)
+
+first_no_control : (s : List ℕ) → NoControl s → Each NoControl (first_token s) × NoControl (after_run s)
+unfolding flatten
+first_no_control s h =
+    let t = first_token s in
+    let all_parts = no_control_both (flatten (token_parts t)) (after_run s) (ap has_control (first_joined s) ∙ h) in
+    let a = no_control_both t.whitespace (t.prepunctuation ++ (t.name ++ (t.punctuation ++ []))) all_parts.0 in
+    let b = no_control_both t.prepunctuation (t.name ++ (t.punctuation ++ [])) a.1 in
+    let c = no_control_both t.name (t.punctuation ++ []) b.1 in
+    let d = no_control_both t.punctuation [] c.1 in
+    (record { whitespace = a.0; prepunctuation = b.0; name = c.0; punctuation = d.0 }, all_parts.1)
+
 abbrev pub AcceptedText : ℕ → List ℕ → Type 0
 AcceptedText limit s = text_refusal limit s ≡ 0
 
@@ -83,15 +102,18 @@ first_accepted limit s h =
     let k = text_valid limit s h in
     let t = first_token s in
     let u = first_utf8 s k.valid_utf8 in
+    let v = first_no_control s k.no_control in
     let n : length t.whitespace + (length t.prepunctuation + (length t.name + (length t.punctuation + 0))) + length (after_run s) ≡ length s =
-    simp length-append at (ap length (first_joined s)) in (
+    simp length-append at (ap length (first_joined s)) in
+    let part : (x : List ℕ) → length x ≤ length s → IsUtf8 x → NoControl x → AcceptedText limit x =
+    λ x l u v. text_accepted limit x (record { within_limit = omega (arith, k.within_limit); valid_utf8 = u; no_control = v }) in (
       record {
-        whitespace = text_accepted limit t.whitespace (record { within_limit = omega (arith, k.within_limit); valid_utf8 = u.0.whitespace });
-        prepunctuation = text_accepted limit t.prepunctuation (record { within_limit = omega (arith, k.within_limit); valid_utf8 = u.0.prepunctuation });
-        name = text_accepted limit t.name (record { within_limit = omega (arith, k.within_limit); valid_utf8 = u.0.name });
-        punctuation = text_accepted limit t.punctuation (record { within_limit = omega (arith, k.within_limit); valid_utf8 = u.0.punctuation });
+        whitespace = part t.whitespace (omega arith) u.0.whitespace v.0.whitespace;
+        prepunctuation = part t.prepunctuation (omega arith) u.0.prepunctuation v.0.prepunctuation;
+        name = part t.name (omega arith) u.0.name v.0.name;
+        punctuation = part t.punctuation (omega arith) u.0.punctuation v.0.punctuation;
       },
-      text_accepted limit (after_run s) (record { within_limit = omega (arith, k.within_limit); valid_utf8 = u.1 }),
+      part (after_run s) (omega arith) u.1 v.1,
     )
 
 -- each part of each token of an accepted text is accepted
