@@ -4,10 +4,8 @@ use mathlib.Core.Path.{◌≡◌, refl, ap, ap₂}
 use mathlib.Core.Bool.{Bool, true, false}
 use mathlib.Core.List.{List, [], ◌∷◌, map}
 use Prim.Native.Nat.{ℕ, zero, suc}
-use native.Mathlib.Omega.{arith}
 use Rattle.lists.specs.Bytes.{Every}
 use Rattle.admit.specs.Refusals.{first_refusal, text_limit, text_refusal, Call, call}
-use Rattle.admit.proofs.Calls.{text_valid}
 use Rattle.tokens.specs.Tokens.{Token, tokens}
 use Rattle.tokens.proofs.Texts.{AcceptedText, Each, tokens_accepted}
 use Rattle.sentences.specs.Sentences.{sentence_starts_after, sentence_starts, is_set, fresh, kept, breaks}
@@ -15,7 +13,7 @@ use Rattle.sentences.specs.Calls.{step_tests, StepResult, step_call}
 use Rattle.sentences.specs.Steps.{step_of, fed, break_verdict, accepted_step, but_first}
 use Rattle.sentences.specs.declared.State.{State}
 use Rattle.sentences.proofs.Kept.{breaks_kept}
-use Rattle.sentences.proofs.StepTexts.{step_short}
+use Rattle.sentences.proofs.StepTexts.{step_texts}
 
 -- "its first step from a fresh state answers no break": whatever else the state holds, and if the step is refused too
 pub fresh_step : (s : State) (w n p : List ℕ) → is_set s.fresh ≡ true → (step_call s w n p).value.breaks ≡ false
@@ -40,10 +38,7 @@ step_accepted : (s : State) (t : Token) → Each (AcceptedText text_limit) t
     → step_of s t ≡ record { refusal = 0; value = record { breaks = breaks s t.whitespace t.name; state = kept t.name t.punctuation } }
 unfolding step_call
 step_accepted s t h =
-    let a = (text_valid text_limit t.whitespace h.whitespace).within_limit in
-    let b = (text_valid text_limit t.name h.name).within_limit in
-    let c = (text_valid text_limit t.punctuation h.punctuation).within_limit in
-    rw (step_short t.whitespace t.name t.punctuation (omega arith), h.whitespace, h.name, h.punctuation)
+    rw (step_texts t.whitespace t.name t.punctuation, h.whitespace, h.name, h.punctuation)
 
 fed_after : (t : Token) (us : List Token) → Every (Each (AcceptedText text_limit)) us
     → map break_verdict (fed (kept t.name t.punctuation) us) ≡ map accepted_step (sentence_starts_after t us)

@@ -1,5 +1,5 @@
 -- What the calls of the whole-text form and the step form answer. Definitions only.
-use Rattle.std.specs.Prelude.{Bool, false, List, [], ◌∷◌, ℕ, Result, Ok, Err}
+use Rattle.std.specs.Prelude.{Bool, false, List, [], ◌∷◌, ℕ, zero, suc, min, Result, Ok, Err}
 use Rattle.admit.specs.Refusals.{refusal_number, Test, first_refusal, text_limit, text_tests, Call, call}
 use Rattle.tokens.specs.Tokens.{tokens}
 use Rattle.sentences.specs.Sentences.{sentence_starts, flag, kept, breaks}
@@ -15,9 +15,15 @@ flags (b ∷ bs) = flag b ∷ flags bs
 abbrev pub start_bytes : List ℕ → List ℕ
 start_bytes s = flags (sentence_starts (tokens s))
 
--- "the whitespace, name and punctuation fed to it are texts under numbers 1 and 2"
+-- "the whitespace, name and punctuation fed to it are texts under numbers 1 and 2"; and under number 6, as every text
 abbrev pub step_tests : List ℕ → List ℕ → List ℕ → List Test
 step_tests whitespace name punctuation = text_tests text_limit (whitespace ∷ name ∷ punctuation ∷ [])
+
+-- the smaller number of two texts, of which one may be accepted or both
+abbrev pub smaller_refusal : ℕ → ℕ → ℕ
+smaller_refusal zero m = m
+smaller_refusal (suc n) zero = suc n
+smaller_refusal (suc n) (suc m) = min (suc n) (suc m)
 
 -- whether a sentence ends before the token, and the state after it
 pub record StepResult : Type 0 where

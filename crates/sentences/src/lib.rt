@@ -9,10 +9,10 @@ ghost use Rattle.admit.specs.Refusals.{first_refusal, answer_number};
 ghost use Rattle.tokens.specs.Tokens.{tokens};
 ghost use Rattle.tokens.specs.Table.{tokens_call, as_tokens};
 ghost use Rattle.sentences.specs.Sentences.{break_after, is_set, flag, fresh, head_of, kept, state_context};
-ghost use Rattle.sentences.specs.Calls.{start_bytes, step_tests, step_call, as_step};
+ghost use Rattle.sentences.specs.Calls.{start_bytes, smaller_refusal, step_tests, step_call, as_step};
 ghost use Rattle.sentences.specs.Left.{entry_of, entries_left, entries_after};
 
-use admit::{Refusal, TEXT_LIMIT, admit_text};
+use admit::{Refusal, admit_text};
 use lists::{Byte, byte_at, count, equal_lowered};
 use std::array;
 use tokens::{Tokens, has_more_tokens};
@@ -181,17 +181,24 @@ fn is_sentence_break(state: State, whitespace: &[u8], name: &[u8]) -> bool
     !state.looks_like_abbreviation()
 }
 
-// The tests of the three texts of a step, which `push` is given. Of several texts the first test in the order wins, so all
-// lengths are tested first.
+// What two texts are answered together, by what each is answered alone: of several texts the first test in the order wins,
+// whichever text earns it. The tests of a text are in the order of their numbers.
+fn first_refused(a: Result<(), Refusal>, b: Result<(), Refusal>) -> Result<(), Refusal>
+    ensures { answer_number result ≡ smaller_refusal (answer_number a) (answer_number b) }
+{
+    match (a, b) {
+        (Ok(()), _) => b,
+        (_, Ok(())) => a,
+        (Err(x), Err(y)) => { if u8::from(y) < u8::from(x) { b } else { a } }
+    }
+}
+
+// The tests of the three texts of a step, which `push` is given.
 fn admit_step(whitespace: &[u8], name: &[u8], punctuation: &[u8]) -> Result<(), Refusal>
     ensures { answer_number result ≡ first_refusal (step_tests whitespace.now name.now punctuation.now) }
 {
-    if TEXT_LIMIT < whitespace.len().max(name.len()).max(punctuation.len()) {
-        return Err(Refusal::TextTooLong);
-    }
-    admit_text(whitespace)?;
-    admit_text(name)?;
-    admit_text(punctuation)
+    let first_two = first_refused(admit_text(whitespace), admit_text(name));
+    first_refused(first_two, admit_text(punctuation))
 }
 
 // Whether a token starts a sentence, after the tokens that the state was fed.
