@@ -90,9 +90,12 @@ pub fn long(comparison: &mut Comparison) {
         }
     }
     comparison.begin("each byte in long texts");
-    for place in [0, TEXT_LIMIT / 2, TEXT_LIMIT - 1] {
-        for byte in 0..=255 {
-            comparison.one_call(&with_byte("a", TEXT_LIMIT, place, byte), 0, usize::from(byte) % howhakiru::VERDICTS.len());
+    for len in TEXT_LIMIT..=TEXT_LIMIT + 1 {
+        for place in [0, len / 2, len - 1] {
+            for byte in 0..=255 {
+                let verdict = usize::from(byte) % howhakiru::VERDICTS.len();
+                comparison.one_call(&with_byte("a", len, place, byte), 0, verdict);
+            }
         }
     }
 }
@@ -212,4 +215,3 @@ pub fn before_later_tests(comparison: &mut Comparison) {
         }
     }
 }
-
