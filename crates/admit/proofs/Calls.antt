@@ -1,11 +1,12 @@
 -- A refused call answers its number and nothing else, an accepted one its value. And laws of the tests of a call.
 -- Assumes nothing.
 use mathlib.Core.Path.{◌≡◌, refl, sym, ap, ◌∙◌}
-use mathlib.Core.Bool.{true, false, not, or-false, and-eq-true_iff}
+use mathlib.Core.Bool.{true, false, cond, not, or-false, and-eq-true_iff}
 use mathlib.Core.List.{List, [], ◌∷◌, ◌++◌}
 use Rattle.std.specs.Prelude.{Result, Ok, Err, IsErrAnd}
 use Prim.Native.Nat.{ℕ, zero, suc, ◌≤◌}
 use native.Mathlib.Omega.{arith}
+use lib.Dec.{eqb}
 use lib.ListN.{length}
 use borrow.Author.Tests.{ltb-false, le-ltb, not-false}
 use Rattle.lists.specs.Bytes.{all, any, Every}
@@ -26,6 +27,23 @@ numbered NoSuchEntry e = absurd (omega arith)
 numbered NameTooLong e = absurd (omega arith)
 numbered BufferTooShort e = absurd (omega arith)
 numbered ControlByte e = absurd (omega arith)
+
+-- two refusals with one number are the same
+pub numbers_apart : (r q : Refusal) → refusal_number r ≡ refusal_number q → r ≡ q
+numbers_apart r q e = sym (refusal_of_number r) ∙ ap refusal_of e ∙ refusal_of_number q
+  where
+    refusal_of : ℕ → Refusal
+    refusal_of n =
+        cond (eqb n 1) TextTooLong
+        (cond (eqb n 2) NotUtf8 (cond (eqb n 3) NoSuchEntry (cond (eqb n 4) NameTooLong (cond (eqb n 5) BufferTooShort ControlByte))))
+
+    refusal_of_number : (r : Refusal) → refusal_of (refusal_number r) ≡ r
+    refusal_of_number TextTooLong = refl
+    refusal_of_number NotUtf8 = refl
+    refusal_of_number NoSuchEntry = refl
+    refusal_of_number NameTooLong = refl
+    refusal_of_number BufferTooShort = refl
+    refusal_of_number ControlByte = refl
 
 refused_same : {A : Type 0} (nothing given : A) (n : ℕ) → (n ≡ 0 → ⊥) → record { refusal = n; value = nothing } ≡ call nothing n given
 refused_same nothing given zero h = absurd (h refl)

@@ -1,15 +1,15 @@
 -- A sheet of n bytes has a call sheet of at most 11 * (n + 1) bytes, and what follows from that for short sheets.
 -- Assumes nothing.
 use mathlib.Core.Path.{◌≡◌, refl, sym, ap, ◌∙◌}
-use mathlib.Core.Bool.{Bool, true, false, cond, not, ◌||◌, and-eq-true_iff}
-use mathlib.Core.Logic.{⊎_elim}
+use mathlib.Core.Bool.{Bool, true, false, cond, ◌||◌, and-eq-true_iff}
+use mathlib.Core.Logic.{inl, inr, ⊎_elim}
 use mathlib.Core.List.{List, [], ◌∷◌, ◌++◌, map, flatten}
 use Prim.Native.Nat.{ℕ, ◌+◌, ◌-◌, ◌*◌, ◌/◌, ◌≤◌, ◌<◌}
 use Prim.Native.Char.{code}
 use native.Mathlib.Nat.{add-zero}
 use native.Mathlib.Omega.{arith}
 use lib.Dec.{ltb, eqb}
-use Rattle.std.specs.Prelude.{Result, Err}
+use Rattle.std.specs.Prelude.{◌⊎◌, Result, Err}
 use lib.ListN.{length, take, drop, get_or, length-append, length-take, length-drop, length-map}
 use lib.Seq.{get_or-drop}
 use borrow.Author.Tests.{not-false, le-ltb, ltb-true}
@@ -18,11 +18,10 @@ use Rattle.lists.specs.Classes.{digit, whitespace, non_whitespace, except}
 use Rattle.lists.proofs.Recursion.{recur_induct, cond_elim}
 use Rattle.lists.proofs.Scan.{filter_if_le, span_some, span_fails}
 use Rattle.lists.proofs.Sets.{le_or_lt}
-use Rattle.admit.specs.Utf8.{utf8}
-use Rattle.admit.specs.Refusals.{refusal_number, first_refusal, text_limit, text_tests, Call}
+use Rattle.admit.specs.Refusals.{refusal_number, first_refusal, text_limit, text_tests, is_not_utf8, has_control, Call}
 use Rattle.admit.specs.declared.Refusal.{Refusal}
-use Rattle.admit.specs.declared.Refusal.TheVariants.{TextTooLong, NotUtf8, NoSuchEntry, NameTooLong, BufferTooShort}
-use Rattle.admit.proofs.Calls.{call_number}
+use Rattle.admit.specs.declared.Refusal.TheVariants.{NotUtf8, ControlByte}
+use Rattle.admit.proofs.Calls.{call_number, numbered, numbers_apart}
 use Rattle.vocabulary.proofs.Laws.{word_short}
 use Rattle.units.specs.Units.{unit_abbreviations, abbreviations, unit_words, index_of, unit_index, unit_word, word_numbers}
 use Rattle.units.proofs.Laws.{unit_word_number, miss_word}
@@ -203,31 +202,26 @@ names_not_long [] ts h = refl
 names_not_long (b ∷ bs) [] h = refl
 names_not_long (b ∷ bs) (t ∷ ts) h = rw (le-ltb name_limit (length t.name) (omega arith), names_not_long bs ts (omega arith))
 
--- a sheet of n bytes that is no longer than a name may be, in a buffer of at least 11 * (n + 1) bytes: it is refused only if it
--- isn't UTF-8
-pub only_not_utf8 : (s old new : List ℕ) {r : Result CalledSheet Refusal} → as_sheet r new ≡ sheet_call s old → length s ≤ name_limit
-    → 11 * (length s + 1) ≤ length old → {e : Refusal} → r ≡ Err e → e ≡ NotUtf8
+-- a sheet of n bytes that is no longer than a name may be, in a buffer of at least 11 * (n + 1) bytes: it is refused only for its
+-- bytes
+pub only_bytes : (s old new : List ℕ) {r : Result CalledSheet Refusal} → as_sheet r new ≡ sheet_call s old → length s ≤ name_limit
+    → 11 * (length s + 1) ≤ length old → {e : Refusal} → r ≡ Err e → (e ≡ NotUtf8) ⊎ (e ≡ ControlByte)
 unfolding sheet_call text_tests any
-only_not_utf8 s old new {r} c h k {e} q =
+only_bytes s old new {r} c h k {e} q =
     let refusal_eq : refusal_number e ≡ first_refusal (sheet_tests s (ltb (length old) (length (call_sheet s)))) =
     ap (λ (x : Call SheetResult). x.refusal) (rw q at c) ∙ call_number _ _ _ in
-    go e (utf8 s)
+    go e (is_not_utf8 s) (has_control s)
     (rw (
       le-ltb text_limit (length s) (omega arith),
       names_not_long (sentence_starts (tokens s)) (tokens s) (omega (arith, (names_room s).0)),
       le-ltb (length old) (length (call_sheet s)) (omega (arith, sheet_room s)),
     ) at refusal_eq)
   where
-    go : (e : Refusal) (u : Bool) → refusal_number e ≡ cond (not u || false) 2 0 → e ≡ NotUtf8
-    go NotUtf8 u q = refl
-    go TextTooLong true q = absurd (omega arith)
-    go TextTooLong false q = absurd (omega arith)
-    go NoSuchEntry true q = absurd (omega arith)
-    go NoSuchEntry false q = absurd (omega arith)
-    go NameTooLong true q = absurd (omega arith)
-    go NameTooLong false q = absurd (omega arith)
-    go BufferTooShort true q = absurd (omega arith)
-    go BufferTooShort false q = absurd (omega arith)
+    go : (e : Refusal) (broken control : Bool) → refusal_number e ≡ cond (broken || false) 2 (cond (control || false) 6 0)
+        → (e ≡ NotUtf8) ⊎ (e ≡ ControlByte)
+    go e true b q = inl (numbers_apart e NotUtf8 q)
+    go e false true q = inr (numbers_apart e ControlByte q)
+    go e false false q = absurd (numbered e q)
 
 -- if the room passes the test that the code makes first, it is large enough
 pub room_suffices : (n m room : ℕ) → n ≤ 11 * (m + 1) → m < room / 11 → false ≡ ltb room n

@@ -13,7 +13,7 @@ use Rattle.lists.specs.Bytes.{overwrite}
 use Rattle.lists.proofs.Sets.{overwrite_past}
 use Rattle.admit.specs.Refusals.{refusal_number, first_refusal, Call, call}
 use Rattle.admit.specs.declared.Refusal.{Refusal}
-use Rattle.admit.specs.declared.Refusal.TheVariants.{TextTooLong, NotUtf8, NoSuchEntry, NameTooLong, BufferTooShort}
+use Rattle.admit.proofs.Calls.{numbered}
 use Rattle.call_spec.specs.Sheet.{call_sheet}
 use Rattle.call_spec.specs.Calls.{sheet_tests, SheetResult, sheet_call}
 use Rattle.calls.specs.Answers.{as_sheet}
@@ -26,13 +26,6 @@ abbrev pub written : Result CalledSheet Refusal → List ℕ → List ℕ
 written (Ok called) buffer = take called.bytes buffer
 written (Err refusal) buffer = refused_line (refusal_number refusal)
 
-numbered : (r : Refusal) → 0 ≡ refusal_number r → ⊥
-numbered TextTooLong e = omega (arith, e)
-numbered NotUtf8 e = omega (arith, e)
-numbered NoSuchEntry e = omega (arith, e)
-numbered NameTooLong e = omega (arith, e)
-numbered BufferTooShort e = omega (arith, e)
-
 -- n is the number of the call, and `lines` what an accepted call puts at the front of the buffer
 written_with : (lines old new : List ℕ) (nothing given : SheetResult) (r : Result CalledSheet Refusal) (n : ℕ)
     → length lines ≡ given.bytes → overwrite lines old ≡ given.buffer → as_sheet r new ≡ call nothing n given → written r new ≡ reply_with n lines
@@ -42,7 +35,7 @@ written_with lines old new nothing given (Ok called) zero size buffer e =
     ∙ ap (take (length lines)) (sym buffer)
     ∙ (overwrite_past lines old).0
 written_with lines old new nothing given (Ok called) (suc n) size buffer e = absurd (omega (arith, ap (λ (x : Call SheetResult). x.refusal) e))
-written_with lines old new nothing given (Err refusal) zero size buffer e = absurd (numbered refusal (sym (ap (λ (x : Call SheetResult). x.refusal) e)))
+written_with lines old new nothing given (Err refusal) zero size buffer e = absurd (numbered refusal (ap (λ (x : Call SheetResult). x.refusal) e))
 written_with lines old new nothing given (Err refusal) (suc n) size buffer e = ap refused_line (ap (λ (x : Call SheetResult). x.refusal) e)
 
 -- what is written after the call of a sheet is the reply, if the buffer has room for the call sheet

@@ -4,7 +4,7 @@
 ghost use Rattle.std.specs.Prelude.{◌≡◌, ◌⊎◌, ◌+◌, ◌*◌, ◌≤◌, List, ℕ, length, take, OnOk};
 ghost use Rattle.std.specs.Io.KnownBytes.{Appends, Consumes, IsAtEnd};
 ghost use Rattle.admit.specs.Refusals.{refusal_number};
-ghost use Rattle.admit.specs.declared.Refusal.TheVariants.{NotUtf8};
+ghost use Rattle.admit.specs.declared.Refusal.TheVariants.{NotUtf8, ControlByte};
 ghost use Rattle.callsheet.specs.Reply.{sheet_limit, ReadsSheet, refused_line, reply};
 
 use admit::Refusal;
@@ -13,9 +13,10 @@ use lists::front;
 use std::io;
 use std::io::{Read, Write};
 
-// Only a sheet that isn't UTF-8 is refused: the sheets read here are too short for numbers 1 and 4, and the buffer has room.
+// Only a sheet that isn't UTF-8 or has a control byte is refused: the sheets read here are too short for numbers 1 and 4, and the
+// buffer has room.
 fn write_refusal<W: Write>(output: &mut W, refusal: Refusal) -> io::Result<()>
-    requires { refusal ≡ NotUtf8 }
+    requires { (refusal ≡ NotUtf8) ⊎ (refusal ≡ ControlByte) }
     ensures { OnOk result (Appends (W.contents output.old) (W.contents output.new) (refused_line (refusal_number refusal))) }
 {
     let number = u8::from(refusal);

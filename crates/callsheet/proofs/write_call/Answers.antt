@@ -1,13 +1,13 @@
--- The sheet is short and the buffer has room, so only a sheet that is not UTF-8 is refused, and what is written is the reply.
+-- The sheet is short and the buffer has room, so a sheet is refused only for its bytes, and what is written is the reply.
 use Rattle.std.proofs.Common.{OnOk, subst, sym, ap, ◌∙◌}
 use Rattle.std.specs.Io.KnownBytes.{Appends}
-use Rattle.calls.proofs.Room.{only_not_utf8}
+use Rattle.calls.proofs.Room.{only_bytes}
 use Rattle.callsheet.proofs.Reply.{written, written_reply}
 use Rattle.callsheet.proofs.write_call.Goals as goal
 
 pub write_refusal-requires : goal.write_refusal-requires
 write_refusal-requires g c =
-    only_not_utf8 c.args.sheet.now c.args.out.now _ c.call_sheet.ensures c.requires.0 c.requires.1 c.in-Err.is
+    only_bytes c.args.sheet.now c.args.out.now _ c.call_sheet.ensures c.requires.0 c.requires.1 c.in-Err.is
 
 pub returns-in-Ok : goal.returns-in-Ok
 returns-in-Ok g c =
