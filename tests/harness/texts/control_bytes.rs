@@ -74,8 +74,8 @@ pub fn long(comparison: &mut Comparison) {
     let mut call = 0;
     for filler in FILLERS {
         for len in TEXT_LIMIT - 1..=TEXT_LIMIT + 1 {
-            let places = [0, 1, 31, 32, 63, 64, len / 2 - 1, len / 2, len - 65, len - 64, len - 33, len - 32, len - 2, len - 1];
-            for place in places {
+            let (front, back) = ([0, 1, 31, 32, 63, 64], [65, 64, 33, 32, 2, 1].map(|behind| len - behind));
+            for place in front.into_iter().chain([len / 2 - 1, len / 2]).chain(back) {
                 for byte in CONTROL_BYTES {
                     comparison.one_call(&with_byte(filler, len, place, *byte), call % 64, call % CALLS);
                     call += 1;
@@ -115,7 +115,8 @@ fn filled(filler: &str, len: usize) -> Vec<u8> {
 /// What is no UTF-8: lone, cut and overlong, and a surrogate.
 #[rustfmt::skip]
 const BROKEN: &[&[u8]] = &[
-    b"\xff", b"\xc3", b"\xe2\x82", b"\xf0\x90\x8d", b"\x80", b"\xc0\x80", b"\xe0\x80\x80", b"\xed\xa0\x80", b"\xf4\x90\x80\x80",
+    b"\xff", b"\xc3", b"\xe2\x82", b"\xf0\x90\x8d", b"\x80", b"\xc0\x80", b"\xe0\x80\x80", b"\xed\xa0\x80",
+    b"\xf4\x90\x80\x80",
 ];
 
 /// Broken UTF-8 before and behind a control byte, near and far: it is tested first, and the length before it.
@@ -150,7 +151,7 @@ const CHARACTERS: &[char] = &[
     '\u{1007f}', '\u{e0001}', '\u{e007f}', '\u{10ffff}',
 ];
 
-/// U+0080 to U+009F and the characters above are accepted, alone, in each kind, and many of them; beside a control byte they are not.
+/// U+0080 to U+009F and the characters above are accepted: alone, in each kind, and many of them. A control byte beside one is not.
 pub fn other_controls(comparison: &mut Comparison) {
     comparison.begin("characters that are no control bytes");
     for character in ('\u{80}'..='\u{9f}').chain(CHARACTERS.iter().copied()) {
