@@ -67,8 +67,8 @@ pub fn beside_each_other(comparison: &mut Comparison) {
 /// What a long text is filled with.
 const FILLERS: &[&str] = &["a", "5 ", "é"];
 
-/// A control byte near the ends and the middle of texts at the limit, which is refused, and of longer ones, of which the length is
-/// refused. All other bytes there too, in the verdicts.
+/// A control byte near the ends and the middle of texts at the limit, which is refused, and of longer ones, of which the length
+/// is refused. All other bytes there too, in the verdicts.
 pub fn long(comparison: &mut Comparison) {
     comparison.begin("control bytes in long texts, one call each");
     let mut call = 0;
@@ -151,7 +151,7 @@ const CHARACTERS: &[char] = &[
     '\u{1007f}', '\u{e0001}', '\u{e007f}', '\u{10ffff}',
 ];
 
-/// U+0080 to U+009F and the characters above are accepted: alone, in each kind, and many of them. A control byte beside one is not.
+/// U+0080 to U+009F and the characters above are accepted: alone, in each kind, and many of them. Beside a control byte none is.
 pub fn other_controls(comparison: &mut Comparison) {
     comparison.begin("characters that are no control bytes");
     for character in ('\u{80}'..='\u{9f}').chain(CHARACTERS.iter().copied()) {
