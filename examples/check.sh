@@ -26,7 +26,7 @@ sheet=target/examples/sheet.txt
 too_long=$(printf '%065537d' 0)
 says 'refused: the text is too long' "$take_apart" "$too_long"
 
-# Sheets from files: one to call and to take apart, one over the limit, one cut inside a character.
+# Sheets from files: one to call and to take apart, one over the limit, one cut inside a character, one with a printer's code.
 printf 'Bar 12 at 9:30. Rack 5mm (21st)\n' >"$sheet"
 says '^  + |Rack|$' "$take_apart" --sheet "$sheet"
 says '^   5 - five millimeters$' "$voice_unit" "$sheet" 5
@@ -37,6 +37,9 @@ says '^refused: the sheet is too long$' "$voice_unit" "$sheet"
 printf 'caf\303' >"$sheet"
 says 'refused: the text is not UTF-8' "$take_apart" --sheet "$sheet"
 says '^refused: the sheet is not UTF-8$' "$voice_unit" "$sheet"
+printf 'Bar 12\033 at 9:30.' >"$sheet"
+says 'refused: the text holds a control byte' "$take_apart" --sheet "$sheet"
+says '^refused: the sheet holds a control byte$' "$voice_unit" "$sheet"
 
 # A name that is too long holds back its own entry, and no other.
 printf 'a %04097d 5mm' 0 >"$sheet"

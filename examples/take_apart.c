@@ -73,6 +73,7 @@ static void print_refusal(uint8_t refusal)
     switch (refusal) {
     case HWK_TEXT_TOO_LONG: words = "the text is too long"; break;
     case HWK_NOT_UTF8: words = "the text is not UTF-8"; break;
+    case HWK_CONTROL_BYTE: words = "the text holds a control byte"; break;
     case HWK_BUFFER_TOO_SHORT: words = "the buffers are too short for the result"; break;
     }
     printf("  refused: %s\n", words);

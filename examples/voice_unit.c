@@ -22,6 +22,7 @@ static const char *reason(uint8_t refusal)
     switch (refusal) {
     case HWK_TEXT_TOO_LONG: return "the sheet is too long";
     case HWK_NOT_UTF8: return "the sheet is not UTF-8";
+    case HWK_CONTROL_BYTE: return "the sheet holds a control byte";
     case HWK_NO_SUCH_ENTRY: return "there is no entry of this number";
     case HWK_NAME_TOO_LONG: return "the entry's name is too long to be called";
     case HWK_BUFFER_TOO_SHORT: return "the line does not fit";

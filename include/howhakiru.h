@@ -30,15 +30,16 @@
  *
  * What holds for every call
  * -------------------------
- * A text is a pointer and a length in bytes. It needs no final NUL, and may hold NULs. Length 0 is the empty text, a text
- * like any other; its pointer may be NULL. A buffer is lent the same way, so a buffer of length 0 may be NULL too. A lent
- * buffer must overlap neither another buffer nor a text; texts may overlap. A call reads what it is lent, and writes only the
- * buffers that it says it writes. It keeps nothing once it has returned and has no state of its own: calls may run on several
- * threads at once. Digits, letters and cases are ASCII's.
+ * A text is a pointer and a length in bytes. It needs no final NUL, and a NUL in it is a control byte: a text with one is
+ * refused. Length 0 is the empty text, a text like any other; its pointer may be NULL. A buffer is lent the same way, so a buffer
+ * of length 0 may be NULL too. A lent buffer must overlap neither another buffer nor a text; texts may overlap. A call reads what
+ * it is lent, and writes only the buffers that it says it writes. It keeps nothing once it has returned and has no state of its
+ * own: calls may run on several threads at once. Digits, letters and cases are ASCII's.
  *
  * Every call is total: whatever the bytes and the lengths are, it answers a complete result or one refusal. At each call
- * stands "Tests:" with the refusals that it may answer, in the order in which it tests for them. It answers the first one
- * whose condition holds, so a text that is both too long and not UTF-8 gives HWK_TEXT_TOO_LONG. A refused call answers its
+ * stands "Tests:" with the refusals that it may answer, in the order in which it tests for them, which is not that of their
+ * numbers. It answers the first one whose condition holds, so a text that is both too long and not UTF-8 gives
+ * HWK_TEXT_TOO_LONG, and a sheet with a control byte HWK_CONTROL_BYTE, whichever entry is called. A refused call answers its
  * number with every other field 0 (hwk_push: with the state that it was given), and leaves every lent buffer as it was. In an
  * accepted call the bytes of a buffer past the result stay as they were.
  *
@@ -75,11 +76,12 @@ extern "C" {
 #define HWK_NO_SUCH_ENTRY 3    /* hwk_call_entry: the entry's number is not below the count of entries */
 #define HWK_NAME_TOO_LONG 4    /* hwk_call_entry, hwk_call_sheet: an entry to be called has a name of more than HWK_NAME_LIMIT bytes */
 #define HWK_BUFFER_TOO_SHORT 5 /* a lent buffer is smaller than the whole result */
+#define HWK_CONTROL_BYTE 6     /* a text holds a byte 0x00 to 0x1F other than tab, LF and CR (0x09, 0x0A, 0x0D), or 0x7F */
 
 /* Shape verdicts
  * --------------
  * Does the whole text have the shape? Each of these calls reads `s`, `s_len` bytes, and writes nothing.
- * Tests of each: HWK_TEXT_TOO_LONG, HWK_NOT_UTF8. */
+ * Tests of each: HWK_TEXT_TOO_LONG, HWK_NOT_UTF8, HWK_CONTROL_BYTE. */
 typedef struct hwk_verdict {
     uint8_t refusal; /* HWK_ACCEPTED or the refusal's number */
     uint8_t yes;     /* 1 yes, 0 no; 0 if the call is refused */
@@ -140,7 +142,7 @@ hwk_verdict hwk_is_digits_dash_digits(const uint8_t *s, size_t s_len);
 
 /* The parts of a time with a meridiem: each starts at the byte `_at` of the text and has `_len` bytes. */
 typedef struct hwk_time {
-    uint8_t refusal; /* HWK_ACCEPTED, HWK_TEXT_TOO_LONG or HWK_NOT_UTF8 */
+    uint8_t refusal; /* HWK_ACCEPTED, HWK_TEXT_TOO_LONG, HWK_NOT_UTF8 or HWK_CONTROL_BYTE */
     uint8_t yes;     /* 1 if the text is such a time; else every field below is 0 */
     size_t hour_at, hour_len;         /* 1 or 2 digits */
     size_t minute_at, minute_len;     /* 2 digits, the first at most 5 */
@@ -148,12 +150,12 @@ typedef struct hwk_time {
 } hwk_time;
 
 /* "9:30am", "9.30PM": the hour, the first colon or point, the minute, and am or pm in any case. Writes nothing.
- * Tests: HWK_TEXT_TOO_LONG, HWK_NOT_UTF8. */
+ * Tests: HWK_TEXT_TOO_LONG, HWK_NOT_UTF8, HWK_CONTROL_BYTE. */
 hwk_time hwk_split_time_meridiem(const uint8_t *s, size_t s_len);
 
 /* A part of the text: it starts at the byte `offset` and has `len` bytes. */
 typedef struct hwk_part {
-    uint8_t refusal; /* HWK_ACCEPTED, HWK_TEXT_TOO_LONG or HWK_NOT_UTF8 */
+    uint8_t refusal; /* HWK_ACCEPTED, HWK_TEXT_TOO_LONG, HWK_NOT_UTF8 or HWK_CONTROL_BYTE */
     uint8_t yes;     /* 1 if there is such a part; else offset and len are 0 */
     size_t offset;
     size_t len;
@@ -162,20 +164,20 @@ typedef struct hwk_part {
 /* "5kg": digits and commas, and after the last digit one of the 22 unit abbreviations. Case counts:
  *   LB LBS lb lbs   ft FT   kg   km   cm   mm   ml   oz   hz Hz HZ   KHz   MHz   GHz   KB   GB   MB   TB
  * The part is the abbreviation; the number is the bytes before it. Writes nothing.
- * Tests: HWK_TEXT_TOO_LONG, HWK_NOT_UTF8. */
+ * Tests: HWK_TEXT_TOO_LONG, HWK_NOT_UTF8, HWK_CONTROL_BYTE. */
 hwk_part hwk_split_unit(const uint8_t *s, size_t s_len);
 
 /* A word in a lent store. */
 typedef struct hwk_word {
-    uint8_t refusal; /* HWK_ACCEPTED, HWK_TEXT_TOO_LONG, HWK_NOT_UTF8 or HWK_BUFFER_TOO_SHORT */
+    uint8_t refusal; /* HWK_ACCEPTED, HWK_TEXT_TOO_LONG, HWK_NOT_UTF8, HWK_CONTROL_BYTE or HWK_BUFFER_TOO_SHORT */
     uint8_t yes;     /* 1 if there is a word; else len is 0 */
     size_t len;      /* the bytes written to the front of the store */
 } hwk_word;
 
 /* The word of a unit abbreviation, as "kilograms" of "kg". If the text is one of the 22 abbreviations, the call writes the word
  * to the front of `store`, without a NUL, and answers yes. If it is none, the call answers no and writes nothing.
- * Tests: HWK_TEXT_TOO_LONG, HWK_NOT_UTF8, HWK_BUFFER_TOO_SHORT if there is a word and `store_len` is less than its length.
- * HWK_UNIT_WORD_MOST always suffices. */
+ * Tests: HWK_TEXT_TOO_LONG, HWK_NOT_UTF8, HWK_CONTROL_BYTE, HWK_BUFFER_TOO_SHORT if there is a word and `store_len` is less than
+ * its length. HWK_UNIT_WORD_MOST always suffices. */
 hwk_word hwk_unit_word(const uint8_t *unit, size_t unit_len, uint8_t *store, size_t store_len);
 
 /* Number words
@@ -185,13 +187,13 @@ hwk_word hwk_unit_word(const uint8_t *unit, size_t unit_len, uint8_t *store, siz
  * where the word starts in the store, then how many bytes it has, each number in four bytes, the lowest first. Read it with
  * hwk_word_at and hwk_word_len below.
  *
- * Tests of each: HWK_TEXT_TOO_LONG, HWK_NOT_UTF8, HWK_BUFFER_TOO_SHORT if the store is shorter than all words together or
- * the table is shorter than 8 bytes for each word. A refused call touches neither buffer. A reading without words fits empty
- * buffers. The answer does not say how much room is missing: lend what always suffices, by the macros below.
+ * Tests of each: HWK_TEXT_TOO_LONG, HWK_NOT_UTF8, HWK_CONTROL_BYTE, HWK_BUFFER_TOO_SHORT if the store is shorter than all words
+ * together or the table is shorter than 8 bytes for each word. A refused call touches neither buffer. A reading without words
+ * fits empty buffers. The answer does not say how much room is missing: lend what always suffices, by the macros below.
  *
  * These calls demand no shape: they read any text, and each says below what it leaves out. */
 typedef struct hwk_words {
-    uint8_t refusal; /* HWK_ACCEPTED, HWK_TEXT_TOO_LONG, HWK_NOT_UTF8 or HWK_BUFFER_TOO_SHORT */
+    uint8_t refusal; /* HWK_ACCEPTED, HWK_TEXT_TOO_LONG, HWK_NOT_UTF8, HWK_CONTROL_BYTE or HWK_BUFFER_TOO_SHORT */
     size_t words;    /* how many words there are: 8 bytes each at the front of the table */
     size_t bytes;    /* how many bytes all words have, at the front of the store */
 } hwk_words;
@@ -246,14 +248,14 @@ hwk_words hwk_letters(const uint8_t *s, size_t s_len, uint8_t *store, size_t sto
 
 /* A value; there is no buffer. */
 typedef struct hwk_number {
-    uint8_t refusal; /* HWK_ACCEPTED, HWK_TEXT_TOO_LONG or HWK_NOT_UTF8 */
+    uint8_t refusal; /* HWK_ACCEPTED, HWK_TEXT_TOO_LONG, HWK_NOT_UTF8 or HWK_CONTROL_BYTE */
     uint32_t value;
 } hwk_number;
 
 /* The value of a roman numeral of I, V, X, L, C, D and M in any case. A letter that has a larger one anywhere after it is
  * subtracted: "XIV" is 14, "IIX" is 8, "IXC" is 89. The value is 0 if the sum is below 0 ("IIIIIIV"), if the text has any
  * other character, and if it is empty. Whether a numeral is well formed is not tested.
- * Tests: HWK_TEXT_TOO_LONG, HWK_NOT_UTF8. */
+ * Tests: HWK_TEXT_TOO_LONG, HWK_NOT_UTF8, HWK_CONTROL_BYTE. */
 hwk_number hwk_roman_value(const uint8_t *s, size_t s_len);
 
 /* Tokens
@@ -281,7 +283,7 @@ hwk_number hwk_roman_value(const uint8_t *s, size_t s_len);
 #define HWK_PUNCTUATION 3
 
 typedef struct hwk_tokens {
-    uint8_t refusal; /* HWK_ACCEPTED, HWK_TEXT_TOO_LONG, HWK_NOT_UTF8 or HWK_BUFFER_TOO_SHORT */
+    uint8_t refusal; /* HWK_ACCEPTED, HWK_TEXT_TOO_LONG, HWK_NOT_UTF8, HWK_CONTROL_BYTE or HWK_BUFFER_TOO_SHORT */
     size_t tokens;   /* how many tokens the text has */
 } hwk_tokens;
 
@@ -303,7 +305,8 @@ static inline size_t hwk_token_len(const uint8_t *table, size_t i, size_t part)
 
 /* Writes a record for each token of `s`, in the order of the text, to the front of `table`. A text without tokens, the empty one
  * among them, fits an empty table.
- * Tests: HWK_TEXT_TOO_LONG, HWK_NOT_UTF8, HWK_BUFFER_TOO_SHORT if the table is shorter than HWK_TOKEN_BYTES for each token. */
+ * Tests: HWK_TEXT_TOO_LONG, HWK_NOT_UTF8, HWK_CONTROL_BYTE, HWK_BUFFER_TOO_SHORT if the table is shorter than HWK_TOKEN_BYTES for
+ * each token. */
 hwk_tokens hwk_tokenize(const uint8_t *s, size_t s_len, uint8_t *table, size_t table_len);
 
 /* Sentences
@@ -323,7 +326,8 @@ hwk_tokens hwk_tokenize(const uint8_t *s, size_t s_len, uint8_t *table, size_t t
  *
  * Writes one byte for each token of `s` to the front of `starts`: 1 if the token starts a sentence, else 0. The first token
  * starts one.
- * Tests: HWK_TEXT_TOO_LONG, HWK_NOT_UTF8, HWK_BUFFER_TOO_SHORT if `starts` has fewer bytes than there are tokens. */
+ * Tests: HWK_TEXT_TOO_LONG, HWK_NOT_UTF8, HWK_CONTROL_BYTE, HWK_BUFFER_TOO_SHORT if `starts` has fewer bytes than there are
+ * tokens. */
 hwk_tokens hwk_sentences(const uint8_t *s, size_t s_len, uint8_t *starts, size_t starts_len);
 
 /* The step form decides the same for a caller who has one token at a time. Its state is what it keeps of the last token; the
@@ -344,7 +348,7 @@ typedef struct hwk_state {
 hwk_state hwk_fresh(void);
 
 typedef struct hwk_step {
-    uint8_t refusal; /* HWK_ACCEPTED, HWK_TEXT_TOO_LONG or HWK_NOT_UTF8 */
+    uint8_t refusal; /* HWK_ACCEPTED, HWK_TEXT_TOO_LONG, HWK_NOT_UTF8 or HWK_CONTROL_BYTE */
     uint8_t breaks;  /* 1 if a sentence ends before this token, else 0; 0 too if the state was fresh */
     hwk_state state; /* the state for the next step; if the step is refused, the one that it was given */
 } hwk_step;
@@ -352,7 +356,8 @@ typedef struct hwk_step {
 /* Takes the next token, as three texts; its prepunctuation does not matter. Writes nothing. Fed the tokens of a text in turn,
  * from hwk_fresh on, the steps break before those tokens that hwk_sentences marks with 1, the first one left out. The texts may
  * be any others, too.
- * Tests: HWK_TEXT_TOO_LONG if any of the three is too long, HWK_NOT_UTF8 if any of the three is not UTF-8. */
+ * Tests: HWK_TEXT_TOO_LONG if any of the three is too long, HWK_NOT_UTF8 if any of the three is not UTF-8, HWK_CONTROL_BYTE if
+ * any of the three holds a control byte. */
 hwk_step hwk_push(hwk_state state, const uint8_t *whitespace, size_t whitespace_len, const uint8_t *name, size_t name_len,
                   const uint8_t *punctuation, size_t punctuation_len);
 
@@ -419,8 +424,8 @@ typedef struct hwk_entry {
 /* Calls entry `number` of the sheet: writes its line to the front of `out`. The sheet is walked from its start, so an entry far
  * behind costs more, and each call tests the whole sheet again. To call all entries at once, call the sheet. After
  * HWK_NAME_TOO_LONG the other entries can still be called.
- * Tests: HWK_TEXT_TOO_LONG, HWK_NOT_UTF8, HWK_NO_SUCH_ENTRY, HWK_NAME_TOO_LONG if this entry's name is too long (other names do
- * not count), HWK_BUFFER_TOO_SHORT if `out` is shorter than the line. */
+ * Tests: HWK_TEXT_TOO_LONG, HWK_NOT_UTF8, HWK_CONTROL_BYTE, HWK_NO_SUCH_ENTRY, HWK_NAME_TOO_LONG if this entry's name is too long
+ * (other names do not count), HWK_BUFFER_TOO_SHORT if `out` is shorter than the line. */
 hwk_entry hwk_call_entry(const uint8_t *s, size_t s_len, size_t number, uint8_t *out, size_t out_len);
 
 typedef struct hwk_sheet {
@@ -432,8 +437,8 @@ typedef struct hwk_sheet {
 
 /* Calls the whole sheet: writes the lines of all entries, in order and with nothing between, to the front of `out`. A sheet
  * without entries, the empty one among them, has no lines and fits an empty buffer.
- * Tests: HWK_TEXT_TOO_LONG, HWK_NOT_UTF8, HWK_NAME_TOO_LONG if any name is too long, HWK_BUFFER_TOO_SHORT if `out` is shorter
- * than all lines. */
+ * Tests: HWK_TEXT_TOO_LONG, HWK_NOT_UTF8, HWK_CONTROL_BYTE, HWK_NAME_TOO_LONG if any name is too long, HWK_BUFFER_TOO_SHORT if
+ * `out` is shorter than all lines. */
 hwk_sheet hwk_call_sheet(const uint8_t *s, size_t s_len, uint8_t *out, size_t out_len);
 
 /* Is the name a clear one? Take two sheets that hwk_call_sheet accepts and that have clear names alone. They have the same call
@@ -454,7 +459,7 @@ hwk_sheet hwk_call_sheet(const uint8_t *s, size_t s_len, uint8_t *out, size_t ou
  * A name that is not clear may have the same words as one that is: "09:00" as "9:00", "5lb" as "5LB". Fractions are not clear:
  * "100/21000" and "120/1000" are both one hundred twenty one thousandth 's. Reads `s`, a name and not a sheet, and writes
  * nothing.
- * Tests: HWK_TEXT_TOO_LONG, HWK_NOT_UTF8. */
+ * Tests: HWK_TEXT_TOO_LONG, HWK_NOT_UTF8, HWK_CONTROL_BYTE. */
 hwk_verdict hwk_is_clear(const uint8_t *s, size_t s_len);
 
 #ifdef __cplusplus

@@ -42,6 +42,14 @@ SAME(sheet_tokens, offsetof(hwk_sheet, tokens) == 8);
 SAME(sheet_words, offsetof(hwk_sheet, words) == 16);
 SAME(sheet_bytes, offsetof(hwk_sheet, bytes) == 24);
 
+/* The numbers that document 01 gives to refusals 1 to 5, and document 02 to refusal 6. */
+SAME(text_too_long, HWK_TEXT_TOO_LONG == 1);
+SAME(not_utf8, HWK_NOT_UTF8 == 2);
+SAME(no_such_entry, HWK_NO_SUCH_ENTRY == 3);
+SAME(name_too_long, HWK_NAME_TOO_LONG == 4);
+SAME(buffer_too_short, HWK_BUFFER_TOO_SHORT == 5);
+SAME(control_byte, HWK_CONTROL_BYTE == 6);
+
 /* The numbers that document 01 gives to rows 1 to 12, and document 02 to rows 5a and 5b. */
 SAME(row_empty, HWK_ROW_EMPTY == 1);
 SAME(row_dotted, HWK_ROW_DOTTED == 2);
@@ -153,6 +161,75 @@ static void check_table(void)
     assert(hwk_word_at(table, 1) == 0xF1F2F3F4 && hwk_word_len(table, 1) == 255);
 }
 
+typedef hwk_verdict verdict(const uint8_t *s, size_t s_len);
+
+static verdict *const verdicts[] = {
+    hwk_is_digits, hwk_is_alpha, hwk_is_double, hwk_is_comma_int, hwk_is_ordinal, hwk_is_us_money, hwk_is_illion, hwk_is_roman,
+    hwk_is_dr_or_st, hwk_is_number_s, hwk_is_leading_zero_digits, hwk_is_seven_digit_phone, hwk_is_time, hwk_is_dotted_abbrev,
+    hwk_is_digits_slash_digits, hwk_is_digits_dash_digits, hwk_is_clear,
+};
+
+/* What every call that takes one text must answer: this refusal, and nothing else. The store and the table stay as they are. */
+static void check_refused(const uint8_t *text, size_t len, uint8_t refusal)
+{
+    uint8_t store[64], table[64];
+    memset(store, 0xA5, sizeof store);
+    memset(table, 0xA5, sizeof table);
+    for (size_t i = 0; i < sizeof verdicts / sizeof verdicts[0]; i++) {
+        hwk_verdict v = verdicts[i](text, len);
+        assert(v.refusal == refusal && v.yes == 0);
+    }
+    hwk_verdict digits = hwk_is_n_digits(text, len, 4);
+    assert(digits.refusal == refusal && digits.yes == 0);
+    hwk_time time = hwk_split_time_meridiem(text, len);
+    assert(time.refusal == refusal && time.yes == 0 && time.hour_len == 0 && time.minute_at == 0 && time.meridiem_at == 0);
+    hwk_part unit = hwk_split_unit(text, len);
+    assert(unit.refusal == refusal && unit.yes == 0 && unit.offset == 0 && unit.len == 0);
+    hwk_word word = hwk_unit_word(text, len, store, sizeof store);
+    assert(word.refusal == refusal && word.yes == 0 && word.len == 0);
+    for (size_t i = 0; i < sizeof readings / sizeof readings[0]; i++) {
+        hwk_words ample = readings[i](text, len, store, sizeof store, table, sizeof table);
+        hwk_words none = readings[i](text, len, NULL, 0, NULL, 0);
+        assert(ample.refusal == refusal && ample.words == 0 && ample.bytes == 0);
+        assert(none.refusal == refusal && none.words == 0 && none.bytes == 0);
+    }
+    hwk_number value = hwk_roman_value(text, len);
+    assert(value.refusal == refusal && value.value == 0);
+    hwk_tokens tokens = hwk_tokenize(text, len, table, sizeof table), starts = hwk_sentences(text, len, store, sizeof store);
+    assert(tokens.refusal == refusal && tokens.tokens == 0 && starts.refusal == refusal && starts.tokens == 0);
+    hwk_sheet sheet = hwk_call_sheet(text, len, store, sizeof store), unlent = hwk_call_sheet(text, len, NULL, 0);
+    assert(sheet.refusal == refusal && sheet.tokens == 0 && sheet.words == 0 && sheet.bytes == 0 && unlent.refusal == refusal);
+    for (size_t number = 0; number < 3; number++) {
+        hwk_entry entry = hwk_call_entry(text, len, number, store, sizeof store);
+        assert(entry.refusal == refusal && entry.row == 0 && entry.sign == 0 && entry.words == 0 && entry.bytes == 0);
+        assert(hwk_call_entry(text, len, number, NULL, 0).refusal == refusal);
+    }
+    for (size_t i = 0; i < sizeof store; i++) assert(store[i] == 0xA5 && table[i] == 0xA5);
+}
+
+/* Which bytes are control bytes; and that one comes behind a text's length and its UTF-8, and before all else. */
+static void check_control_bytes(void)
+{
+    static uint8_t text[HWK_TEXT_LIMIT + 1];
+    for (unsigned byte = 0; byte < 0x80; byte++) {
+        uint8_t one = (uint8_t)byte;
+        int barred = (byte < 0x20 && byte != '\t' && byte != '\n' && byte != '\r') || byte == 0x7F;
+        if (barred) check_refused(&one, 1, HWK_CONTROL_BYTE);
+        else assert(hwk_is_digits(&one, 1).refusal == HWK_ACCEPTED);
+    }
+    assert(hwk_is_digits((const uint8_t *)"\xc2\x80\xc2\x9f\xe2\x80\xa8", 7).refusal == HWK_ACCEPTED);
+    check_refused((const uint8_t *)"Bar\0 12", 7, HWK_CONTROL_BYTE);
+    check_refused((const uint8_t *)"Bar\x1f 12\xff", 8, HWK_NOT_UTF8);
+    memset(text, 'x', sizeof text);
+    text[0] = 0;
+    check_refused(text, HWK_NAME_LIMIT + 2, HWK_CONTROL_BYTE);
+    check_refused(text, HWK_TEXT_LIMIT, HWK_CONTROL_BYTE);
+    check_refused(text, HWK_TEXT_LIMIT + 1, HWK_TEXT_TOO_LONG);
+    text[0] = 'x';
+    text[HWK_TEXT_LIMIT - 1] = 0x7F;
+    check_refused(text, HWK_TEXT_LIMIT, HWK_CONTROL_BYTE);
+}
+
 /* The largest value that there is, and refusals of a call without buffers. */
 static void check_roman(void)
 {
@@ -225,6 +302,7 @@ int main(void)
     check_room();
     check_reading();
     check_table();
+    check_control_bytes();
     check_roman();
     check_rows();
     check_calls();

@@ -105,6 +105,11 @@ static void check_refusals(void)
     assert(answers(hwk_sentences(text, sizeof text, NULL, 0), HWK_TEXT_TOO_LONG, 0));
     assert(answers(hwk_tokenize(text, HWK_TEXT_LIMIT, NULL, 0), HWK_NOT_UTF8, 0));
     assert(answers(hwk_sentences(text, HWK_TEXT_LIMIT, NULL, 0), HWK_NOT_UTF8, 0));
+    text[0] = 0x1F;
+    assert(answers(hwk_tokenize(text, sizeof text, NULL, 0), HWK_TEXT_TOO_LONG, 0));
+    assert(answers(hwk_sentences(text, sizeof text, NULL, 0), HWK_TEXT_TOO_LONG, 0));
+    assert(answers(hwk_tokenize(text, HWK_TEXT_LIMIT, NULL, 0), HWK_CONTROL_BYTE, 0));
+    assert(answers(hwk_sentences(text, HWK_TEXT_LIMIT, NULL, 0), HWK_CONTROL_BYTE, 0));
     assert(answers(hwk_tokenize(NULL, 0, NULL, 0), HWK_ACCEPTED, 0));
     assert(answers(hwk_sentences(NULL, 0, NULL, 0), HWK_ACCEPTED, 0));
     assert(answers(hwk_tokenize(bytes(" \n"), 2, NULL, 0), HWK_ACCEPTED, 0));
@@ -183,6 +188,18 @@ static void check_states(void)
     assert(hands_back(push(odd, "\n\n", "\xff", ""), HWK_NOT_UTF8, odd));
     assert(hands_back(push(odd_fresh, "\xff", "a", "."), HWK_NOT_UTF8, odd_fresh));
     assert(hands_back(push(racks, "\n\n", "a", "\xc3"), HWK_NOT_UTF8, racks));
+    assert(hands_back(push(odd, "\x1f", "A", "."), HWK_CONTROL_BYTE, odd));
+    assert(hands_back(push(racks, "\n\n", "\x0b", ""), HWK_CONTROL_BYTE, racks));
+    assert(hands_back(push(odd_fresh, "", "a", "!\x7f"), HWK_CONTROL_BYTE, odd_fresh));
+    assert(hands_back(hwk_push(fresh, bytes("\0"), 1, NULL, 0, NULL, 0), HWK_CONTROL_BYTE, fresh));
+    assert(goes(push(longer, "\t\r", "", ""), 0, empty));
+
+    /* The first test wins, whichever text does not pass it. */
+    assert(hands_back(push(odd, "\x1f", "A", "\xff"), HWK_NOT_UTF8, odd));
+    assert(hands_back(push(odd, " ", "\x1f\xff", "\x01"), HWK_NOT_UTF8, odd));
+    assert(hands_back(push(odd, "\xff", "A", "\x1f"), HWK_NOT_UTF8, odd));
+    assert(hands_back(hwk_push(fresh, bytes("\0"), 1, NULL, 0, text, sizeof text), HWK_TEXT_TOO_LONG, fresh));
+    assert(hands_back(hwk_push(fresh, text, sizeof text, bytes("\0"), 1, NULL, 0), HWK_TEXT_TOO_LONG, fresh));
     assert(hands_back(hwk_push(fresh, bytes("\xff"), 1, text, sizeof text, NULL, 0), HWK_TEXT_TOO_LONG, fresh));
     assert(hands_back(hwk_push(fresh, NULL, 0, bytes("\xff"), 1, text, sizeof text), HWK_TEXT_TOO_LONG, fresh));
     assert(hands_back(hwk_push(fresh, text, sizeof text, NULL, 0, bytes("\xff"), 1), HWK_TEXT_TOO_LONG, fresh));

@@ -23,7 +23,8 @@ mod texts;
 use comparison::{Comparison, Counts};
 use expected::{clear, rows};
 use random::Random;
-use texts::{distinguish, exhaustive, linear_forms, long, long_numbers, long_tokens, short, step_states, two_numbers, utf8};
+use texts::{control_bytes, distinguish, exhaustive, linear_forms, long, long_numbers, long_tokens, short, step_states};
+use texts::{two_numbers, utf8};
 
 /// From this many seconds on there is time for texts of one piece more.
 const LONG: u64 = 600;
@@ -57,7 +58,7 @@ struct Share {
 }
 
 const NAMES: Share = Share { name: "shapes and numbers", divisor: 1, fixed: names, round: names_round };
-const SHEETS: Share = Share { name: "tokens", divisor: 2, fixed: tokens, round: tokens_round };
+const SHEETS: Share = Share { name: "tokens and control bytes", divisor: 2, fixed: tokens_and_controls, round: tokens_round };
 const CALL_SHEETS: Share = Share { name: "call sheets", divisor: 2, fixed: calls, round: calls_round };
 
 fn compare(share: Share, seconds: u64, seed: u64) -> Counts {
@@ -101,6 +102,11 @@ fn numbers(comparison: &mut Comparison, long: bool) {
     long_numbers::limits(comparison);
 }
 
+fn tokens_and_controls(comparison: &mut Comparison, long: bool) {
+    tokens(comparison, long);
+    controls(comparison);
+}
+
 /// In a long run texts have one piece more. So all texts of seven of the eleven characters are in it; else each round takes some.
 fn tokens(comparison: &mut Comparison, long: bool) {
     texts::tokens::named(comparison);
@@ -117,6 +123,19 @@ fn tokens(comparison: &mut Comparison, long: bool) {
     texts::steps::long(comparison);
     texts::steps::cut_characters(comparison);
     step_states::every_choice(comparison);
+}
+
+/// Control bytes in every call, and not only in those about tokens, since this share takes the least time.
+fn controls(comparison: &mut Comparison) {
+    control_bytes::check_list();
+    control_bytes::named(comparison);
+    control_bytes::each_place(comparison);
+    control_bytes::beside_each_other(comparison);
+    control_bytes::long(comparison);
+    control_bytes::with_broken_utf8(comparison);
+    control_bytes::other_controls(comparison);
+    control_bytes::steps(comparison);
+    control_bytes::before_later_tests(comparison);
 }
 
 /// Sheets, entries and clear names; and that call sheets distinguish their sheets, on pairs.

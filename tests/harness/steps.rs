@@ -5,7 +5,7 @@ use std::fmt;
 use reference::text::{SentenceBuilder, Token};
 
 use crate::comparison::display;
-use crate::expected::answers::{self, TEXT_TOO_LONG};
+use crate::expected::answers::{self, TEXT_TESTS};
 use crate::expected::tokens::{State, Step};
 
 /// The three texts of a step.
@@ -24,12 +24,12 @@ impl fmt::Display for Fed<'_> {
 }
 
 impl<'a> Fed<'a> {
-    /// The texts as the Rust takes them, or the smallest number of a refusal that one of them gets.
+    /// The texts as the Rust takes them, or the refusal of the first test that does not pass for all of them.
     pub fn admitted(&self) -> Result<[&'a str; 3], u8> {
         let all = [self.whitespace, self.name, self.punctuation].map(answers::admit);
         let [Ok(whitespace), Ok(name), Ok(punctuation)] = all else {
-            let too_long = all.contains(&Err(TEXT_TOO_LONG));
-            return Err(if too_long { TEXT_TOO_LONG } else { answers::NOT_UTF8 });
+            let first = TEXT_TESTS.into_iter().find(|&test| all.contains(&Err(test)));
+            return Err(first.expect("a test that one of the texts does not pass"));
         };
         Ok([whitespace, name, punctuation])
     }

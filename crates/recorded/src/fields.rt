@@ -53,12 +53,13 @@ impl From<Utf8Error> for LineError {
 pub type Answer<T> = Result<T, Refusal>;
 
 // Searched by number in place of a TryFrom: the enum is another crate's, so this crate can't implement the trait for it.
-const REFUSALS: [Refusal; 5] = [
+const REFUSALS: [Refusal; 6] = [
     Refusal::TextTooLong,
     Refusal::NotUtf8,
     Refusal::NoSuchEntry,
     Refusal::NameTooLong,
     Refusal::BufferTooShort,
+    Refusal::ControlByte,
 ];
 
 // The fields of a line. The byte `end` stands between them.

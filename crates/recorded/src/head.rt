@@ -39,7 +39,7 @@ impl Head {
         let refusal = refusal(number_of_refusal)?;
         if !matches!(
             refusal,
-            None | Some(Refusal::TextTooLong | Refusal::NotUtf8)
+            None | Some(Refusal::TextTooLong | Refusal::NotUtf8 | Refusal::ControlByte)
         ) {
             return Err(LineError::Malformed);
         }

@@ -33,15 +33,41 @@ fn agrees(refusal: Option<Refusal>, state: State, step: Result<Step, RefusedStep
     }
 }
 
-// The text as a part of a step, in each place, from a state. If the texts in the other places are empty, the step is refused as
-// the text is. If they are damaged, a step with an accepted text is refused too.
-fn compare_from(line: &Line, state: State, other: &[u8]) -> Report<Compared> {
+// What stands beside a text in a step, and its refusal.
+#[derive(Clone, Copy, Debug, PartialEq, Eq)]
+struct Beside {
+    text: &'static [u8],
+    refusal: Option<Refusal>,
+}
+
+const BESIDE: [Beside; 3] = [
+    Beside {
+        text: b"",
+        refusal: None,
+    },
+    Beside {
+        text: b"\xff",
+        refusal: Some(Refusal::NotUtf8),
+    },
+    Beside {
+        text: b"\x1f",
+        refusal: Some(Refusal::ControlByte),
+    },
+];
+
+// The refusal of a step with a text and what stands beside it. Control bytes are tested last.
+fn refusal_of(text: Option<Refusal>, beside: Option<Refusal>) -> Option<Refusal> {
+    match text {
+        Some(Refusal::ControlByte) => beside.or(text),
+        _ => text.or(beside),
+    }
+}
+
+// The text as a part of a step, in each place, from a state.
+fn compare_from(line: &Line, state: State, beside: Beside) -> Report<Compared> {
     let text = line.head.text.as_slice();
-    let refusal = if other.is_empty() {
-        line.head.refusal
-    } else {
-        line.head.refusal.or(Some(Refusal::NotUtf8))
-    };
+    let other = beside.text;
+    let refusal = refusal_of(line.head.refusal, beside.refusal);
     let places = [
         (text, other, other),
         (other, text, other),
@@ -62,10 +88,10 @@ pub fn compare_parts(line: &Line) -> Report<Compared> {
         .push(b" ", b"Yahoo", b".:?!")
         .map_or(fresh, |step| step.state);
     let mut report = Report::new();
-    for other in [b"".as_slice(), b"\xff"] {
+    for beside in BESIDE {
         report = report
-            .and(compare_from(line, fresh, other))
-            .and(compare_from(line, fed, other));
+            .and(compare_from(line, fresh, beside))
+            .and(compare_from(line, fed, beside));
     }
     report
 }

@@ -1,5 +1,6 @@
 //! Texts at the corners of each rule, for the comparison and for the recorder.
 
+pub mod control_bytes;
 pub mod entries;
 pub mod numbers;
 pub mod pieces;

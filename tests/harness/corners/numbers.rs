@@ -70,6 +70,7 @@ const AROUND_12_DIGITS: &[&str] = &[
 #[rustfmt::skip]
 const DROPPED: &[&str] = &[
     "1,000", "1,000,000", ",", ",,,", "1,", ",1", "1,,1", "$5", "5%", "#12", "1/2", "3:45", "12 34", " 12", "12 ", "\t1\n2\r", "1\u{0}2",
+    "1\t2", "\n1", "1\r\n",
     "1a2", "a1", "1a", "abc", "x", " ", ".", "!", "?1?", "/", ":", "/0", ":9", "0/", "9:", "é1", "1é", "1é2", "€5", "5€", "𐍈", "1𐍈2",
     "٣", "１", "²", "1²", "½", "555-1234", "(555) 0123", "1998-1999", "12th", "5kg", "+49", "~1~",
 ];
@@ -107,7 +108,7 @@ const REALS: &[&str] = &[
 #[rustfmt::skip]
 const LETTERS: &[&str] = &[
     "b", "z", "B", "Z", "aa", "aA", "AA", "ab", "ba", "AbA", "U.S.A.", "e.g.", "Mr.", "USA", "NATO", "Ph.D.", "@", "[", "`", "{", "_", "_a",
-    "a_", "_A", "a b", " a ", "a\tb", "a\nb", "\r", "\0", "a\0a", "\u{7f}", "\u{1}", "\\", "a\\b", "\\61", "ä", "Ä", "É", "ß", "ÀÁ", "aéb€c𐍈d",
+    "a_", "_A", "a b", " a ", "a\tb", "a\nb", "\r", "\0", "a\0a", "\u{7f}", "\u{1}", "\t", "a\ta", "~", "\\", "a\\b", "\\61", "ä", "Ä", "É", "ß", "ÀÁ", "aéb€c𐍈d",
     "aéA", "日本語", "x\u{300}", "\u{80}", "\u{7ff}", "\u{800}", "\u{ffff}", "\u{10000}", "\u{10ffff}", "\u{d7ff}", "\u{e000}", "ａ", "а", "\u{aa}",
     "abcdefghijklmnopqrstuvwxyz", "ABCDEFGHIJKLMNOPQRSTUVWXYZ", "0123456789", " !\"#$%&'()*+,-./:;<=>?@[\\]^_`{|}~",
 ];
@@ -120,12 +121,12 @@ const ROMANS: &[&str] = &[
     "IM", "VX", "VL", "LC", "DM", "IIV", "IIIV", "IIIIV", "IIIIIV", "IIIIIIV", "VVX", "VVVX", "LLC", "DDM", "DDDM", "IXC", "XIC", "IVX",
     "IXIX", "XIXI", "IVIV", "VIV", "VIX", "IXV", "XVX", "XXL", "CCCCCD", "CCCCCCD", "CCM", "IIIIIIIIIX", "IIIIIIIIIIX", "IIIIIIIIIIIX",
     "XIIX", "MIM", "MIMI", "IMIM", "IMI", "VMV", "MDM", "IVXLC", "XIIV", "W", "IW", "WI", "I V", "X.", "X1", "1X", " X", "X ", "Xé", "éX", "Ⅳ",
-    "I\0", "IIA", "H", "J", "U", "Y", "K", "B", "E", "N", "h", "j", "u", "w", "y", "k", "b", "e", "n", "ı", "İ", "ⅰ", "X,", "MM.", "MMMMMMMMMMMMMMMM",
+    "I\0", "I\t", "IIA", "H", "J", "U", "Y", "K", "B", "E", "N", "h", "j", "u", "w", "y", "k", "b", "e", "n", "ı", "İ", "ⅰ", "X,", "MM.", "MMMMMMMMMMMMMMMM",
 ];
 
 /// What a text of random pieces draws from.
 #[rustfmt::skip]
 pub const PIECES: &[&str] = &[
     "0", "1", "2", "3", "4", "5", "6", "7", "8", "9", "00", "000", "777", "1984", ",", ".", "e", "E", "+", "-", " ", "a", "A", "i", "v", "x",
-    "l", "c", "d", "m", "I", "V", "X", "L", "C", "D", "M", "b", "Z", "_", "/", ":", "\0", "\u{7f}", "é", "\u{80}", "€", "\u{ffff}", "𐍈", "\u{10ffff}",
+    "l", "c", "d", "m", "I", "V", "X", "L", "C", "D", "M", "b", "Z", "_", "/", ":", "\t", "~", "é", "\u{80}", "€", "\u{ffff}", "𐍈", "\u{10ffff}",
 ];

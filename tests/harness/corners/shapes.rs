@@ -21,7 +21,7 @@ const DIGITS: &[&str] = &[
 #[rustfmt::skip]
 const ALPHA: &[&str] = &[
     "a", "z", "A", "Z", "@", "[", "`", "{", "abc", "ABC", "aBz", "a1", "1a", "a b", "a-b", "a.", "Rack", "bar", "it's",
-    "straße", "a\0", "\0", "\u{7f}",
+    "straße", "a\0", "\0", "\u{7f}", "a\t", "a~",
     "abcdefghijklmnopqrstuvwxyzABCDEFGHIJKLMNOPQRSTUVWXYZabcdefghijkl",
     "abcdefghijklmnopqrstuvwxyzABCDEFGHIJKLMNOPQRSTUVWXYZabcdefghijk5",
 ];
@@ -76,14 +76,14 @@ const ROMANS: &[&str] = &[
     "I", "II", "III", "IV", "V", "VI", "VII", "VIII", "IX", "X", "XI", "XII", "XIII", "XIV", "XV", "XVI", "XVII", "XVIII",
     "XIX", "XX", "XXI", "XXVI", "XVIX", "XIIIIII", "XVVV", "XIXVXI", "IIII", "IIV", "VV", "VX", "VIIII", "VIV", "IVI", "IIX",
     "IXI", "IVX", "IXX", "i", "ii", "v", "x", "Xx", "xX", "XL", "XC", "L", "C", "D", "M", "MM", "XIL", "XVIé", "Xé", "éX",
-    "X.", "X ", " X", "X1", "1X", "IV.", "Iv", "iV", "VIIX", "XW", "XY", "XU", "XJ", "XH", "VIII ", "IXé", "I\0", "ΙV",
+    "X.", "X ", " X", "X1", "1X", "IV.", "Iv", "iV", "VIIX", "XW", "XY", "XU", "XJ", "XH", "VIII ", "IXé", "I\0", "I\t", "ΙV",
 ];
 
 // is_dr_or_st: two words, any case.
 #[rustfmt::skip]
 const DR_OR_ST: &[&str] = &[
     "dr", "DR", "Dr", "dR", "ST", "St", "sT", "dr.", "Dr.", "St.", "d", "s", "r", "t", "rd", "ts", "dt", "sr", "drs", "sst",
-    "str", " dr", "dr ", "dré", "dé", "\u{17f}t", "d\0", "Drive", "Street",
+    "str", " dr", "dr ", "dré", "dé", "\u{17f}t", "d\0", "d\t", "Drive", "Street",
 ];
 
 // is_number_s: digits and a final small s.
@@ -157,7 +157,7 @@ const UNITS: &[&str] = &[
     "MB", "TB", "Lb", "lB", "LBs", "lbS", "Lbs", "lBs", "LbS", "lBS", "Ft", "fT", "KG", "Kg", "kG", "KM", "Km", "CM", "Cm", "MM", "Mm",
     "ML", "mL", "Ml", "OZ", "Oz", "hZ", "KHZ", "kHz", "khz", "Khz", "MHZ", "mHz", "Mhz", "GHZ", "gHz", "Ghz", "kb", "Kb", "kB", "gb",
     "Gb", "mb", "Mb", "tb", "Tb", "THz", "PB", "B", "g", "k", "m", "l", "K", "H", "z", "LBSS", "lbss", "kgs", "KHzz", "KH", "MH", "GH",
-    "Hzz", "xkg", "kg ", " kg", "kg.", "k g", "kgé", "ékg", "µm", "kg\0", "kilograms", "pounds", "dm", "nm", "in", "yd", "mg", "mi", "bl", "gk",
+    "Hzz", "xkg", "kg ", " kg", "kg.", "k g", "kgé", "ékg", "µm", "kg\0", "kg\t", "kilograms", "pounds", "dm", "nm", "in", "yd", "mg", "mi", "bl", "gk",
 ];
 
 // split_unit: digits and commas, then an abbreviation after the last digit.
@@ -167,7 +167,7 @@ const UNITS_AFTER_NUMBERS: &[&str] = &[
     "5KB", "5GB", "5MB", "5TB", "1,000LB", "12,345LBS", "0lb", "00lbs", "9,ft", "1,,1FT", "007kg", "10km", "100cm", "00mm", "250ml", "8oz",
     "50hz", "60Hz", "44,100HZ", "440KHz", "2,400MHz", "3GHz", "640KB", "16GB", "1,024MB", "2TB", "5Kg", "5KG", "5kHz", "5Mm", "5Lbs", "5tb",
     "1,000kg", ",5kg", ",,5kg", ",kg", "5,kg", "5", "5,", "5kgs", "5 kg", "5kg ", " 5kg", "-5kg", "+5kg", "5.5kg", "1/2kg", "5-6kg", "$5kg",
-    "5kg5", "5kg5kg", "k5g", "a5kg", "5akg", "5kkg", "5g", "5k", "5K", "5Hzz", "5kgé", "5ékg", "é5kg", "5µm", "𐍈5kg", "5𐍈kg", "5k\0g",
+    "5kg5", "5kg5kg", "k5g", "a5kg", "5akg", "5kkg", "5g", "5k", "5K", "5Hzz", "5kgé", "5ékg", "é5kg", "5µm", "𐍈5kg", "5𐍈kg", "5k\0g", "5k\tg",
     "12345678901234567890123456789kg", "1,234,567,890,123,456,789KHz", "5:kg", "5/kg", ":5kg", "5.kg", "5%kg", "5x", "1.5oz",
 ];
 

@@ -120,7 +120,7 @@ const PROSE: &[&str] = &[
 #[rustfmt::skip]
 pub const PIECES: &[&str] = &[
     " ", " ", " ", "  ", "\t", "\n", "\n\n", "\r", "\r\n", "\"", "'", "`", "(", "{", "[", ")", "}", "]", ".", ".", ",", ":",
-    ";", "!", "?", ". ", "! ", ".\n", "a", "b", "z", "A", "B", "Z", "1", "é", "É", "€", "𐍈", "\0", "\u{b}", "\u{7f}", "\u{85}",
+    ";", "!", "?", ". ", "! ", ".\n", "a", "b", "z", "A", "B", "Z", "1", "é", "É", "€", "𐍈", "~", "\u{85}",
     "\u{a0}", "\u{2028}", "-", "@", "yahoo", "Yahoo", "YAHOO", "yahoo!", "yaho", "Dr", "abcd", "Abc", "abC", "The", "end",
     "9:30", "5mm",
 ];
@@ -139,7 +139,7 @@ pub const NAMES: &[&str] = &[
     "", "a", "z", "A", "Z", "1", "@", "[", "`", "{", "é", "É", ".", "?", "\"", " ", " a", " A", "\n", "a b", "A b", "Dr", "dr",
     "dR", "Abc", "abc", "abC", "Abcd", "abcd", "abcD", "ABCD", "Abcde", "abcdE", "end", "Ended", "yahoo", "Yahoo", "YAHOO",
     "yAHOo", "yaho", "Yaho", "yahooo", "yahoo!", "yahoo yahoo", " yahoo", "yahoé", "yahéo", "éA", "Aé", "ABé", "A€", "€", "𐍈",
-    "𐍈A", "a.b", "U.S", "yahoo\0", "\0", "\0A", "aaaaaaaaaaaaaaaaaaaaaaaaaaaaaaaaaaaaaaaaaaaaaaaaaaaaaaaaaaaaaaaaaaaaaZ",
+    "𐍈A", "a.b", "U.S", "yahoo\0", "\0", "\0A", "yahoo\t", "\t", "\tA", "aaaaaaaaaaaaaaaaaaaaaaaaaaaaaaaaaaaaaaaaaaaaaaaaaaaaaaaaaaaaaaaaaaaaaZ",
 ];
 
 /// Punctuation for a step, and texts that are no punctuation.

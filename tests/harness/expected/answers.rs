@@ -6,6 +6,10 @@ pub const TEXT_LIMIT: usize = 65_536;
 pub const TEXT_TOO_LONG: u8 = 1;
 pub const NOT_UTF8: u8 = 2;
 pub const BUFFER_TOO_SHORT: u8 = 5;
+pub const CONTROL_BYTE: u8 = 6;
+
+/// The tests of a text, in their order.
+pub const TEXT_TESTS: [u8; 3] = [TEXT_TOO_LONG, NOT_UTF8, CONTROL_BYTE];
 
 #[repr(C)]
 #[derive(Clone, Copy, Debug, Default, PartialEq, Eq)]
@@ -71,7 +75,20 @@ pub fn admit(text: &[u8]) -> Admitted<'_> {
     if text.len() > TEXT_LIMIT {
         return Err(TEXT_TOO_LONG);
     }
-    std::str::from_utf8(text).map_err(|_| NOT_UTF8)
+    let text = std::str::from_utf8(text).map_err(|_| NOT_UTF8)?;
+    if text.bytes().any(is_control_byte) {
+        return Err(CONTROL_BYTE);
+    }
+    Ok(text)
+}
+
+/// Document 02, A3: 0x00 to 0x1F but for 0x09, 0x0A and 0x0D, and 0x7F.
+fn is_control_byte(byte: u8) -> bool {
+    match byte {
+        0x09 | 0x0A | 0x0D => false,
+        0x7F => true,
+        _ => byte <= 0x1F,
+    }
 }
 
 pub fn verdict(admitted: Admitted, shape: impl Fn(&str) -> bool) -> Verdict {

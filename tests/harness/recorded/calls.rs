@@ -48,6 +48,10 @@ const AT_THE_LIMIT: &[(u8, &[u8], usize)] = &[
     (b' ', b"\xc3\xa9", 65_537), (b' ', b"\xc3", 65_536), (b' ', b"\xff", 65_537), (b'"', b"5mm. A.B.", 65_536), (b'"', b"", 65_536),
     (b'.', b"", 65_536), (b'.', b" A", 65_536), (b'!', b" 21st%", 65_536), (b'\t', b"a! b\r\n\r\nc", 65_536), (b'a', b" \xff", 65_536),
     (b'a', b" 5", 65_536), (b'a', b" 5", 65_537), (0xff, b"", 65_536), (0xff, b"", 65_537), (0, b"", 4_096),
+    // a control byte, in names and sheets at the limit
+    (b'a', b"\0", 4_096), (b'a', b"\0", 4_097), (b'a', b" \x1f", 4_099), (b'7', b"% b\x7f", 4_100), (b'a', b"\x0b", 65_536),
+    (b'a', b"\x0b", 65_537), (b' ', b"5mm\x0c", 65_536), (b'\n', b"9:30\0 am", 65_537), (b' ', b"\0\xff", 65_536),
+    (0x7f, b"", 65_536), (b'~', b"", 4_096), (b'\t', b"5", 65_536),
 ];
 
 pub fn lines() -> Vec<String> {
@@ -63,7 +67,7 @@ fn texts() -> Vec<RecordedText> {
     texts.extend(NAMES.iter().step_by(2).map(|name| RecordedText::plain(format!("({name}). \"{name}!\n").as_bytes())));
     let corners = corners::tokens::LISTS.iter().flat_map(|list| list.iter().step_by(SOME));
     texts.extend(corners.map(|text| RecordedText::plain(text.as_bytes())));
-    texts.extend(DAMAGED.iter().step_by(2).map(|text| RecordedText::plain(text)));
+    texts.extend(DAMAGED.iter().step_by(2).chain(corners::control_bytes::TEXTS).map(|text| RecordedText::plain(text)));
     texts.extend(DAMAGED.iter().step_by(4).map(|text| RecordedText::plain(&[&b"Bar 12 "[..], text, b" 5mm"].concat())));
     texts.extend(AT_THE_LIMIT.iter().map(RecordedText::of_length));
     texts.extend(random_texts().iter().map(|text| RecordedText::plain(text.as_bytes())));

@@ -32,6 +32,9 @@ const AT_THE_LIMIT: &[(u8, &[u8], usize)] = &[
     (b'X', b"M", 101), (b'I', b"M", 1_000), (b'I', b"M", 1_001), (b'I', b"M", 1_002),
     (b',', b"5\xc3", 65_536), (b',', b"5\xc3", 65_537), (b',', b"5\xc3\xa9", 65_536), (b',', b"5\xff", 65_536), (0xff, b"", 65_536),
     (0xff, b"", 65_537), (b'M', b"\xff", 65_536), (b'M', b"\xff", 65_537), (b'M', b"\xc3\xa9", 65_536),
+    // a control byte at the end, and what is tested before it
+    (b',', b"5\0", 65_536), (b'M', b"\x1f", 65_536), (b'x', b"1984\x7f", 65_536), (b'M', b"\0", 65_537),
+    (b',', b"\x0b\xff", 65_536), (0, b"", 65_536), (b'\t', b"5", 65_536), (b'5', b"\0", 64), (b'5', b"\x7f", 65),
     // as many words as a field holds, and lengths at which a number of the table takes a second byte
     (b'5', b"", 31), (b'5', b"", 32), (b'5', b"", 63), (b'5', b"", 64), (b'5', b"", 65), (b'5', b"7", 64), (b'-', b"7", 63), (b'-', b"", 64),
     (b'a', b"", 63), (b'a', b"", 64), (b'A', b"\xc3\xa9", 65), (b'e', b"7", 63), (b'0', b"7", 64), (b'7', b"2005", 60), (b'7', b"1900", 61),
@@ -43,7 +46,7 @@ pub fn lines() -> Vec<String> {
     texts.extend(corners.map(|text| RecordedText::plain(text.as_bytes())));
     let shapes = corners::shapes::LISTS.iter().flat_map(|list| list.iter().step_by(SOME));
     texts.extend(shapes.map(|text| RecordedText::plain(text.as_bytes())));
-    texts.extend(corners::shapes::DAMAGED.iter().map(|text| RecordedText::plain(text)));
+    texts.extend(corners::shapes::DAMAGED.iter().chain(corners::control_bytes::TEXTS).map(|text| RecordedText::plain(text)));
     texts.extend(AT_THE_LIMIT.iter().map(RecordedText::of_length));
     texts.extend(random_texts().iter().map(|text| RecordedText::plain(text.as_bytes())));
     each_once(texts).iter().map(line).collect()

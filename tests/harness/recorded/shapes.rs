@@ -31,6 +31,10 @@ const AT_THE_LIMIT: &[(u8, &[u8], usize)] = &[
     (b'5', b"\xf0\x90\x8d\x88", 65_536), (b'5', b"\xf0\x90\x8d", 65_536), (b'5', b"\xf0\x90\x8d\x88", 65_537),
     (b'5', b"\xed\xa0\x80", 65_536), (b'5', b"\xff", 65_536), (b'5', b"\xff", 65_537), (0xff, b"", 65_536), (0xff, b"", 65_537),
     (0x80, b"", 65_536), (0xc3, b"", 65_536), (b'5', b"\x80", 65_535), (b'5', b"\xc3\xa9th", 65_536),
+    // a control byte at the end, and what is tested before it
+    (b'5', b"\0", 65_536), (b'5', b"\x1f", 65_536), (b'a', b"\x7f", 65_536), (b'5', b"\0", 65_537), (b'5', b"\0\xff", 65_536),
+    (0xff, b"\0", 65_536), (0x0b, b"", 65_536), (0x7f, b"", 65_537), (0x1f, b"5kg", 4_096), (b'\t', b"", 65_536),
+    (b'~', b"", 65_536),
     // lengths on both sides of a block
     (b'5', b"", 31), (b'5', b"", 32), (b'5', b"", 33), (b'5', b"", 63), (b'5', b"", 64), (b'5', b"", 65), (b'5', b"", 127),
     (b'5', b"", 128), (b'5', b"", 129), (b'5', b"x", 64), (b'5', b"\xc3\xa9", 64), (b'5', b"\xc3\xa9", 65), (b'5', b"\xc3", 64),
@@ -42,7 +46,7 @@ pub fn lines() -> Vec<String> {
     let mut texts: Vec<RecordedText> = Vec::new();
     let corners = corners::shapes::LISTS.iter().flat_map(|list| list.iter());
     texts.extend(corners.map(|text| RecordedText::plain(text.as_bytes())));
-    texts.extend(corners::shapes::DAMAGED.iter().map(|text| RecordedText::plain(text)));
+    texts.extend(corners::shapes::DAMAGED.iter().chain(corners::control_bytes::TEXTS).map(|text| RecordedText::plain(text)));
     texts.extend(AT_THE_LIMIT.iter().map(RecordedText::of_length));
     texts.extend(random_texts().iter().map(|text| RecordedText::plain(text)));
     each_once(texts).iter().map(line).collect()

@@ -24,6 +24,10 @@ const AT_THE_LIMIT: &[(u8, &[u8], usize)] = &[
     // characters that end at the limit, or are cut by it
     (b'a', b"\xc3\xa9", 65_536), (b'a', b"\xc3\xa9", 65_537), (b'a', b"\xc3", 65_536), (b'a', b"\xc3", 65_537), (b' ', b"\xff", 65_536),
     (b' ', b"\xff", 65_537), (b'.', b"\xe2\x82\xac", 65_536), (b'.', b"\xe2\x82", 65_536), (0xff, b"", 65_536), (0xff, b"", 65_537),
+    // a control byte at the end, and what is tested before it
+    (b'a', b"\0", 65_536), (b'a', b"! \x1f", 65_536), (b'\n', b"\x7f", 65_536), (b'a', b"\0", 65_537),
+    (b' ', b"\x0b\xff", 65_536), (0xff, b"\0", 65_536), (b'.', b"\x08", 65_536), (0x0c, b"", 65_536), (0x1b, b"", 65_537),
+    (b'~', b"", 65_536), (b'a', b"! b\0", 1_000),
     // offsets and lengths that take a second and a third byte
     (b'a', b" b", 256), (b'a', b" b", 257), (b'a', b" b", 258), (b' ', b"b", 256), (b' ', b"b", 257), (b'(', b"b", 257), (b'.', b"b.", 258),
     (b'a', b"! b c", 1_000), (b'a', b" b", 65_535), (b'a', b" b", 65_536),
@@ -35,7 +39,7 @@ pub fn lines() -> Vec<String> {
     texts.extend(corners.map(|text| RecordedText::plain(text.as_bytes())));
     let yahoos = corners::tokens::yahoos();
     texts.extend(yahoos.iter().flat_map(|name| beside_yahoo(name)).map(|text| RecordedText::plain(text.as_bytes())));
-    texts.extend(corners::shapes::DAMAGED.iter().map(|text| RecordedText::plain(text)));
+    texts.extend(corners::shapes::DAMAGED.iter().chain(corners::control_bytes::TEXTS).map(|text| RecordedText::plain(text)));
     texts.extend(corners::shapes::DAMAGED.iter().step_by(4).map(|text| RecordedText::plain(&[&b"Dr. ("[..], text, b") A"].concat())));
     texts.extend(AT_THE_LIMIT.iter().map(RecordedText::of_length));
     texts.extend(random_texts().iter().map(|text| RecordedText::plain(text.as_bytes())));

@@ -1,7 +1,7 @@
 //! Long texts that keep a function scanning, with or without a flaw, and lengths around the limit.
 
 use crate::comparison::Comparison;
-use crate::corners::pieces::PIECES;
+use crate::corners::pieces::{rare_control_byte, PIECES};
 use crate::expected::answers::TEXT_LIMIT;
 use crate::random::Random;
 
@@ -25,7 +25,7 @@ const PATTERNS: &[Pattern] = &[
     ("5", "-", "6"), ("", "5-", ""), ("", "-", ""), ("", "-5", "6"), ("", "12-", "34"),
     ("", "5", "kg"), ("", "5,", "KHz"), ("", ",", "5mm"), ("5", "k", ""), ("", "kg", ""), ("5", "kg", "5kg"),
     ("", "é", ""), ("", "€", ""), ("", "𐍈", ""), ("", "aé", ""), ("5", "é", "5kg"), ("", "é.", ""),
-    ("", "abcdefghijklmno€", ""), ("", "The quick brown fox, \n", ""), ("", "\0", ""),
+    ("", "abcdefghijklmno€", ""), ("", "The quick brown fox, \n", ""), ("", "\0", ""), ("", "\t", ""), ("", "~", ""),
 ];
 
 /// What may stand at the very end: nothing more, whole characters, and characters cut short.
@@ -93,7 +93,7 @@ pub fn of_length(pattern: &Pattern, len: usize, ending: &[u8]) -> Vec<u8> {
     text
 }
 
-/// Writes a piece over the bytes near the front, near the back, or anywhere.
+/// Writes a piece over the bytes near the front, near the back, or anywhere. A rare one is a control byte.
 fn flaw(random: &mut Random, text: &mut Vec<u8>) {
     let len = text.len();
     let place = match random.below(3) {
@@ -101,7 +101,7 @@ fn flaw(random: &mut Random, text: &mut Vec<u8>) {
         1 => len - random.below(8).min(len),
         _ => random.below(len + 1),
     };
-    let piece = random.one_of(PIECES).bytes();
+    let piece = rare_control_byte(random).unwrap_or_else(|| random.one_of(PIECES).to_string()).into_bytes();
     let replaced = if random.below(4) == 0 { 0 } else { piece.len() };
     text.splice(place..(place + replaced).min(len), piece);
 }

@@ -1,6 +1,7 @@
 //! Long texts for the readings, on both sides of the limit, with as many words as they can have and with none.
 
 use crate::comparison::Comparison;
+use crate::corners::pieces::rare_control_byte;
 use crate::expected::answers::TEXT_LIMIT;
 use crate::random::Random;
 use crate::texts::long::{of_length, Pattern};
@@ -11,7 +12,7 @@ const PATTERNS: &[Pattern] = &[
     ("", "0700", ""), ("", "77", "2005"), ("", "19", "1900"), ("", "00", "07"),
     ("", "-", ""), ("", "+-", "1"), ("", "e", ""), ("", "E-", ""), ("", ".", ""), ("", "7777777777e", ""), ("", "-1.50e+", "7"),
     ("1.", "5", ""), ("", "5", ".5"), ("", "5.", ""), ("", "-5", ""), ("", "e.", ""),
-    ("", "a", ""), ("", "A", ""), ("", "zQ", ""), ("", "é", ""), ("", "€", ""), ("", "𐍈", ""), ("", "aé€𐍈", ""), ("", "\0", ""),
+    ("", "a", ""), ("", "A", ""), ("", "zQ", ""), ("", "é", ""), ("", "€", ""), ("", "𐍈", ""), ("", "aé€𐍈", ""), ("", "\0", ""), ("", "\t", ""),
     ("", "M", ""), ("", "I", ""), ("", "I", "M"), ("M", "I", ""), ("", "MDCLXVI", ""), ("", "IVXLCDM", ""), ("", "mI", ""), ("", "M", "a"),
     ("", "V", "X"), ("", "DM", ""),
 ];
@@ -43,13 +44,17 @@ pub fn growing(comparison: &mut Comparison) {
     }
 }
 
-/// Patterns of random length, each with another one behind it.
+/// Patterns of random length, each with another one behind it. A rare one has a control byte.
 pub fn random(comparison: &mut Comparison, random: &mut Random, texts: usize) {
     comparison.begin("random long numbers");
     for _ in 0..texts {
         let len = random.length(TEXT_LIMIT / 8);
         let back = of_length(random.one_of(PATTERNS), random.length(len), b"");
-        let text = of_length(random.one_of(PATTERNS), len.max(back.len()), &back);
+        let mut text = of_length(random.one_of(PATTERNS), len.max(back.len()), &back);
+        if let Some(byte) = rare_control_byte(random) {
+            let place = random.below(text.len() + 1);
+            text.splice(place..place, byte.bytes());
+        }
         comparison.every_reading(&text, random.below(64));
     }
 }

@@ -1,6 +1,7 @@
 //! Sheets of up to 65,536 bytes and just over: many tokens and few, long names, long runs of marks and of whitespace.
 
 use crate::comparison::Comparison;
+use crate::corners::pieces::rare_control_byte;
 use crate::corners::tokens::PIECES;
 use crate::expected::answers::TEXT_LIMIT;
 use crate::random::Random;
@@ -69,7 +70,7 @@ pub fn changed_at_each_place(comparison: &mut Comparison) {
     }
 }
 
-/// Sheets of random pieces and of patterns, of any length up to the limit; some are damaged.
+/// Sheets of random pieces and of patterns, of any length up to the limit; some are damaged, and some have a control byte.
 pub fn random(comparison: &mut Comparison, random: &mut Random, texts: usize) {
     comparison.begin("random sheets");
     for _ in 0..texts {
@@ -78,6 +79,10 @@ pub fn random(comparison: &mut Comparison, random: &mut Random, texts: usize) {
         if random.below(8) == 0 && !text.is_empty() {
             let place = random.below(text.len());
             text[place] = *random.one_of(&[0x80, 0xc3, 0xe2, 0xf0, 0xff]);
+        }
+        if let Some(byte) = rare_control_byte(random) {
+            let place = random.below(text.len() + 1);
+            text.splice(place..place, byte.bytes());
         }
         comparison.every_token(&text, random.below(64));
     }

@@ -1,5 +1,6 @@
 //! The texts that are compared, group by group.
 
+pub mod control_bytes;
 pub mod distinguish;
 pub mod exhaustive;
 pub mod linear_forms;

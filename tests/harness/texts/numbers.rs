@@ -27,7 +27,7 @@ const THEMES: &[Theme] = &[
     Theme { name: "decimal numbers", most: 6, pieces: &["0", "1", ".", "e", "E", "+", "-"] },
     Theme { name: "groups of three", most: 5, pieces: &["000", "005", "010", "100", "777", "0", "00", "12", ","] },
     Theme { name: "pairs", most: 6, pieces: &["00", "07", "10", "19", "77", "0", "5", "x"] },
-    Theme { name: "letters", most: 4, pieces: &["a", "A", "z", "Z", "@", "[", "`", "{", "_", "5", " ", "\0", "é", "€", "𐍈"] },
+    Theme { name: "letters", most: 4, pieces: &["a", "A", "z", "Z", "@", "[", "`", "{", "_", "5", " ", "\0", "\t", "é", "€", "𐍈"] },
 ];
 
 // Roman numerals in both cases, and a letter that is none.

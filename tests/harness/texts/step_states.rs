@@ -4,7 +4,7 @@ use crate::comparison::Comparison;
 use crate::corners::tokens::{BLANKS, MARKS, NAMES};
 use crate::expected::tokens::State;
 use crate::random::Random;
-use crate::texts::steps::{damaged_or, fed};
+use crate::texts::steps::{fed, refused_or};
 
 // States with odd lengths, bytes and flags.
 #[rustfmt::skip]
@@ -75,6 +75,6 @@ pub fn random(comparison: &mut Comparison, random: &mut Random, steps: usize) {
             state.last = random.next() as u8;
         }
         let texts = [*random.one_of(BLANKS), *random.one_of(NAMES), *random.one_of(MARKS)];
-        comparison.step_from(state, damaged_or(random, fed(texts)), number % 64);
+        comparison.step_from(state, refused_or(random, fed(texts)), number % 64);
     }
 }

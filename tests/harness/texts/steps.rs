@@ -11,7 +11,7 @@ use crate::texts::step_states::ODD;
 /// Names of a second step: their first byte decides whether it breaks.
 #[rustfmt::skip]
 const SECOND: &[&str] = &[
-    "", "a", "z", "A", "Z", "1", "@", "[", "`", "{", "é", "É", ".", "\"", " a", " A", "\n", "Abc", "yahoo", "\0A",
+    "", "a", "z", "A", "Z", "1", "@", "[", "`", "{", "é", "É", ".", "\"", " a", " A", "\n", "Abc", "yahoo", "\0A", "\tA",
 ];
 
 /// Any name and punctuation, then any whitespace and name.
@@ -50,7 +50,8 @@ pub fn fed(texts: [&str; 3]) -> Fed<'_> {
     Fed { whitespace, name, punctuation }
 }
 
-/// Each of the three texts whole, at the limit, over it, damaged, and damaged over it: the smallest number wins.
+/// Each of the three texts whole, at the limit, over it, damaged, with a control byte, and two or all three of these at once: the
+/// first test in their order wins, whichever text does not pass it.
 pub fn refusals(comparison: &mut Comparison) {
     comparison.begin("steps that are refused");
     let repeated = |len: usize, byte: u8| vec![byte; len];
@@ -62,6 +63,10 @@ pub fn refusals(comparison: &mut Comparison) {
         b"a\xff".to_vec(),
         repeated(TEXT_LIMIT + 1, 0xff),
         damaged,
+        b"a\x1f".to_vec(),
+        [repeated(TEXT_LIMIT - 1, b'a'), b"\x7f".to_vec()].concat(),
+        repeated(TEXT_LIMIT + 1, 0),
+        b"\x0b\xff".to_vec(),
     ];
     for number in 0..kinds.len().pow(3) {
         let kind = |place: u32| &kinds[number / kinds.len().pow(place) % kinds.len()];
@@ -110,12 +115,15 @@ pub fn cut_characters(comparison: &mut Comparison) {
     }
 }
 
-/// One in eight steps has a damaged text.
-pub fn damaged_or<'a>(random: &mut Random, fed: Fed<'a>) -> Fed<'a> {
-    match random.below(24) {
-        0 => Fed { whitespace: b"\n\n\xff", ..fed },
-        1 => Fed { name: b"A\xc3", ..fed },
-        2 => Fed { punctuation: b"!\xe2\x82", ..fed },
+/// One in ten steps has a damaged text, and one in twenty a control byte.
+pub fn refused_or<'a>(random: &mut Random, fed: Fed<'a>) -> Fed<'a> {
+    match random.below(60) {
+        0..2 => Fed { whitespace: b"\n\n\xff", ..fed },
+        2..4 => Fed { name: b"A\xc3", ..fed },
+        4..6 => Fed { punctuation: b"!\xe2\x82", ..fed },
+        6 => Fed { whitespace: b"\n\n\x0b", ..fed },
+        7 => Fed { name: b"\0A", ..fed },
+        8 => Fed { punctuation: b"!\x7f", ..fed },
         _ => fed,
     }
 }
@@ -129,7 +137,7 @@ pub fn sequences(comparison: &mut Comparison, random: &mut Random, sequences: us
         for _ in 0..random.below(30) {
             let texts = [free_text(random, BLANKS), free_text(random, NAMES), free_text(random, MARKS)];
             let [whitespace, name, punctuation] = texts.each_ref().map(String::as_bytes);
-            let mut fed = damaged_or(random, Fed { whitespace, name, punctuation });
+            let mut fed = refused_or(random, Fed { whitespace, name, punctuation });
             match random.below(100) {
                 0 => fed.whitespace = &too_long,
                 1 => fed.name = &too_long,

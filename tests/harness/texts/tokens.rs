@@ -21,7 +21,7 @@ const ELEVEN: &[&str] = &[" ", "\n", "\"", "(", ".", "!", ":", "a", "A", "1", "Ã
 #[rustfmt::skip]
 const THEMES: &[Theme] = &[
     Theme { name: "eleven characters", most: 6, pieces: ELEVEN },
-    Theme { name: "whitespace", most: 5, pieces: &[" ", "\t", "\n", "\r", "\u{b}", "\u{85}", "a", "A", ".", "\""] },
+    Theme { name: "whitespace", most: 5, pieces: &[" ", "\t", "\n", "\r", "\u{85}", "\u{a0}", "a", "A", ".", "\""] },
     Theme { name: "leading marks", most: 5, pieces: &["\"", "'", "`", "(", "{", "[", ")", ".", "a", " "] },
     Theme {
         name: "trailing marks",
