@@ -1,14 +1,14 @@
 -- Control bytes: what the code tests of a byte, and what a text without them is, byte by byte and character by character.
 -- Assumes nothing.
 use mathlib.Core.Path.{◌≡◌, refl, sym, ◌∙◌}
-use mathlib.Core.Bool.{Bool, true, false, cond, not, ◌&&◌, ◌||◌, or-false, and-true, and_assoc, and-eq-true_iff, false≢true, true≢false}
+use mathlib.Core.Bool.{Bool, true, false, cond, not, ◌&&◌, ◌||◌, or-false, and-true, and_assoc, and-eq-true_iff, false≢true}
 use mathlib.Core.List.{List, [], ◌∷◌, flatten}
-use Prim.Native.Nat.{ℕ, ◌+◌, ◌%◌, ◌/◌, ◌≤◌, ◌<◌}
+use Prim.Native.Nat.{ℕ, ◌+◌, ◌%◌, ◌/◌, ◌≤◌, ◌<◌, min, max}
 use native.Mathlib.Omega.{arith}
-use mathlib.Core.Logic.{inl, inr, ⊎_elim}
-use lib.Dec.{eqb}
-use borrow.Author.Tests.{lt-leb, ne_eqb, lt-ltb}
-use Rattle.std.specs.Prelude.{◌⊎◌, ℤ, pos, int_lt}
+use mathlib.Core.Logic.{⊎_elim}
+use lib.Dec.{eqb, ltb}
+use borrow.Author.Tests.{lt-leb, ne_eqb, lt-ltb, le-ltb, ltb-true, ltb-false}
+use Rattle.std.specs.Prelude.{ℤ, pos, int_lt}
 use Rattle.std.specs.List.{fold}
 use Rattle.std.proofs.Math.Bool.{or_assoc}
 use Rattle.std.specs.Int.{cast_signed, cast_unsigned, w8}
@@ -18,7 +18,7 @@ use Rattle.lists.proofs.Scan.{any_append}
 use Rattle.lists.proofs.Sets.{le_or_lt}
 use Rattle.lists.proofs.Table.{upto, below}
 use Rattle.admit.specs.Scalars.{low6, encode, text_of}
-use Rattle.admit.specs.Refusals.{control, has_control, ascii_text}
+use Rattle.admit.specs.Refusals.{control, has_control, ascii_text, control_rank}
 use Rattle.admit.proofs.Scalars.{encode_elim}
 
 -- ---- one byte
@@ -54,15 +54,19 @@ control_listed = same_tests control (one_of control_bytes) refl
 high_no_control : (b : ℕ) → 0x80 ≤ b → control b ≡ false
 high_no_control b h = rw (lt-leb b 0x1F (omega arith), ne_eqb b 0x7F (omega arith))
 
--- so a control byte is an ASCII byte that is no ASCII text
-pub control_tested : (b : ℕ) → (ascii b && not (ascii_text b)) ≡ control b
-control_tested b = go (control b) (ascii b) (⊎_elim (λ h. inl (high_no_control b h)) (λ h. inr (lt-ltb b 128 h)) (le_or_lt 0x80 b))
-  where
-    go : (c a : Bool) → (c ≡ false) ⊎ (a ≡ true) → (a && not (a && not c)) ≡ c
-    go true true h = refl
-    go true false h = absurd (⊎_elim true≢false false≢true h)
-    go false true h = refl
-    go false false h = refl
+-- the rank of a control byte alone is below the space
+rank_control : (b : ℕ) → ltb (control_rank b) 0x20 ≡ control b
+unfolding any
+rank_control b =
+    ⊎_elim (λ (h : 0x80 ≤ b). rw (
+      ne_eqb b 0x09 (omega arith),
+      ne_eqb b 0x0A (omega arith),
+      ne_eqb b 0x0D (omega arith),
+      ne_eqb b 0x7F (omega arith),
+      le-ltb b 0x20 (omega arith),
+      lt-leb b 0x1F (omega arith),
+    ) refl)
+    (λ (h : b < 0x80). same_tests (λ b. ltb (control_rank b) 0x20) control refl b (omega arith)) (le_or_lt 0x80 b)
 
 -- ---- whole texts
 
@@ -79,12 +83,35 @@ ascii_text_clear (b ∷ s) h =
     no_control true true h = absurd (false≢true h)
     no_control false true h = absurd (false≢true h)
 
--- a fold that joins two answers of each byte
-pub both_folded : (p q : ℕ → Bool) (f : Bool × Bool) (s : List ℕ)
-    → fold (λ f b. (f.0 && p b, f.1 || q b)) f s ≡ (f.0 && all p s, f.1 || any q s)
+-- the larger of two numbers is below n if both are, the smaller one if one of them is
+max_below : (a b n : ℕ) → ltb (max a b) n ≡ (ltb a n && ltb b n)
+max_below a b n = go (ltb a n) (ltb b n) refl refl
+  where
+    go : (p q : Bool) → ltb a n ≡ p → ltb b n ≡ q → ltb (max a b) n ≡ (p && q)
+    go true true e f = lt-ltb (max a b) n (omega (arith, ltb-true a n e, ltb-true b n f))
+    go true false e f = le-ltb (max a b) n (omega (arith, ltb-false b n f))
+    go false q e f = le-ltb (max a b) n (omega (arith, ltb-false a n e))
+
+min_below : (a b n : ℕ) → ltb (min a b) n ≡ (ltb a n || ltb b n)
+min_below a b n = go (ltb a n) (ltb b n) refl refl
+  where
+    go : (p q : Bool) → ltb a n ≡ p → ltb b n ≡ q → ltb (min a b) n ≡ (p || q)
+    go true q e f = lt-ltb (min a b) n (omega (arith, ltb-true a n e))
+    go false true e f = lt-ltb (min a b) n (omega (arith, ltb-true b n f))
+    go false false e f = le-ltb (min a b) n (omega (arith, ltb-false a n e, ltb-false b n f))
+
+-- what `survey` tests of the highest byte and the lowest rank
+abbrev pub tested : ℕ × ℕ → Bool × Bool
+tested f = (ltb f.0 0x80, ltb f.1 0x20)
+
+-- what it tests after more bytes
+pub survey_folded : (f : ℕ × ℕ) (s : List ℕ)
+    → tested (fold (λ f b. (max f.0 b, min f.1 (control_rank b))) f s) ≡ (ltb f.0 0x80 && all ascii s, ltb f.1 0x20 || has_control s)
 unfolding all any
-both_folded p q f [] = rw (and-true f.0, or-false f.1) refl
-both_folded p q f (b ∷ s) = both_folded p q (f.0 && p b, f.1 || q b) s ∙ rw (and_assoc f.0 (p b) (all p s), or_assoc f.1 (q b) (any q s)) refl
+survey_folded f [] = rw (and-true (ltb f.0 0x80), or-false (ltb f.1 0x20)) refl
+survey_folded f (b ∷ s) =
+    survey_folded (max f.0 b, min f.1 (control_rank b)) s
+    ∙ rw (max_below f.0 b 0x80, min_below f.1 (control_rank b) 0x20, rank_control b) (rw (and_assoc (ltb f.0 0x80) (ascii b) (all ascii s), or_assoc (ltb f.1 0x20) (control b) (any control s)) refl)
 
 -- the encoding of a character has a control byte exactly if the character is one
 encode_control : (c : ℕ) → has_control (encode c) ≡ control c

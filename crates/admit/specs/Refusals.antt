@@ -75,10 +75,6 @@ control b = (leb b 0x1F && not (one_of (0x09 ∷ 0x0A ∷ 0x0D ∷ []) b)) || eq
 abbrev pub has_control : List ℕ → Bool
 has_control s = any control s
 
--- ASCII, and no control byte
-abbrev pub ascii_text : ℕ → Bool
-ascii_text b = ascii b && not (control b)
-
 -- the tests of the texts that a call is given, one or several
 unfoldable pub text_tests : ℕ → List (List ℕ) → List Test
 text_tests limit texts =
@@ -90,6 +86,16 @@ text_tests limit texts =
 -- the number that a call answers if it is given one text and makes no other tests
 abbrev pub text_refusal : ℕ → List ℕ → ℕ
 text_refusal limit s = first_refusal (text_tests limit (s ∷ []))
+
+-- ---- no public promise is made of these
+
+-- ASCII, and no control byte
+abbrev pub ascii_text : ℕ → Bool
+ascii_text b = ascii b && not (control b)
+
+-- a number that is below the space exactly if b is a control byte
+abbrev pub control_rank : ℕ → ℕ
+control_rank b = cond (eqb b 0x09 || eqb b 0x0A || eqb b 0x0D) 0x20 (cond (eqb b 0x7F) 0 b)
 
 -- ---- what a call answers
 

@@ -5,7 +5,7 @@ ghost use Rattle.std.specs.Prelude.{◌≡◌};
 ghost use Rattle.lists.specs.Bytes.{all};
 ghost use Rattle.lists.specs.Classes.{ascii};
 ghost use Rattle.admit.specs.Utf8.{utf8};
-ghost use Rattle.admit.specs.Refusals.{refusal_number, answer_number, ascii_text, control, has_control, text_limit, text_refusal};
+ghost use Rattle.admit.specs.Refusals.{refusal_number, answer_number, ascii_text, control_rank, has_control, text_limit, text_refusal};
 
 use lists::{ByteClass, all};
 
@@ -49,13 +49,6 @@ fn is_ascii_text(b: u8) -> bool
     (0x20 < b.wrapping_add(1).cast_signed()) | (b == b'\t') | (b == b'\n') | (b == b'\r')
 }
 
-// Whether number 6 bars b.
-fn is_control(b: u8) -> bool
-    ensures { result ≡ control b }
-{
-    (b < 0x80) & !is_ascii_text(b)
-}
-
 #[derive(Clone, Copy)]
 struct AsciiText;
 
@@ -67,14 +60,28 @@ impl ByteClass for AsciiText {
     }
 }
 
-// Whether every byte is ASCII, and whether there is a control byte. The fold has no early exit, so that the compiler can test
-// many bytes at once.
+// A number that is below the space exactly if b is a control byte.
+fn control_rank(b: u8) -> u8
+    ensures { result ≡ control_rank b }
+{
+    if (b == b'\t') | (b == b'\n') | (b == b'\r') {
+        b' '
+    } else if b == 0x7F {
+        0
+    } else {
+        b
+    }
+}
+
+// Whether every byte is ASCII, and whether there is a control byte. The fold keeps two bytes and has no early exit, so that the
+// compiler can test many bytes at once.
 fn survey(s: &[u8]) -> (bool, bool)
     ensures { result ≡ (all ascii s.now, has_control s.now) }
 {
-    s.iter().fold((true, false), |(is_ascii, has_control), b| {
-        (is_ascii & (*b < 0x80), has_control | is_control(*b))
-    })
+    let (highest, lowest) = s.iter().fold((0, 0xFF), |(highest, lowest): (u8, u8), b| {
+        (highest.max(*b), lowest.min(control_rank(*b)))
+    });
+    (highest < 0x80, lowest < b' ')
 }
 
 // Whether s is UTF-8, if it is known whether it is ASCII. Most texts are, and the fast pass is enough for these.

@@ -41,7 +41,7 @@ entry_alone s old k t h l r =
       sym (ap (λ (c : Call EntryResult). c.value.words) q),
     )
 
--- the tests of a whole sheet's call run in the order of their numbers
+-- the tests of a whole sheet's call run in their order
 pub sheet_in_order : (s : List ℕ) (short : Bool) → in_order (sheet_tests s short) ≡ true
 unfolding text_tests
 sheet_in_order s short = refl

@@ -1,6 +1,6 @@
 // The classes of bytes. A scan is compiled for each class alone.
 ghost use Rattle.std.specs.Prelude.{◌≡◌, ℕ, Bool, not};
-ghost use Rattle.lists.specs.Classes.{ascii, digit, letter, digit_or_comma, digit_or_dash, roman_tail, colon_or_point, letter_e, continuation, whitespace, prepunctuation_mark, postpunctuation_mark, only};
+ghost use Rattle.lists.specs.Classes.{digit, letter, digit_or_comma, digit_or_dash, roman_tail, colon_or_point, letter_e, continuation, whitespace, prepunctuation_mark, postpunctuation_mark, only};
 
 // A set of bytes.
 pub trait ByteClass: Copy {
@@ -8,18 +8,6 @@ pub trait ByteClass: Copy {
 
     fn contains(self, b: u8) -> bool
         ensures { result ≡ contains self b };
-}
-
-// A byte that is a character by itself.
-#[derive(Clone, Copy)]
-pub struct Ascii;
-
-impl ByteClass for Ascii {
-    ghost contains = { λ _. ascii };
-
-    fn contains(self, b: u8) -> bool {
-        b.is_ascii()
-    }
 }
 
 // 0 to 9.

@@ -10,8 +10,8 @@ ghost use Rattle.std.proofs.lemmas.List.Edits.{sets};
 ghost use Rattle.lists.specs.Bytes.{all, span, around, count_if, after_last, same, same_by, to_lower, starts_with, ends_with, strip_prefix, strip_suffix, ends_with_by};
 
 pub use class::{
-    Ascii, Byte, ByteClass, ColonOrPoint, Continuation, Digit, DigitOrComma, DigitOrDash, Letter,
-    LetterE, Not, Postpunctuation, Prepunctuation, RomanTail, Whitespace,
+    Byte, ByteClass, ColonOrPoint, Continuation, Digit, DigitOrComma, DigitOrDash, Letter, LetterE,
+    Not, Postpunctuation, Prepunctuation, RomanTail, Whitespace,
 };
 
 // The byte at i, or 0 past the end. It is no Option: past the end each caller goes on with a 0, and would write this `unwrap_or`.

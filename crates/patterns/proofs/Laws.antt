@@ -2,7 +2,7 @@
 use mathlib.Core.Path.{◌≡◌, refl, sym, ◌∙◌}
 use Rattle.std.specs.Prelude.{Some, None}
 use mathlib.Core.Bool.{Bool, true, false, cond}
-use mathlib.Core.List.{List, [], ◌∷◌, ◌++◌}
+use mathlib.Core.List.{List, [], ◌∷◌}
 use Prim.Native.Nat.{ℕ, ◌-◌, ◌≤◌}
 use native.Mathlib.Omega.{arith}
 use lib.Dec.{ltb}
@@ -16,7 +16,7 @@ use Rattle.units.specs.Units.{unit_index, unit_row, unit_word, word_numbers}
 use Rattle.units.proofs.Laws.{row_some, row_word, row_none, unit_in_table, miss_word}
 use Rattle.shapes.specs.Shapes.{unit_at, has_unit, split_unit, unit_part}
 use Rattle.shapes.proofs.Laws.{unit_some, split_unit_some, split_unit_none}
-use Rattle.patterns.specs.Calls.{no_part, unit_found, store_tests, store_call, unit_word_call}
+use Rattle.patterns.specs.Calls.{no_part, unit_found, store_tests, unit_word_tests, store_call, unit_word_call}
 
 -- if there is no unit, none is found
 pub unit_none : (s : List ℕ) → None ≡ split_unit s → no_part ≡ unit_found s
@@ -53,8 +53,8 @@ unit_le s = go (has_unit s)
     go true = simp length-drop (omega arith)
     go false = omega arith
 
--- the tests of unit_word run in the order of their numbers
-pub unit_word_in_order : (s store : List ℕ) → in_order (text_tests text_limit (s ∷ []) ++ store_tests (unit_word s) store) ≡ true
+-- the tests of unit_word run in their order
+pub unit_word_in_order : (s store : List ℕ) → in_order (unit_word_tests s store) ≡ true
 unfolding text_tests
 unit_word_in_order s store = refl
 

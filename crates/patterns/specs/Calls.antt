@@ -75,11 +75,14 @@ as_unit_word r store = answered (word_in_store None store) (λ w. word_in_store 
 abbrev pub store_tests : List ℕ → List ℕ → List Test
 store_tests word store = BufferTooShort when ltb (length store) (length word) ∷ []
 
--- unit_word: the tests of its text, and then of the store
+-- the tests of unit_word: of its text, and then of the store
+abbrev pub unit_word_tests : List ℕ → List ℕ → List Test
+unit_word_tests s store = text_tests text_limit (s ∷ []) ++ store_tests (unit_word s) store
+
 abbrev pub unit_word_call : List ℕ → List ℕ → Call UnitWordResult
 unit_word_call s store =
     call (record { found = false; size = 0; store = store })
-    (first_refusal (text_tests text_limit (s ∷ []) ++ store_tests (unit_word s) store))
+    (first_refusal (unit_word_tests s store))
     (record { found = is_unit s; size = length (unit_word s); store = overwrite (unit_word s) store })
 
 -- ---- no public promise is made of these

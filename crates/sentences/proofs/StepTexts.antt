@@ -84,7 +84,7 @@ two_fold n ((r, (false, true)) ∷ tests) h = smaller_right (refusal_number r) _
 two_fold n ((r, (false, false)) ∷ tests) h = two_fold (refusal_number r) tests h.1
 
 -- what some texts and others are refused for, by what each are
-texts_append : (limit : ℕ) (ss ts : List (List ℕ))
+pub texts_append : (limit : ℕ) (ss ts : List (List ℕ))
     → first_refusal (text_tests limit (ss ++ ts)) ≡ smaller_refusal (first_refusal (text_tests limit ss)) (first_refusal (text_tests limit ts))
 unfolding text_tests
 texts_append limit ss ts =

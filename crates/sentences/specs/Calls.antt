@@ -19,12 +19,6 @@ start_bytes s = flags (sentence_starts (tokens s))
 abbrev pub step_tests : List ℕ → List ℕ → List ℕ → List Test
 step_tests whitespace name punctuation = text_tests text_limit (whitespace ∷ name ∷ punctuation ∷ [])
 
--- the smaller number of two texts, of which one may be accepted or both
-abbrev pub smaller_refusal : ℕ → ℕ → ℕ
-smaller_refusal zero m = m
-smaller_refusal (suc n) zero = suc n
-smaller_refusal (suc n) (suc m) = min (suc n) (suc m)
-
 -- whether a sentence ends before the token, and the state after it
 pub record StepResult : Type 0 where
   pub breaks : Bool
@@ -41,3 +35,11 @@ step_call s whitespace name punctuation =
 abbrev pub as_step : Result Step RefusedStep → Call StepResult
 as_step (Ok t) = record { refusal = 0; value = record { breaks = t.breaks; state = t.state } }
 as_step (Err r) = record { refusal = refusal_number r.refusal; value = record { breaks = false; state = r.state } }
+
+-- ---- no public promise is made of this
+
+-- the smaller number of two texts, of which one may be accepted or both
+abbrev pub smaller_refusal : ℕ → ℕ → ℕ
+smaller_refusal zero m = m
+smaller_refusal (suc n) zero = suc n
+smaller_refusal (suc n) (suc m) = min (suc n) (suc m)

@@ -181,15 +181,15 @@ fn is_sentence_break(state: State, whitespace: &[u8], name: &[u8]) -> bool
     !state.looks_like_abbreviation()
 }
 
-// What two texts are answered together, by what each is answered alone: of several texts the first test in the order wins,
-// whichever text earns it. The tests of a text are in the order of their numbers.
+// The refusal of two texts together, from that of each: the first test in the order wins, whichever text earns it. The numbers of
+// a text's tests ascend in that order, so it is the smaller one.
 fn first_refused(a: Result<(), Refusal>, b: Result<(), Refusal>) -> Result<(), Refusal>
     ensures { answer_number result ≡ smaller_refusal (answer_number a) (answer_number b) }
 {
     match (a, b) {
         (Ok(()), _) => b,
-        (_, Ok(())) => a,
-        (Err(x), Err(y)) => { if u8::from(y) < u8::from(x) { b } else { a } }
+        (Err(x), Err(y)) if u8::from(y) < u8::from(x) => b,
+        _ => a,
     }
 }
 

@@ -30,7 +30,7 @@ records_fit len n =
 pub records_short : (s old : List ℕ) → ltb (length old) (length (records 0 (tokens s))) ≡ ltb (length old / record_size) (length (tokens s))
 records_short s old = rw (records_length 0 (tokens s)) (records_fit (length old) (length (tokens s)))
 
--- the tests of such a call run in the order of their numbers
+-- the tests of such a call run in their order
 pub tokens_call_in_order : (s result old : List ℕ) → in_order (tokens_tests s result old) ≡ true
 unfolding text_tests
 tokens_call_in_order s result old = refl

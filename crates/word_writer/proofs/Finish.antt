@@ -139,7 +139,7 @@ measured ws a b ha hb {x} {y} {p} {q} start said =
 pub long_enough : (ws : List (List ℕ)) (a b : ℕ) → length (flatten ws) ≤ a → pair_size * length ws ≤ b → too_short_for (length (flatten ws)) (length ws) a b ≡ false
 long_enough ws a b h k = rw (le-ltb a (length (flatten ws)) h, le-ltb b (pair_size * length ws) k)
 
--- the tests of a call that gives words run in the order of their numbers
+-- the tests of a call that gives words run in their order
 pub words_in_order : (s : List ℕ) (ws : List (List ℕ)) (st tb : List ℕ) → in_order (words_tests s ws st tb) ≡ true
 unfolding text_tests
 words_in_order s ws st tb = refl
