@@ -87,16 +87,6 @@ text_tests limit texts =
 abbrev pub text_refusal : ℕ → List ℕ → ℕ
 text_refusal limit s = first_refusal (text_tests limit (s ∷ []))
 
--- ---- no public promise is made of these
-
--- ASCII, and no control byte
-abbrev pub ascii_text : ℕ → Bool
-ascii_text b = ascii b && not (control b)
-
--- a number that is below the space exactly if b is a control byte
-abbrev pub control_rank : ℕ → ℕ
-control_rank b = cond (eqb b 0x09 || eqb b 0x0A || eqb b 0x0D) 0x20 (cond (eqb b 0x7F) 0 b)
-
 -- ---- what a call answers
 
 -- its number, and its values, which include the final bytes of the buffers
@@ -114,3 +104,13 @@ call nothing (suc n) given = record { refusal = suc n; value = nothing }
 abbrev pub answered : {A B : Type 0} → B → (A → B) → Result A Refusal → Call B
 answered nothing given (Ok a) = record { refusal = 0; value = given a }
 answered nothing given (Err r) = record { refusal = refusal_number r; value = nothing }
+
+-- ---- no public promise is made of these
+
+-- ASCII, and no control byte
+abbrev pub ascii_text : ℕ → Bool
+ascii_text b = ascii b && not (control b)
+
+-- a number that is below the space exactly if b is a control byte
+abbrev pub control_rank : ℕ → ℕ
+control_rank b = cond (eqb b 0x09 || eqb b 0x0A || eqb b 0x0D) 0x20 (cond (eqb b 0x7F) 0 b)
