@@ -231,10 +231,8 @@ impl<'a> Entries<'a> {
                 tokens,
                 state: State::kept(last.name, last.punctuation),
             },
-            None => Entries {
-                tokens,
-                state: State::fresh(),
-            },
+            // What is left in `tokens` is whitespace, which need not be read again.
+            None => Entries::new(&[]),
         }
     }
 }
