@@ -38,7 +38,7 @@ pub struct Lent<'a> {
 #[derive(Clone, Copy, Debug, PartialEq, Eq)]
 pub struct Left {
     // Whether the room was too short for the bytes.
-    is_short: bool,
+    pub is_short: bool,
     is_unwritten: bool,
     has_just_its_bytes: bool,
 }
@@ -64,12 +64,6 @@ impl Room {
 }
 
 impl Left {
-    pub fn is_short(self) -> bool
-        ensures { result ≡ self.is_short }
-    {
-        self.is_short
-    }
-
     // Whether the buffer is as it is to be if no other is too short.
     pub fn is_right(self) -> bool
         ensures { result ≡ (if self.is_short then self.is_unwritten else self.has_just_its_bytes) }

@@ -31,7 +31,8 @@ impl Rounds {
     }
 
     fn reading(self, alloc: Global) -> Result<Reading, LineError> {
-        let mut words = Words::new(alloc);
+        let longest = self.each.len().max(self.last.len());
+        let mut words = Words::with_capacity(alloc, self.count.saturating_mul(longest), LIMIT)?;
         for _ in 1..self.count {
             words.put(self.each)?;
         }

@@ -34,6 +34,14 @@ impl Words {
         }
     }
 
+    // Room for so many bytes and words. Buffers that grow word by word would for a while take twice as much.
+    pub fn with_capacity(alloc: Global, bytes: usize, words: usize) -> Result<Words, LineError> {
+        Ok(Words {
+            store: Vec::with_capacity(alloc, bytes)?,
+            table: Vec::with_capacity(alloc, words.saturating_mul(PAIR_SIZE))?,
+        })
+    }
+
     // The words of a field. If no hex pair follows a backslash, they are as many words that no call writes, of as many bytes.
     pub fn parse(alloc: Global, field: &[u8]) -> Result<Words, LineError> {
         let mut words = Words::new(alloc);

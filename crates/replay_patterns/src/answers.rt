@@ -128,7 +128,7 @@ fn compare_word_in(line: &Line, room: Room) -> Report<Compared> {
     };
     let answer = patterns::unit_word(line.head.text.as_slice(), lent.front(room));
     let left = lent.left(room);
-    let (refusal, expected) = if left.is_short() {
+    let (refusal, expected) = if left.is_short {
         (TOO_SHORT, NO_WORD)
     } else {
         (line.head.refusal, line.word_len)
