@@ -8,9 +8,10 @@ use lib.ListN.{length, set}
 use lib.Seq.{sets}
 use lib.Dec.{eqb}
 use Rattle.std.specs.Int.{from_bool}
+use Rattle.std.specs.List.{list_any}
 use Rattle.std.specs.Prelude.{Some}
 use Rattle.std.specs.Iterator.{YieldsFirstBy}
-use Rattle.lists.specs.Bytes.{elem}
+use Rattle.lists.specs.Bytes.{any, elem}
 use Rattle.tokens.specs.Tokens.{Token, tokens}
 use Rattle.tokens.specs.Left.{parts_of, tokens_left}
 use Rattle.tokens.specs.declared.Token.{Token as Parts}
@@ -26,6 +27,12 @@ use Rattle.sentences.proofs.Starts.{starts_each}
 pub flag_byte : (b : Bool) → from_bool b ≡ flag b
 flag_byte true = refl
 flag_byte false = refl
+
+-- whether a byte stands in a text
+pub contains_is : (c : ℕ) (s : List ℕ) → list_any (λ b. eqb b c) s ≡ elem c s
+unfolding any
+contains_is c [] = refl
+contains_is c (b ∷ s) = ap (λ r. eqb b c || r) (contains_is c s)
 
 -- an entry for each token
 pub entries_length : (s : State) (ts : List Token) → length (entries_after s ts) ≡ length ts

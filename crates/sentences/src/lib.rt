@@ -17,6 +17,9 @@ use lists::{Byte, Not, byte_at, count, equal_lowered, span};
 use std::array;
 use tokens::{Tokens, has_more_tokens};
 
+// Up to so many bytes of punctuation are scanned one by one.
+const FEW_MARKS: usize = 8;
+
 // What is kept of the last token: its name's length, first five bytes (0 past its end) and last byte (0 if it is empty), and
 // whether its punctuation has each of . : ? and !. The five bytes are an array and no slice, because C keeps a state longer than
 // the text. The five flags `point` to `fresh` are 0 for no and any other byte for yes. They are no `bool`, because C hands a
@@ -69,11 +72,15 @@ fn is_set(b: u8) -> bool
     b != 0
 }
 
-// Whether the byte c stands in s, as a flag. By a scan: the library's `contains` is a call, and punctuation is short.
+// Whether the byte c stands in s, as a flag. The library's `contains` is a call, which costs more than it saves on the few marks
+// that most tokens have.
 fn contains_flag(s: &[u8], c: u8) -> u8
     ensures { result ≡ flag (elem c s.now) }
 {
-    u8::from(span(s, Not(Byte(c))) < s.len())
+    if s.len() <= FEW_MARKS {
+        return u8::from(span(s, Not(Byte(c))) < s.len());
+    }
+    u8::from(s.contains(&c))
 }
 
 fn head_of(s: &[u8]) -> [u8; 5]
