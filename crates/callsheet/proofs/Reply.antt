@@ -2,17 +2,21 @@
 -- Assumes nothing.
 use mathlib.Core.Path.{◌≡◌, refl, sym, ap, ◌∙◌}
 use mathlib.Core.Bool.{false}
-use mathlib.Core.List.{List}
-use Prim.Native.Nat.{ℕ, zero, suc, ◌+◌, ◌*◌, ◌≤◌}
+use mathlib.Core.Logic.{◌⊎◌, ⊎_elim}
+use mathlib.Core.List.{List, ◌∷◌, ◌++◌}
+use Prim.Native.Nat.{ℕ, zero, suc, ◌+◌, ◌*◌, ◌≤◌, ◌<◌}
 use native.Mathlib.Omega.{arith}
+use Prim.Native.Char.{code}
 use lib.Dec.{ltb}
 use lib.ListN.{length, take}
 use borrow.Author.Tests.{le-ltb}
 use Rattle.std.specs.Prelude.{Result, Ok, Err}
-use Rattle.lists.specs.Bytes.{overwrite}
+use Rattle.std.proofs.lemmas.Fmt.{decimal_digit}
+use Rattle.lists.specs.Bytes.{bytes, overwrite}
 use Rattle.lists.proofs.Sets.{overwrite_past}
 use Rattle.admit.specs.Refusals.{refusal_number, first_refusal, Call, call}
 use Rattle.admit.specs.declared.Refusal.{Refusal}
+use Rattle.admit.specs.declared.Refusal.TheVariants.{NotUtf8, ControlByte}
 use Rattle.admit.proofs.Calls.{numbered}
 use Rattle.call_spec.specs.Sheet.{call_sheet}
 use Rattle.call_spec.specs.Calls.{sheet_tests, SheetResult, sheet_call}
@@ -20,6 +24,13 @@ use Rattle.calls.specs.Answers.{as_sheet}
 use Rattle.calls.specs.declared.CalledSheet.{CalledSheet}
 use Rattle.calls.proofs.Room.{sheet_room}
 use Rattle.callsheet.specs.Reply.{refused_line, reply_with, reply}
+
+-- the number of the two refusals is one digit
+pub refused_digit : {r : Refusal} → (r ≡ NotUtf8) ⊎ (r ≡ ControlByte)
+    → bytes "refused " ++ ((code "0" + refusal_number r) ∷ bytes "\n") ≡ refused_line (refusal_number r)
+refused_digit {r} r_is =
+    let below : refusal_number r < 10 = ⊎_elim (λ e. rw e (omega arith)) (λ e. rw e (omega arith)) r_is in
+    rw (decimal_digit (refusal_number r) below)
 
 -- what the program writes after an answer of the call, which left the buffer so
 abbrev pub written : Result CalledSheet Refusal → List ℕ → List ℕ

@@ -20,7 +20,10 @@ fn write_refusal<W: Write>(output: &mut W, refusal: Refusal) -> io::Result<()>
     ensures { OnOk result (Appends (W.contents output.old) (W.contents output.new) (refused_line (refusal_number refusal))) }
 {
     let number = u8::from(refusal);
-    writeln!(output, "refused {number}")
+    // `writeln!` would write the line in three parts, and who reads it or writes beside it could come between them.
+    let mut line = *b"refused 0\n";
+    line[8] += number;
+    output.write_all(&line)
 }
 
 // The buffer has room for the call sheet, whatever the sheet.

@@ -61,6 +61,7 @@ fn read_before_percents(name: &[u8], percents: usize, out: &mut Writer) -> Row
 
 // The entry reader: says a name, from row 1 on, and the percent signs after it.
 #[cycle(readers)]
+#[inline(always)]
 fn read_entry(name: &[u8], percents: usize, out: &mut Writer) -> Row
     requires { percents + length name.now ≤ usize_max }
     ensures { Reads (with_percents (read name.now) percents) out.old out.new result }
@@ -74,8 +75,10 @@ fn read_entry(name: &[u8], percents: usize, out: &mut Writer) -> Row
     read_before_percents(name, percents, out)
 }
 
-// The percent reader, row 10: what stands before the sign is read again, and one more sign is said after it.
+// The percent reader, row 10: what stands before the sign is read again, and one more sign is said after it. It is not inlined:
+// then the entry reader is inlined here, and the compiler makes a loop of the calls on what stands before each sign.
 #[cycle(readers)]
+#[inline(never)]
 fn read_percent(name: &[u8], percents: usize, out: &mut Writer) -> Row
     requires { (percents + length name.now ≤ usize_max) × (1 ≤ length name.now) }
     ensures { Reads (by Row.Percent ((read (take (length name.now - 1) name.now)).words ++ per_cents (percents + 1)))

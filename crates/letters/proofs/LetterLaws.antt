@@ -72,8 +72,8 @@ says_a (b ∷ []) n a d = rw (eq-eqb (to_lower b) (code "a") a) d
 says_a (b ∷ e ∷ s) n a d = absurd (omega arith)
 
 -- of any other character of one byte
-pub says_byte : (c : List ℕ) {p q : Writer} → length c ≡ 1 → (to_lower (get_or c 0 0) ≡ code "a" → ⊥) → Says (map to_lower c ∷ []) p q
-    → Says (letter_word c ∷ []) p q
+pub says_byte : (c : List ℕ) {p q : Writer} → length c ≡ 1 → (to_lower (get_or c 0 0) ≡ code "a" → ⊥)
+    → Says ((to_lower (get_or c 0 0) ∷ []) ∷ []) p q → Says (letter_word c ∷ []) p q
 unfolding letter_word
 says_byte [] n a d = absurd (omega arith)
 says_byte (b ∷ []) n a d = rw (ne_eqb (to_lower b) (code "a") a) d

@@ -20,12 +20,13 @@ fn split_first_char(s: &[u8]) -> (&[u8], &[u8])
 }
 
 // Says the word of a character.
+#[inline(always)]
 pub fn say_letter(c: &[u8], out: &mut Writer)
     ensures { Says (letter_word c.now ∷ []) out.old out.new }
 {
     match c {
         [b'a' | b'A'] => out.put_word(b"_a"),
-        [_] => out.put_word_lowered(c),
+        [b] => out.put_word(&[b.to_ascii_lowercase()]),
         _ => out.put_word(c),
     }
 }

@@ -191,6 +191,14 @@ span_short p (b ∷ s) h = go (p b) h (span_short p s)
     go true h i = let k = i h in omega arith
     go false h i = omega arith
 
+-- if a scan goes to the end, all bytes pass
+pub span_full : (p : ℕ → Bool) (s : List ℕ) → length s ≤ span p s → all p s ≡ true
+span_full p s h = go (all p s) refl
+  where
+    go : (t : Bool) → all p s ≡ t → all p s ≡ true
+    go true e = e
+    go false e = let k : span p s < length s = span_short p s e in absurd (omega arith)
+
 -- a scan that stops before the end stops at a byte that fails
 pub span_fails : (p : ℕ → Bool) (s : List ℕ) → span p s < length s → p (get_or s (span p s) 0) ≡ false
 unfolding span
@@ -318,7 +326,7 @@ one_of_all q (c ∷ cs) h b e =
     let k = (and-eq-true_iff (q c) (all q cs)).0 h in
     or_true_elim (eqb b c) (one_of cs b) (λ f. rw (eqb-true b c f) k.0) (one_of_all q cs k.1 b) e
 
--- the bytes listed, tested from the left, as the code does
+-- the bytes listed, tested from the left, as the code of a class does
 abbrev found_in : Bool → List ℕ → ℕ → Bool
 found_in found [] b = found
 found_in found (c ∷ cs) b = found_in (found || eqb b c) cs b
@@ -327,3 +335,7 @@ found_left : (t : Bool) (cs : List ℕ) (b : ℕ) → found_in t cs b ≡ t || o
 unfolding any
 found_left t [] b = sym (or-false t)
 found_left t (c ∷ cs) b = rw (found_left (t || eqb b c) cs b) (or_assoc t (eqb b c) (one_of cs b))
+
+-- these tests find the bytes that `one_of` finds
+pub from_left : (cs : List ℕ) (b : ℕ) → found_in false cs b ≡ one_of cs b
+from_left cs b = found_left false cs b

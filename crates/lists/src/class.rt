@@ -119,7 +119,7 @@ impl ByteClass for Whitespace {
     }
 }
 
-// A leading mark of a token.
+// A leading mark of a token. No `matches!` here and below: of a long one the compiler makes a chain of jumps.
 #[derive(Clone, Copy)]
 pub struct Prepunctuation;
 
@@ -128,7 +128,7 @@ impl ByteClass for Prepunctuation {
 
     #[tactic(auto, unfolding(crate::specs::Bytes::any))]
     fn contains(self, b: u8) -> bool {
-        matches!(b, b'"' | b'\'' | b'`' | b'(' | b'{' | b'[')
+        (b == b'"') | (b == b'\'') | (b == b'`') | (b == b'(') | (b == b'{') | (b == b'[')
     }
 }
 
@@ -141,23 +141,21 @@ impl ByteClass for Postpunctuation {
 
     #[tactic(auto, unfolding(crate::specs::Bytes::any))]
     fn contains(self, b: u8) -> bool {
-        matches!(
-            b,
-            b'"' | b'\''
-                | b'`'
-                | b'.'
-                | b','
-                | b':'
-                | b';'
-                | b'!'
-                | b'?'
-                | b'('
-                | b')'
-                | b'{'
-                | b'}'
-                | b'['
-                | b']'
-        )
+        (b == b'"')
+            | (b == b'\'')
+            | (b == b'`')
+            | (b == b'.')
+            | (b == b',')
+            | (b == b':')
+            | (b == b';')
+            | (b == b'!')
+            | (b == b'?')
+            | (b == b'(')
+            | (b == b')')
+            | (b == b'{')
+            | (b == b'}')
+            | (b == b'[')
+            | (b == b']')
     }
 }
 

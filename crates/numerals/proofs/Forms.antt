@@ -22,6 +22,11 @@ pub spell_number : (w : Word) → NumberWord w → spell w ≡ word_of (number_o
 unfolding number_words consecutive_words spell number_of unfold_vocabulary
 spell_number = number_word_same spell (λ w. word_of (number_of w)) refl
 
+-- no word of a number has the number 0, which is that of a unit's word
+pub number_some : (w : Word) → NumberWord w → 0 < number_of w
+unfolding number_words consecutive_words number_of all
+number_some w n = ltb-true 0 (number_of w) (number_word_test (λ w. ltb 0 (number_of w)) refl w n)
+
 -- what the code does to the number of the last word is what `ordinal` does to its spelling
 pub form_number : (w : Word) → NumberWord w → ordinal_form (spell w) ≡ word_of (ordinal_number (Some (number_of w)))
 unfolding number_words consecutive_words spell number_of unfold_vocabulary ordinal_form form_in ordinal_number

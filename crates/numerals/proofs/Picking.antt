@@ -1,5 +1,5 @@
 -- The values of a text's first twelve digits. Assumes nothing.
-use mathlib.Core.Path.{◌≡◌, refl, ap, ◌∙◌}
+use mathlib.Core.Path.{◌≡◌, refl, sym, ap, ◌∙◌}
 use mathlib.Core.List.{List, [], ◌∷◌, ◌++◌, append-nil}
 use Prim.Native.Nat.{ℕ, zero, suc, ◌+◌, ◌≤◌, ◌<◌, zero-le}
 use native.Mathlib.Numerals.{add-one}
@@ -9,7 +9,7 @@ use lib.Seq.{take-suc}
 use Rattle.lists.specs.Bytes.{filter_if}
 use Rattle.numerals.specs.Cardinal.{digit_values, digit_value}
 use Rattle.numerals.specs.Walk.{BelowTen}
-use Rattle.numerals.specs.FirstDigits.{padded, HasDigitsOf}
+use Rattle.numerals.specs.FirstDigits.{padded, HasDigitsOf, HasTwelveOf}
 use Rattle.numerals.specs.declared.digit_values.FirstDigits.{FirstDigits}
 use Rattle.numerals.proofs.NumberWords.{digit_values_below_ten}
 use Rattle.numerals.proofs.Digits.{digit_values_append, digit_values_at, digit_values_digit}
@@ -27,6 +27,13 @@ unfolding padded
 padded_snoc zero ds v = refl
 padded_snoc (suc k) [] v = refl
 padded_snoc (suc k) (d ∷ ds) v = ap (λ (r : List ℕ). d ∷ r) (padded_snoc k ds v)
+
+-- values after the first k are left out
+padded_more : (k : ℕ) (ds r : List ℕ) → k ≤ length ds → padded k (ds ++ r) ≡ padded k ds
+unfolding padded
+padded_more zero ds r h = refl
+padded_more (suc k) [] r h = absurd (omega arith)
+padded_more (suc k) (d ∷ ds) r h = ap (λ (t : List ℕ). d ∷ t) (padded_more k ds r (omega arith))
 
 -- values below ten stay so
 padded_below_ten : (k : ℕ) (ds : List ℕ) → BelowTen ds → BelowTen (padded k ds)
@@ -72,14 +79,22 @@ module _ (s d : List ℕ) (n i : ℕ) (h : i < length s) (p : PickedDigits s d n
           values = rw (e, p.values, p.count) (padded_snoc 12 (digit_values (take i s)) b);
         }
 
-    -- a digit after twelve others: there are more than twelve
-    pub pick_beyond : n ≡ 12 → 12 < length (digit_values s)
-    pick_beyond k =
+    -- the digits of the text: those picked, this one, and those after it
+    with_next : digit_values s ≡ digit_values (take i s) ++ (b ∷ digit_values (drop (i + 1) s))
+    with_next =
+        let whole = digit_values_append (take i s) (drop i s) in
+        rw (take-append-drop i s, digit_values_at s i h, digit_values_digit (get_or s i 0) v u) at whole
+
+    -- a digit after twelve others: there are more than twelve, and those picked are the first
+    pub pick_beyond : n ≡ 12 → {f : FirstDigits} → f.values ≡ d → f.count ≡ n → HasTwelveOf s f
+    pick_beyond k x y =
         let ds = digit_values (take i s) in
-        let r = digit_values (drop (i + 1) s) in
-        let e : digit_values s ≡ ds ++ (b ∷ r) =
-        rw (take-append-drop i s, digit_values_at s i h, digit_values_digit (get_or s i 0) v u) at (digit_values_append (take i s) (drop i s)) in
-        omega (arith, ap length e, length-append ds (b ∷ r), p.count)
+        let r = b ∷ digit_values (drop (i + 1) s) in
+        record {
+          more = omega (arith, ap length with_next, length-append ds r, p.count);
+          values = rw (x, p.values, with_next) (sym (padded_more 12 ds r (omega (arith, p.count))));
+          count = y ∙ k;
+        }
 
 -- each value is below ten
 pub picked_below_ten : (s d : List ℕ) (n i : ℕ) → PickedDigits s d n i → BelowTen d

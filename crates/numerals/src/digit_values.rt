@@ -48,7 +48,7 @@ impl<'a> DigitValues<'a> {
     }
 }
 
-// The values of the digits of a text that has at most twelve, and how many there are. A 0 stands for each that is missing, since
+// The values of the first digits of a text, at most twelve, and how many these are. A 0 stands for each that is missing, since
 // there is no heap.
 #[derive(Clone, Copy)]
 pub struct FirstDigits {
@@ -61,9 +61,9 @@ pub struct FirstDigits {
 impl FirstDigits {
     ghost use Rattle.numerals.specs.FirstDigits.{AreFirstDigits};
 
-    // The digits of s, if it has at most twelve.
+    // All digits of s if it has at most twelve, and else, as Err, the first twelve.
     // Counted by hand: no contract says what `iter_mut` leaves in an array, `enumerate` gives no count, `count` reads s twice.
-    pub fn of(s: &[u8]) -> Option<FirstDigits>
+    pub fn of(s: &[u8]) -> Result<FirstDigits, FirstDigits>
         ensures { AreFirstDigits s.now result }
     {
         let mut values = [0u8; 12];
@@ -71,13 +71,13 @@ impl FirstDigits {
         for &b in s {
             if b.is_ascii_digit() {
                 if count == MAX_CARDINAL_DIGITS {
-                    return None;
+                    return Err(FirstDigits { values, count });
                 }
                 values[count] = b - b'0';
                 count += 1;
             }
         }
-        Some(FirstDigits { values, count })
+        Ok(FirstDigits { values, count })
     }
 
     pub fn digits(&self) -> DigitValues<'_>

@@ -72,8 +72,8 @@ pub fn say_cardinal(s: &[u8], out: &mut Writer)
     ensures { Says (spelled (cardinal s.now)) out.old out.new }
 {
     match FirstDigits::of(s) {
-        Some(digits) => say_short_cardinal(digits.digits(), out),
-        None => say_digits(s, out),
+        Ok(digits) => say_short_cardinal(digits.digits(), out),
+        Err(_) => say_digits(s, out),
     }
 }
 
@@ -92,7 +92,7 @@ fn say_long_ordinal(s: &[u8], out: &mut Writer)
 pub fn say_ordinal(s: &[u8], out: &mut Writer)
     ensures { Says (spelled (ordinal s.now)) out.old out.new }
 {
-    let Some(digits) = FirstDigits::of(s) else {
+    let Ok(digits) = FirstDigits::of(s) else {
         return say_long_ordinal(s, out);
     };
     let mut held = Held::none();

@@ -8,7 +8,8 @@ ghost use Rattle.numerals.specs.Cardinal.{digit_value, digits};
 use vocabulary::{ONES, word};
 use word_writer::Writer;
 
-// Says word number k of the vocabulary.
+// Says word number k of the vocabulary. Not inlined, so that `put_word` stands here once for all words of unknown length.
+#[inline(never)]
 pub fn say(k: usize, out: &mut Writer)
     ensures { Says (word_of k ∷ []) out.old out.new }
 {

@@ -1,5 +1,5 @@
 // A lent buffer: what fills it before a call, how much of it is lent, and what the call leaves in it.
-ghost use Rattle.std.specs.Prelude.{◌≡◌, ◌≢◌, ◌↔◌, ◌<◌, ◌++◌, ℕ, List, length, All, Any, Err, IsTrue, OnOk};
+ghost use Rattle.std.specs.Prelude.{◌≡◌, ◌≢◌, ◌↔◌, ◌<◌, ◌++◌, ℕ, List, length, All, Any, Err, IsTrue, OnOk, if◌then◌else◌};
 ghost use Rattle.std.specs.Int.{to_le_bytes, w32};
 
 use crate::fields::{Answer, LineError};
@@ -8,6 +8,9 @@ use admit::Refusal;
 
 // What fills a buffer before a call.
 pub const GUARD: u8 = 0xA5;
+
+// The refusal of a call whose buffer is too short, where refusals are compared by themselves.
+pub const TOO_SHORT: Option<Refusal> = Some(Refusal::BufferTooShort);
 
 // How much of a buffer a call is lent.
 #[derive(Clone, Copy, Debug, PartialEq, Eq)]
@@ -35,7 +38,7 @@ pub struct Lent<'a> {
 #[derive(Clone, Copy, Debug, PartialEq, Eq)]
 pub struct Left {
     // Whether the room was too short for the bytes.
-    is_short: bool,
+    pub is_short: bool,
     is_unwritten: bool,
     has_just_its_bytes: bool,
 }
@@ -57,6 +60,19 @@ impl Room {
         ensures { IsTrue result ↔ ((self ≡ Room.Short) × (needed ≢ 0)) }
     {
         self == Room::Short && needed != 0
+    }
+}
+
+impl Left {
+    // Whether the buffer is as it is to be if no other is too short.
+    pub fn is_right(self) -> bool
+        ensures { result ≡ (if self.is_short then self.is_unwritten else self.has_just_its_bytes) }
+    {
+        if self.is_short {
+            self.is_unwritten
+        } else {
+            self.has_just_its_bytes
+        }
     }
 }
 

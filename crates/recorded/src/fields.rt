@@ -1,5 +1,5 @@
 // A line of a file: its fields, numbers and hex.
-ghost use Rattle.std.specs.Prelude.{◌≡◌, ◌<◌, None, Some, IfOk, MatchOption, MatchResult, if◌then◌else◌};
+ghost use Rattle.std.specs.Prelude.{◌≡◌, ◌<◌, None, Some, IfOk, MatchResult, Ok, Err, if◌then◌else◌};
 ghost use Rattle.std.specs.Option.{option_map_or};
 ghost use Rattle.std.specs.Char.{digit_value};
 ghost use Rattle.std.specs.Str.Parse.{digits_value};
@@ -52,6 +52,13 @@ impl From<Utf8Error> for LineError {
 // What a call answers.
 pub type Answer<T> = Result<T, Refusal>;
 
+// A value as it is recorded, and whether a call gives it. A call that does not gives zeros in its place.
+#[derive(Clone, Copy, Debug, PartialEq, Eq)]
+pub struct Flagged<T> {
+    pub is_there: bool,
+    pub value: T,
+}
+
 // Searched by number in place of a TryFrom: the enum is another crate's, so this crate can't implement the trait for it.
 const REFUSALS: [Refusal; 6] = [
     Refusal::TextTooLong,
@@ -102,18 +109,15 @@ pub fn refusal(field: &[u8]) -> Result<Option<Refusal>, LineError>
     }
 }
 
-// A value that is there if the field is 1. The field must be 0 else, and the value the default.
-pub fn option<T: Default + PartialEq + Drop>(field: &[u8], value: T) -> Result<Option<T>, LineError>
-    ensures { let flag = digits_value 10 field.now in
-        IfOk result (λ option. MatchOption option (flag ≡ 0) (λ x. (flag ≡ 1) × (x ≡ value))) }
+// A value that is there if the field is 1. The field must be 0 else.
+pub fn option<T: Copy>(field: &[u8], value: T) -> Result<Flagged<T>, LineError>
+    ensures { IfOk result (λ option.
+        (digits_value 10 field.now ≡ (if option.is_there then 1 else 0)) × (option.value ≡ value)) }
 {
-    if flag(field)? {
-        return Ok(Some(value));
-    }
-    if value == T::default() {
-        return Ok(None);
-    }
-    Err(LineError::Malformed)
+    Ok(Flagged {
+        is_there: flag(field)?,
+        value,
+    })
 }
 
 // A call's answer. One that is refused gives nothing.
@@ -128,6 +132,18 @@ pub fn answer<T: Default + PartialEq + Drop>(
         None => Ok(Ok(value)),
         Some(refusal) if value == T::default() => Ok(Err(refusal)),
         Some(_) => Err(LineError::Malformed),
+    }
+}
+
+// What fields are to stand for, `Ok(None)` if they are no answer: a call never gives that, so it differs.
+pub fn or_none<T: Drop>(answer: Result<Answer<T>, LineError>) -> Answer<Option<T>>
+    ensures { MatchResult answer
+        (λ given. MatchResult given (λ x. result ≡ Ok (Some x)) (λ why. result ≡ Err why))
+        (λ _. result ≡ Ok None) }
+{
+    match answer {
+        Ok(given) => given.map(Some),
+        Err(_) => Ok(None),
     }
 }
 

@@ -5,7 +5,7 @@ use std::alloc::{AllocError, Global};
 use std::fmt::Display;
 use std::fs::File;
 use std::io;
-use std::io::Read;
+use std::io::{ErrorKind, Read};
 use std::rt::Files;
 
 // The reader takes at most this many bytes, so a file that fills them may be longer.
@@ -18,7 +18,12 @@ fn load<R: Files + Print + AllocGlobal>(rt: &R, name: &str) -> io::Result<Option
         return Ok(None);
     };
     let mut bytes = Vec::new(rt.alloc());
-    if file.take(TOO_LONG).read_to_end(&mut bytes)? as u64 == TOO_LONG {
+    match file.take(TOO_LONG).read_to_end(&mut bytes) {
+        Err(error) if error.kind() == ErrorKind::OutOfMemory => return Err(error),
+        // A read that fails ends the file.
+        Ok(_) | Err(_) => {}
+    }
+    if bytes.len() as u64 == TOO_LONG {
         println!(rt; "{name}: too long")?;
         return Ok(None);
     }
@@ -31,7 +36,7 @@ fn load<R: Files + Print + AllocGlobal>(rt: &R, name: &str) -> io::Result<Option
 }
 
 // Counts a text that was compared.
-fn add<W: Copy + Display>(
+pub fn add<W: Copy + Display>(
     rt: &impl Print,
     tally: &mut Tally,
     compared: Result<Report<W>, LineError>,
@@ -43,14 +48,9 @@ fn add<W: Copy + Display>(
     }
 }
 
-// Compares every line of the file, adds the text at the limit if there is one, and says the tally. If the file can't be read
-// whole, it only says why.
-pub fn replay<R, W, F>(
-    rt: &R,
-    name: &str,
-    compare_line: F,
-    limit: Option<Result<Report<W>, LineError>>,
-) -> io::Result<()>
+// Compares every line of the file, and gives the tally. If the file can't be read whole, it only says why. The file is let go
+// before a text at the limit takes memory.
+pub fn replay<R, W, F>(rt: &R, name: &str, compare_line: F) -> io::Result<Option<Tally>>
 where
     R: Files + Print + AllocGlobal,
     W: Copy + Display,
@@ -58,15 +58,11 @@ where
     requires { F.IsAlwaysCallable compare_line }
 {
     let Some(lines) = load(rt, name)? else {
-        return Ok(());
+        return Ok(None);
     };
     let mut tally = Tally::default();
     for line in lines.split(|b| *b == b'\n') {
         add(rt, &mut tally, compare_line(rt.alloc(), line))?;
     }
-    let Some(compared) = limit else {
-        return tally.say(rt, name);
-    };
-    add(rt, &mut tally, compared)?;
-    tally.say(rt, format_args!("{name} and the limit"))
+    Ok(Some(tally))
 }

@@ -1,6 +1,7 @@
 // What was compared, and how much of it differs.
-ghost use Rattle.std.specs.Prelude.{◌≡◌, ◌+◌, ◌-◌, ◌*◌, ◌^◌, min, None, Some, if◌then◌else◌};
+ghost use Rattle.std.specs.Prelude.{◌≡◌, ◌+◌, ◌-◌, ◌*◌, ◌^◌, min, None, Some, if◌then◌else◌, length, not, eqb};
 ghost use Rattle.std.specs.Option.{option_or};
+ghost use Rattle.std.specs.List.{count_by};
 
 use std::fmt::Display;
 use std::io;
@@ -73,16 +74,17 @@ impl<W: Copy> Report<W> {
         }
     }
 
-    // The same report, if each answer is so many numbers, which are counted one by one.
-    pub fn counted_by(self, numbers: usize) -> Report<W>
-        ensures answers { result.answers ≡ min (self.answers * numbers) (2 ^ 64 - 1) }
-        ensures differ { result.differ ≡ self.differ }
-        ensures first { result.first ≡ self.first }
+    // The report of an answer that is several numbers, which are counted one by one.
+    pub fn of_each(what: W, agree: &[bool]) -> Report<W>
+        ensures answers { result.answers ≡ length agree.now }
+        ensures differ { result.differ ≡ count_by not agree.now }
+        ensures first { result.first ≡ (if eqb result.differ 0 then None else Some what) }
     {
+        let differ = agree.iter().filter(|agrees| !**agrees).count();
         Report {
-            answers: self.answers.saturating_mul(numbers),
-            differ: self.differ,
-            first: self.first,
+            answers: agree.len(),
+            differ,
+            first: if differ == 0 { None } else { Some(what) },
         }
     }
 }

@@ -1,6 +1,6 @@
 // The verdict and the calls of one sheet, compared with the recorded ones.
 use crate::compared::Compared;
-use crate::line::{Line, bytes_in};
+use crate::line::Line;
 use admit::Refusal;
 use calls::{CalledEntry, CalledSheet, call_entry, call_sheet};
 use clear::is_clear;
@@ -47,12 +47,12 @@ impl Sheet<'_> {
 
     pub fn compare_whole(
         &self,
-        expected: Answer<CalledSheet>,
+        expected: Answer<Option<CalledSheet>>,
         lines: &[u8],
     ) -> Result<Report<Compared>, LineError> {
         let text = self.text;
         self.compare_call(Compared::CallSheet, expected, lines, |out| {
-            call_sheet(text, out)
+            call_sheet(text, out).map(Some)
         })
     }
 
@@ -60,12 +60,12 @@ impl Sheet<'_> {
     pub fn compare_entry(
         &self,
         k: usize,
-        expected: Answer<CalledEntry>,
+        expected: Answer<Option<CalledEntry>>,
         line: &[u8],
     ) -> Result<Report<Compared>, LineError> {
         let text = self.text;
         self.compare_call(Compared::CallEntry, expected, line, |out| {
-            call_entry(text, k, out)
+            call_entry(text, k, out).map(Some)
         })
     }
 
@@ -82,10 +82,10 @@ impl Sheet<'_> {
 fn compare_entries(sheet: &Sheet, line: &Line) -> Result<Report<Compared>, LineError> {
     let mut rest = line.lines.as_slice();
     let mut report = Report::new();
-    for (k, answer) in line.entries.iter().enumerate() {
-        let (bytes, others) = rest.split_at(bytes_in(*answer).min(rest.len()));
+    for (k, entry) in line.entries.iter().enumerate() {
+        let (bytes, others) = rest.split_at(entry.bytes.min(rest.len()));
         rest = others;
-        report = report.and(sheet.compare_entry(k, *answer, bytes)?);
+        report = report.and(sheet.compare_entry(k, entry.answer, bytes)?);
     }
     Ok(report)
 }
@@ -101,7 +101,7 @@ fn compare_no_entries(sheet: &Sheet, line: &Line) -> Result<Report<Compared>, Li
 // The verdict on the text as a name.
 fn compare_clear(line: &Line) -> Report<Compared> {
     let verdict = is_clear(line.head.text.as_slice());
-    Report::of(Compared::IsClear, verdict == line.clear)
+    Report::of(Compared::IsClear, verdict.map(Some) == line.clear)
 }
 
 // Every answer about the text of a line, compared with the line.

@@ -19,7 +19,7 @@ fn compare_seven(sheet: &Sheet, k: usize, line: &[u8]) -> Result<Report<Compared
         words: 1,
         bytes: line.len(),
     };
-    sheet.compare_entry(k, Ok(entry), line)
+    sheet.compare_entry(k, Ok(Some(entry)), line)
 }
 
 // The whole sheet, its first entry and its last.
@@ -38,7 +38,7 @@ pub fn compare_limit(alloc: Global) -> Result<Report<Compared>, LineError> {
         words: ENTRIES,
         bytes: lines.len(),
     };
-    let whole = sheet.compare_whole(Ok(called), lines.as_slice())?;
+    let whole = sheet.compare_whole(Ok(Some(called)), lines.as_slice())?;
     let first = compare_seven(&sheet, 0, FIRST)?;
     let last = compare_seven(&sheet, ENTRIES - 1, OTHER)?;
     Ok(whole.and(first).and(last))

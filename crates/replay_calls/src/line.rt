@@ -1,7 +1,7 @@
 // A line of calls.txt: a text, the verdict on it as a name, the whole sheet's call, and a field for each entry.
 use admit::Refusal;
 use calls::{CalledEntry, CalledSheet};
-use recorded::fields::{Answer, LineError, answer, fields, flag, number, refusal, unhex};
+use recorded::fields::{Answer, LineError, answer, fields, flag, number, or_none, refusal, unhex};
 use recorded::head::{Head, LONGEST};
 use rows::{Entry, Row, Sign};
 use std::alloc::Global;
@@ -25,14 +25,24 @@ const ROWS: [Row; 15] = [
     Row::OneWord,
 ];
 
+// An entry's call, and the bytes of its line, also where they are recorded beside a refusal.
+#[derive(Clone, Copy, Debug, PartialEq, Eq)]
+pub struct EntryCall {
+    pub answer: Answer<Option<CalledEntry>>,
+    pub bytes: usize,
+}
+
 // `lines` are those of all entries, end to end.
 #[derive(Drop)]
 pub struct Line {
     pub head: Head,
-    pub clear: Answer<bool>,
-    pub sheet: Answer<CalledSheet>,
+    pub clear: Answer<Option<bool>>,
+    sheet_refusal: Option<Refusal>,
+    // How many tokens the sheet has, none if the field is no number.
+    tokens: Option<usize>,
+    pub sheet: Answer<Option<CalledSheet>>,
     pub lines: Vec<u8>,
-    pub entries: Vec<Answer<CalledEntry>>,
+    pub entries: Vec<EntryCall>,
 }
 
 // Puts a piece of lines: a count, and the bytes in hex that are repeated so many times.
@@ -41,8 +51,13 @@ fn put_piece(alloc: Global, piece: &[u8], lines: &mut Vec<u8>) -> Result<(), Lin
     let [count, hex] = parts.as_slice() else {
         return Err(LineError::Malformed);
     };
+    let count = number(count)?;
+    // Bytes that are repeated no times may be anything.
+    if count == 0 && !hex.is_empty() {
+        return Ok(());
+    }
     let bytes = unhex(alloc, hex)?;
-    for _ in 0..number(count)? {
+    for _ in 0..count {
         lines.extend_from_slice(bytes.as_slice())?;
         if LONGEST < lines.len() {
             return Err(LineError::Malformed);
@@ -51,13 +66,14 @@ fn put_piece(alloc: Global, piece: &[u8], lines: &mut Vec<u8>) -> Result<(), Lin
     Ok(())
 }
 
-// Lines that are written in pieces, with a comma between, or a dash for no lines.
+// Lines that are written in pieces, with a comma between or after each, or a dash for no lines.
 fn lines_of(alloc: Global, field: &[u8]) -> Result<Vec<u8>, LineError> {
     let mut lines = Vec::new(alloc);
-    if field == b"-".as_slice() {
+    if field.is_empty() || field == b"-".as_slice() {
         return Ok(lines);
     }
-    for piece in field.split(|b| *b == b',') {
+    let pieces = field.strip_suffix(b",").unwrap_or(field);
+    for piece in pieces.split(|b| *b == b',') {
         put_piece(alloc, piece, &mut lines)?;
     }
     Ok(lines)
@@ -74,9 +90,8 @@ fn row_of(row: usize, sign: usize) -> Result<Row, LineError> {
 }
 
 // An entry's answer: refusal, row, sign, words and bytes.
-fn parse_entry(alloc: Global, field: &[u8]) -> Result<Answer<CalledEntry>, LineError> {
-    let parts = fields(alloc, field, b' ')?;
-    let [number_of_refusal, row, sign, words, bytes] = parts.as_slice() else {
+fn entry_answer(parts: &[&[u8]]) -> Result<Answer<CalledEntry>, LineError> {
+    let [number_of_refusal, row, sign, words, bytes] = parts else {
         return Err(LineError::Malformed);
     };
     let numbers = [number(row)?, number(sign)?, number(words)?, number(bytes)?];
@@ -93,9 +108,35 @@ fn parse_entry(alloc: Global, field: &[u8]) -> Result<Answer<CalledEntry>, LineE
     }))
 }
 
-// The bytes of an entry's line.
-pub fn bytes_in(entry: Answer<CalledEntry>) -> usize {
-    entry.map_or(0, |entry| entry.bytes)
+fn parse_entry(alloc: Global, field: &[u8]) -> Result<EntryCall, LineError> {
+    let parts = fields(alloc, field, b' ')?;
+    let [_, _, _, _, bytes] = parts.as_slice() else {
+        return Err(LineError::Malformed);
+    };
+    Ok(EntryCall {
+        answer: or_none(entry_answer(parts.as_slice())),
+        bytes: number(bytes)?,
+    })
+}
+
+// The verdict on a text with this refusal.
+fn verdict_of(refusal: Option<Refusal>, verdict: &[u8]) -> Result<Answer<bool>, LineError> {
+    answer(refusal, flag(verdict)?)
+}
+
+// The sheet's answer: refusal, tokens, words, and bytes, which are counted and not recorded.
+fn sheet_answer(
+    refusal: Option<Refusal>,
+    tokens: &[u8],
+    words: &[u8],
+    bytes: usize,
+) -> Result<Answer<CalledSheet>, LineError> {
+    let counts = [number(tokens)?, number(words)?];
+    Ok(answer(refusal, counts)?.map(|[tokens, words]| CalledSheet {
+        tokens,
+        words,
+        bytes,
+    }))
 }
 
 impl Line {
@@ -108,20 +149,18 @@ impl Line {
         let [number_of_refusal, tokens, words, pieces] = parts.as_slice() else {
             return Err(LineError::Malformed);
         };
+        if clear.contains(&b' ') {
+            return Err(LineError::Malformed);
+        }
         let lines = lines_of(alloc, pieces)?;
-        let counts = [number(tokens)?, number(words)?];
-        let bytes = lines.len();
         let head = Head::parse(alloc, fields(alloc, head, b' ')?.as_slice())?;
+        let sheet_refusal = refusal(number_of_refusal)?;
         Ok(Line {
-            clear: answer(head.refusal, flag(clear)?)?,
+            clear: or_none(verdict_of(head.refusal, clear)),
             head,
-            sheet: answer(refusal(number_of_refusal)?, counts)?.map(|[tokens, words]| {
-                CalledSheet {
-                    tokens,
-                    words,
-                    bytes,
-                }
-            }),
+            sheet_refusal,
+            tokens: number(tokens).ok(),
+            sheet: or_none(sheet_answer(sheet_refusal, tokens, words, lines.len())),
             lines,
             entries: entries
                 .iter()
@@ -132,24 +171,24 @@ impl Line {
 
     // The call sheet, none if the sheet is refused.
     pub fn call_sheet(&self) -> &[u8] {
-        match self.sheet {
-            Ok(_) => self.lines.as_slice(),
-            Err(_) => b"",
+        match self.sheet_refusal {
+            None => self.lines.as_slice(),
+            Some(_) => b"",
         }
     }
 
     // Whether the calls fit the text: one that is refused has no entries, and a sheet that is accepted has all.
     fn has_all_entries(&self) -> bool {
-        match (self.head.refusal, self.sheet) {
-            (None, Ok(sheet)) => sheet.tokens == self.entries.len(),
-            (None, Err(refusal)) => refusal == Refusal::NameTooLong,
-            (Some(refusal), sheet) => sheet == Err(refusal) && self.entries.is_empty(),
+        match (self.head.refusal, self.sheet_refusal) {
+            (None, None) => self.tokens == Some(self.entries.len()),
+            (None, Some(refusal)) => refusal == Refusal::NameTooLong,
+            (text, sheet) => sheet == text && self.entries.is_empty(),
         }
     }
 
     // Whether the lines are just those of the entries.
     fn has_all_lines(&self) -> bool {
-        let lens = self.entries.iter().map(|entry| bytes_in(*entry));
+        let lens = self.entries.iter().map(|entry| entry.bytes);
         lens.fold(0usize, |sum, len| sum.saturating_add(len)) == self.lines.len()
     }
 

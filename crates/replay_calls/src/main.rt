@@ -9,10 +9,13 @@ mod line;
 
 use answers::compare_line;
 use limit::compare_limit;
-use recorded::replay::replay;
+use recorded::replay::{add, replay};
 use std::io;
 
 fn main(rt: HostRuntime) -> io::Result<()> {
-    let limit = compare_limit(rt.alloc());
-    replay(&rt, "calls.txt", compare_line, Some(limit))
+    let Some(mut tally) = replay(&rt, "calls.txt", compare_line)? else {
+        return Ok(());
+    };
+    add(&rt, &mut tally, compare_limit(rt.alloc()))?;
+    tally.say(&rt, "calls.txt and the limit")
 }

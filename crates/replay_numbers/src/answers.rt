@@ -9,7 +9,17 @@ use std::alloc::Global;
 use word_writer::WordCounts;
 
 // A reading, as a function of a text, a store and a table.
-type Read = fn(&[u8], &mut [u8], &mut [u8]) -> Result<WordCounts, Refusal>;
+pub type Read = fn(&[u8], &mut [u8], &mut [u8]) -> Result<WordCounts, Refusal>;
+
+// The six readings that give words.
+pub const READS: [(Compared, Read); READINGS] = [
+    (Compared::Cardinal, numbers::cardinal),
+    (Compared::Ordinal, numbers::ordinal),
+    (Compared::Year, numbers::year),
+    (Compared::Digits, numbers::digits),
+    (Compared::Real, numbers::real),
+    (Compared::Letters, numbers::letters),
+];
 
 // The rooms of store and table.
 const ROOMS: [(Room, Room); 4] = [
@@ -34,7 +44,7 @@ pub struct Calls<'a> {
 
 impl Calls<'_> {
     // One reading in all rooms.
-    fn compare(&mut self, what: Compared, read: Read, reading: &Reading) -> Report<Compared>
+    pub fn compare(&mut self, what: Compared, read: Read, reading: &Reading) -> Report<Compared>
         requires { IsAlwaysCallable read }
     {
         let mut store = Lent {
@@ -50,26 +60,15 @@ impl Calls<'_> {
         let mut report = Report::new();
         for (store_room, table_room) in ROOMS {
             let answer = read(self.text, store.front(store_room), table.front(table_room));
-            let left = [store.left(store_room), table.left(table_room)];
+            // If one room is too short, so is the call's: then no word is to be in either.
+            let room = if table_room == Room::Short {
+                table_room
+            } else {
+                store_room
+            };
+            let left = [store.left(room), table.left(room)];
             let agrees = is_given(answer, &reading.answer, &left);
             report = report.and(Report::of(what, agrees));
-        }
-        report
-    }
-
-    // The six readings that give words.
-    pub fn compare_readings(&mut self, readings: &[Reading]) -> Report<Compared> {
-        let calls: [(Compared, Read); READINGS] = [
-            (Compared::Cardinal, numbers::cardinal),
-            (Compared::Ordinal, numbers::ordinal),
-            (Compared::Year, numbers::year),
-            (Compared::Digits, numbers::digits),
-            (Compared::Real, numbers::real),
-            (Compared::Letters, numbers::letters),
-        ];
-        let mut report = Report::new();
-        for ((what, read), reading) in calls.into_iter().zip(readings) {
-            report = report.and(self.compare(what, read, reading));
         }
         report
     }
@@ -77,7 +76,7 @@ impl Calls<'_> {
 
 fn compare_roman(line: &Line) -> Report<Compared> {
     let answer = numbers::roman_value(line.head.text.as_slice());
-    Report::of(Compared::RomanValue, answer == line.roman_value)
+    Report::of(Compared::RomanValue, answer.map(Some) == line.roman_value)
 }
 
 // Every reading of the text of a line, compared with the line.
@@ -88,6 +87,9 @@ pub fn compare_line(alloc: Global, line: &[u8]) -> Result<Report<Compared>, Line
         store: &mut [0; STORE],
         table: &mut [0; TABLE],
     };
-    let words = calls.compare_readings(line.readings.as_slice());
-    Ok(words.and(compare_roman(&line)))
+    let mut report = Report::new();
+    for ((what, read), reading) in READS.into_iter().zip(&line.readings) {
+        report = report.and(calls.compare(what, read, reading));
+    }
+    Ok(report.and(compare_roman(&line)))
 }

@@ -1,7 +1,7 @@
 // The longest text that is admitted: 65,536 fives. A text of one five more is refused, and has a line in numbers.txt.
-use crate::answers::Calls;
+use crate::answers::{Calls, READS};
 use crate::compared::Compared;
-use crate::line::Reading;
+use crate::line::{READINGS, Reading};
 use crate::words::Words;
 use recorded::fields::LineError;
 use recorded::tally::Report;
@@ -31,7 +31,8 @@ impl Rounds {
     }
 
     fn reading(self, alloc: Global) -> Result<Reading, LineError> {
-        let mut words = Words::new(alloc);
+        let longest = self.each.len().max(self.last.len());
+        let mut words = Words::with_capacity(alloc, self.count.saturating_mul(longest), LIMIT)?;
         for _ in 1..self.count {
             words.put(self.each)?;
         }
@@ -40,8 +41,8 @@ impl Rounds {
     }
 }
 
-// The readings in their order. A year takes two fives at a time.
-fn readings(alloc: Global) -> Result<Vec<Reading>, LineError> {
+// The words of the readings, in their order. A year takes two fives at a time.
+fn expected() -> [Rounds; READINGS] {
     let fives = Rounds::alike(LIMIT, b"five");
     let ordinal = Rounds {
         count: LIMIT,
@@ -50,13 +51,10 @@ fn readings(alloc: Global) -> Result<Vec<Reading>, LineError> {
     };
     let year = Rounds::alike(LIMIT / 2, b"fifty five");
     let letters = Rounds::alike(LIMIT, b"5");
-    let mut readings = Vec::new(alloc);
-    for rounds in [fives, ordinal, year, fives, fives, letters] {
-        readings.push(rounds.reading(alloc)?)?;
-    }
-    Ok(readings)
+    [fives, ordinal, year, fives, fives, letters]
 }
 
+// Each reading is made only to be compared, since one alone takes a megabyte.
 pub fn compare_limit(alloc: Global) -> Result<Report<Compared>, LineError> {
     let text = vec![in alloc; b'5'; LIMIT]?;
     let mut store = vec![in alloc; 0; ROOM]?;
@@ -66,5 +64,9 @@ pub fn compare_limit(alloc: Global) -> Result<Report<Compared>, LineError> {
         store: &mut store,
         table: &mut table,
     };
-    Ok(calls.compare_readings(readings(alloc)?.as_slice()))
+    let mut report = Report::new();
+    for ((what, read), rounds) in READS.into_iter().zip(expected()) {
+        report = report.and(calls.compare(what, read, &rounds.reading(alloc)?));
+    }
+    Ok(report)
 }

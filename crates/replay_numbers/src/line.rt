@@ -1,7 +1,7 @@
 // A line of numbers.txt: a text, a field for each reading that gives words, and the value of the roman numeral.
 use crate::words::Words;
 use admit::Refusal;
-use recorded::fields::{Answer, LineError, answer, fields, number};
+use recorded::fields::{Answer, LineError, answer, fields, number, or_none};
 use recorded::head::Head;
 use std::alloc::Global;
 use word_writer::WordCounts;
@@ -20,7 +20,7 @@ pub struct Reading {
 pub struct Line {
     pub head: Head,
     pub readings: Vec<Reading>,
-    pub roman_value: Answer<u32>,
+    pub roman_value: Answer<Option<u32>>,
 }
 
 impl Reading {
@@ -34,12 +34,10 @@ impl Reading {
 
     // A single backslash stands for a field that was left out, because it would have more words than the table has room for.
     fn parse(alloc: Global, refusal: Option<Refusal>, field: &[u8]) -> Result<Reading, LineError> {
-        let mut words = Words::new(alloc);
         if field == b"\\".as_slice() {
-            return Ok(Reading::new(Some(Refusal::BufferTooShort), words));
+            return Ok(Reading::new(Some(Refusal::BufferTooShort), Words::new(alloc)));
         }
-        words.put(field)?;
-        Ok(Reading::new(refusal, words))
+        Ok(Reading::new(refusal, Words::parse(alloc, field)?))
     }
 }
 
@@ -51,7 +49,7 @@ impl Line {
         };
         let head = Head::parse(alloc, fields(alloc, head, b' ')?.as_slice())?;
         let refusal = head.refusal;
-        let roman_value = answer(refusal, u32::try_from(number(roman)?)?)?;
+        let roman_value = or_none(answer(refusal, u32::try_from(number(roman)?)?));
         if words.len() != READINGS {
             return Err(LineError::Malformed);
         }

@@ -9,10 +9,13 @@ mod words;
 
 use answers::compare_line;
 use limit::compare_limit;
-use recorded::replay::replay;
+use recorded::replay::{add, replay};
 use std::io;
 
 fn main(rt: HostRuntime) -> io::Result<()> {
-    let limit = compare_limit(rt.alloc());
-    replay(&rt, "numbers.txt", compare_line, Some(limit))
+    let Some(mut tally) = replay(&rt, "numbers.txt", compare_line)? else {
+        return Ok(());
+    };
+    add(&rt, &mut tally, compare_limit(rt.alloc()))?;
+    tally.say(&rt, "numbers.txt and the limit")
 }

@@ -34,6 +34,37 @@ impl Words {
         }
     }
 
+    // Room for so many bytes and words. Buffers that grow word by word would for a while take twice as much.
+    pub fn with_capacity(alloc: Global, bytes: usize, words: usize) -> Result<Words, LineError> {
+        Ok(Words {
+            store: Vec::with_capacity(alloc, bytes)?,
+            table: Vec::with_capacity(alloc, words.saturating_mul(PAIR_SIZE))?,
+        })
+    }
+
+    // The words of a field. If no hex pair follows a backslash, they are as many words that no call writes, of as many bytes.
+    pub fn parse(alloc: Global, field: &[u8]) -> Result<Words, LineError> {
+        let mut words = Words::new(alloc);
+        match words.put(field) {
+            Ok(()) => Ok(words),
+            Err(LineError::Malformed) => Words::unwritten(alloc, field),
+            Err(LineError::OutOfMemory) => Err(LineError::OutOfMemory),
+        }
+    }
+
+    // No call writes this table: each word starts past every store.
+    fn unwritten(alloc: Global, field: &[u8]) -> Result<Words, LineError> {
+        let spaces = field.iter().filter(|b| **b == b' ').count();
+        let escapes = field.iter().filter(|b| **b == b'\\').count();
+        let written = field.len().saturating_sub(spaces);
+        let bytes = written.saturating_sub(escapes.saturating_mul(2));
+        let pairs = spaces.saturating_add(1).saturating_mul(PAIR_SIZE);
+        Ok(Words {
+            store: vec![in alloc; 0; bytes]?,
+            table: vec![in alloc; u8::MAX; pairs]?,
+        })
+    }
+
     // How many words and bytes there are.
     pub fn counts(&self) -> WordCounts {
         WordCounts {

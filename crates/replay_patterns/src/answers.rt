@@ -1,29 +1,43 @@
-// The answers of the crate patterns for one text, each compared with the recorded one.
+// The answers of the crate patterns for one text, each number of which is compared with the recorded one.
 use crate::compared::Compared;
-use crate::line::{Line, SHAPES};
-use recorded::buffer::{GUARD, Lent, ROOMS, Room};
-use recorded::fields::{Answer, LineError};
+use crate::line::{Line, SHAPES, STORE};
+use patterns::UnitPart;
+use recorded::buffer::{GUARD, Lent, ROOMS, Room, TOO_SHORT};
+use recorded::fields::{Answer, Flagged, LineError};
 use recorded::tally::Report;
+use shapes::TimeSplit;
 use std::alloc::Global;
 use std::iter;
 
-// The size of a store.
-const STORE: usize = 16;
+// What is recorded if there is no time, and if there is no unit.
+const NO_TIME: TimeSplit = TimeSplit {
+    hour: 0,
+    minute: 0,
+    meridiem: 0,
+};
 
-// The numbers of an answer, each of which counts. A verdict has a refusal and whether the text has the shape.
-const VERDICT_NUMBERS: usize = 2;
+const NO_UNIT: UnitPart = UnitPart { offset: 0, len: 0 };
 
-// A refusal, whether there is a time, and its three offsets.
-const TIME_NUMBERS: usize = 5;
-
-// A refusal, whether there is a unit, its offset and its length.
-const UNIT_NUMBERS: usize = 4;
-
-// A refusal, whether there is a word, its length, and the store.
-const WORD_NUMBERS: usize = 4;
+// What is expected of the word in a room that is too short.
+const NO_WORD: Flagged<usize> = Flagged {
+    is_there: false,
+    value: 0,
+};
 
 // A call about a text's shape.
 type IsShape = fn(&[u8]) -> Answer<bool>;
+
+// A verdict is a refusal and whether the text has the shape.
+fn compare_verdict(
+    what: Compared,
+    line: &Line,
+    answer: Answer<bool>,
+    wanted: Option<bool>,
+) -> Report<Compared> {
+    let is_refusal = answer.err() == line.head.refusal;
+    let is_verdict = Some(answer.unwrap_or(false)) == wanted;
+    Report::of_each(what, &[is_refusal, is_verdict])
+}
 
 // The sixteen shapes.
 fn compare_shapes(line: &Line) -> Report<Compared> {
@@ -57,7 +71,7 @@ fn compare_shapes(line: &Line) -> Report<Compared> {
     let text = line.head.text.as_slice();
     let mut report = Report::new();
     for ((what, is_shape), wanted) in shapes.into_iter().zip(&line.verdicts) {
-        report = report.and(Report::of(what, is_shape(text) == *wanted));
+        report = report.and(compare_verdict(what, line, is_shape(text), *wanted));
     }
     report
 }
@@ -68,50 +82,91 @@ fn compare_digits(line: &Line) -> Report<Compared> {
     let counts = (0..=9).chain(iter::once(text.len()));
     let mut report = Report::new();
     for (n, wanted) in counts.zip(line.verdicts.iter().skip(SHAPES)) {
-        let agrees = patterns::is_n_digits(text, n) == *wanted;
-        report = report.and(Report::of(Compared::IsNDigits, agrees));
+        let answer = patterns::is_n_digits(text, n);
+        report = report.and(compare_verdict(Compared::IsNDigits, line, answer, *wanted));
     }
     report
 }
 
-// The parts of a time and of a unit.
-fn compare_parts(line: &Line) -> Report<Compared> {
-    let text = line.head.text.as_slice();
-    let time = patterns::split_time_meridiem(text) == line.time;
-    let unit = patterns::split_unit(text) == line.unit;
-    let time = Report::of(Compared::SplitTimeMeridiem, time);
-    let unit = Report::of(Compared::SplitUnit, unit);
-    time.counted_by(TIME_NUMBERS)
-        .and(unit.counted_by(UNIT_NUMBERS))
+fn compare_time(line: &Line) -> Report<Compared> {
+    let answer = patterns::split_time_meridiem(line.head.text.as_slice());
+    let split = answer.ok().flatten();
+    let time = split.unwrap_or(NO_TIME);
+    Report::of_each(
+        Compared::SplitTimeMeridiem,
+        &[
+            answer.err() == line.head.refusal,
+            split.is_some() == line.time.is_there,
+            time.hour == line.time.value.hour,
+            time.minute == line.time.value.minute,
+            time.meridiem == line.time.value.meridiem,
+        ],
+    )
 }
 
-// The unit's word in every room. If there is none, any room is enough, and the call is lent room to spare.
-fn compare_word(line: &Line) -> Report<Compared> {
-    let text = line.head.text.as_slice();
+fn compare_unit(line: &Line) -> Report<Compared> {
+    let answer = patterns::split_unit(line.head.text.as_slice());
+    let part = answer.ok().flatten();
+    let unit = part.unwrap_or(NO_UNIT);
+    Report::of_each(
+        Compared::SplitUnit,
+        &[
+            answer.err() == line.head.refusal,
+            part.is_some() == line.unit.is_there,
+            unit.offset == line.unit.value.offset,
+            unit.len == line.unit.value.len,
+        ],
+    )
+}
+
+// The unit's word in one room: the refusal, whether there is a word, its length, and the store.
+fn compare_word_in(line: &Line, room: Room) -> Report<Compared> {
     let mut lent = Lent {
         buffer: &mut [GUARD; STORE],
         bytes: line.word.as_slice(),
         spare: STORE,
     };
+    let answer = patterns::unit_word(line.head.text.as_slice(), lent.front(room));
+    let left = lent.left(room);
+    let (refusal, expected) = if left.is_short {
+        (TOO_SHORT, NO_WORD)
+    } else {
+        (line.head.refusal, line.word_len)
+    };
+    let len = answer.ok().flatten();
+    Report::of_each(
+        Compared::UnitWord,
+        &[
+            answer.err() == refusal,
+            len.is_some() == expected.is_there,
+            len.unwrap_or(0) == expected.value,
+            left.is_right(),
+        ],
+    )
+}
+
+// The unit's word in every room. If there is none, any room is enough, and the call is lent room to spare.
+fn compare_word(line: &Line) -> Report<Compared> {
     let rooms: &[Room] = if line.word.is_empty() {
         &[Room::Spare]
     } else {
         &ROOMS
     };
-    let words = lent.compare(rooms, Compared::UnitWord, line.word_len, |store| {
-        patterns::unit_word(text, store)
-    });
-    words.counted_by(WORD_NUMBERS)
+    let mut report = Report::new();
+    for room in rooms {
+        report = report.and(compare_word_in(line, *room));
+    }
+    report
 }
 
 // Every answer for the text of a line, compared with the line.
 pub fn compare_line(alloc: Global, line: &[u8]) -> Result<Report<Compared>, LineError> {
     let line = Line::parse(alloc, line)?;
-    let verdicts = compare_shapes(&line).and(compare_digits(&line));
     Ok(
-        verdicts
-            .counted_by(VERDICT_NUMBERS)
-            .and(compare_parts(&line))
+        compare_shapes(&line)
+            .and(compare_digits(&line))
+            .and(compare_time(&line))
+            .and(compare_unit(&line))
             .and(compare_word(&line)),
     )
 }

@@ -1,6 +1,6 @@
 // A line of patterns.txt: a text, and what is recorded of it.
 use patterns::UnitPart;
-use recorded::fields::{Answer, LineError, answer, bytes_of, fields, flag, number, option};
+use recorded::fields::{Flagged, LineError, bytes_of, fields, number, option};
 use recorded::head::Head;
 use shapes::TimeSplit;
 use std::alloc::Global;
@@ -10,15 +10,41 @@ pub const SHAPES: usize = 16;
 
 const VERDICTS: usize = SHAPES + 11;
 
+// The size of a store, which no word is longer than.
+pub const STORE: usize = 16;
+
 #[derive(Drop)]
 pub struct Line {
     pub head: Head,
-    pub verdicts: Vec<Answer<bool>>,
-    pub time: Answer<Option<TimeSplit>>,
-    pub unit: Answer<Option<UnitPart>>,
+    // None for a byte that is no verdict, which no call's is.
+    pub verdicts: Vec<Option<bool>>,
+    pub time: Flagged<TimeSplit>,
+    pub unit: Flagged<UnitPart>,
     // The length of the unit's word, and the word.
-    pub word_len: Answer<Option<usize>>,
+    pub word_len: Flagged<usize>,
     pub word: Vec<u8>,
+}
+
+fn verdict(b: u8) -> Option<bool> {
+    match b {
+        b'0' => Some(false),
+        b'1' => Some(true),
+        _ => None,
+    }
+}
+
+// The word of so many bytes. If the field is not hex, it is zeros, which no unit has for a word.
+fn word_of(alloc: Global, field: &[u8], len: usize) -> Result<Vec<u8>, LineError> {
+    if STORE < len || (len == 0) != (field == b"-".as_slice()) {
+        return Err(LineError::Malformed);
+    }
+    if len != 0 && field.len() != 2 * len {
+        return Err(LineError::Malformed);
+    }
+    match bytes_of(alloc, field) {
+        Err(LineError::Malformed) => Ok(vec![in alloc; 0; len]?),
+        word => word,
+    }
 }
 
 impl Line {
@@ -41,31 +67,26 @@ impl Line {
         else {
             return Err(LineError::Malformed);
         };
-        let head = Head::parse(alloc, head)?;
-        let refusal = head.refusal;
-        let word = bytes_of(alloc, word)?;
-        if verdicts.len() != VERDICTS || number(w1)? != word.len() {
+        if verdicts.len() != VERDICTS {
             return Err(LineError::Malformed);
         }
-        let time = option(t0, [number(t1)?, number(t2)?, number(t3)?])?;
-        let unit = option(u0, [number(u1)?, number(u2)?])?;
+        let time = TimeSplit {
+            hour: number(t1)?,
+            minute: number(t2)?,
+            meridiem: number(t3)?,
+        };
+        let unit = UnitPart {
+            offset: number(u1)?,
+            len: number(u2)?,
+        };
+        let word_len = option(w0, number(w1)?)?;
         Ok(Line {
-            head,
-            verdicts: verdicts
-                .chunks(1)
-                .map(|verdict| answer(refusal, flag(verdict)?))
-                .try_collect(alloc)?,
-            time: answer(
-                refusal,
-                time.map(|[hour, minute, meridiem]| TimeSplit {
-                    hour,
-                    minute,
-                    meridiem,
-                }),
-            )?,
-            unit: answer(refusal, unit.map(|[offset, len]| UnitPart { offset, len }))?,
-            word_len: answer(refusal, option(w0, number(w1)?)?)?,
-            word,
+            head: Head::parse(alloc, head)?,
+            verdicts: verdicts.iter().map(|b| verdict(*b)).collect(alloc)?,
+            time: option(t0, time)?,
+            unit: option(u0, unit)?,
+            word_len,
+            word: word_of(alloc, word, word_len.value)?,
         })
     }
 }

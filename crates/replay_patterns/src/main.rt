@@ -10,5 +10,8 @@ use recorded::replay::replay;
 use std::io;
 
 fn main(rt: HostRuntime) -> io::Result<()> {
-    replay(&rt, "patterns.txt", compare_line, None)
+    match replay(&rt, "patterns.txt", compare_line)? {
+        Some(tally) => tally.say(&rt, "patterns.txt"),
+        None => Ok(()),
+    }
 }

@@ -7,6 +7,9 @@ use std::alloc::Global;
 // The most tokens of a line.
 pub const MOST: usize = 31;
 
+// What stands for a field that is no number: a place past every text, so that each token differs from it.
+const NO_PLACE: usize = 1_000_000_000;
+
 // A part of a text.
 #[derive(Clone, Copy, Debug, PartialEq, Eq)]
 pub struct Part {
@@ -35,17 +38,17 @@ pub struct Line {
 }
 
 impl Part {
-    fn parse(offset: &[u8], len: &[u8]) -> Result<Part, LineError> {
-        Ok(Part {
-            offset: number(offset)?,
-            len: number(len)?,
-        })
+    fn parse(offset: &[u8], len: &[u8]) -> Part {
+        Part {
+            offset: number(offset).unwrap_or(NO_PLACE),
+            len: number(len).unwrap_or(NO_PLACE),
+        }
     }
 
-    // The part of this text, none if the text is shorter.
+    // The part of this text, as far as the text has it.
     pub fn of(self, text: &[u8]) -> &[u8] {
-        let end = self.offset.saturating_add(self.len);
-        text.get(self.offset..end).unwrap_or(b"")
+        let rest = text.get(self.offset..).unwrap_or(b"");
+        rest.get(..self.len).unwrap_or(rest)
     }
 }
 
@@ -56,10 +59,10 @@ impl Token {
             return Err(LineError::Malformed);
         };
         Ok(Token {
-            whitespace: Part::parse(w, w_len)?,
-            prepunctuation: Part::parse(pre, pre_len)?,
-            name: Part::parse(name, name_len)?,
-            punctuation: Part::parse(p, p_len)?,
+            whitespace: Part::parse(w, w_len),
+            prepunctuation: Part::parse(pre, pre_len),
+            name: Part::parse(name, name_len),
+            punctuation: Part::parse(p, p_len),
             starts_sentence: flag(starts)?,
         })
     }

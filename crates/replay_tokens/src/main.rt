@@ -12,5 +12,8 @@ use recorded::replay::replay;
 use std::io;
 
 fn main(rt: HostRuntime) -> io::Result<()> {
-    replay(&rt, "tokens.txt", compare_line, None)
+    match replay(&rt, "tokens.txt", compare_line)? {
+        Some(tally) => tally.say(&rt, "tokens.txt"),
+        None => Ok(()),
+    }
 }

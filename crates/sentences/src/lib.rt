@@ -13,9 +13,12 @@ ghost use Rattle.sentences.specs.Calls.{start_bytes, smaller_refusal, step_tests
 ghost use Rattle.sentences.specs.Left.{entry_of, entries_left, entries_after};
 
 use admit::{Refusal, admit_text};
-use lists::{Byte, byte_at, count, equal_lowered};
+use lists::{Byte, Not, byte_at, count, equal_lowered, span};
 use std::array;
 use tokens::{Tokens, has_more_tokens};
+
+// Up to so many bytes of punctuation are scanned one by one.
+const FEW_MARKS: usize = 8;
 
 // What is kept of the last token: its name's length, first five bytes (0 past its end) and last byte (0 if it is empty), and
 // whether its punctuation has each of . : ? and !. The five bytes are an array and no slice, because C keeps a state longer than
@@ -69,10 +72,14 @@ fn is_set(b: u8) -> bool
     b != 0
 }
 
-// Whether the byte c stands in s, as a flag.
+// Whether the byte c stands in s, as a flag. The library's `contains` is a call, which costs more than it saves on the few marks
+// that most tokens have.
 fn contains_flag(s: &[u8], c: u8) -> u8
     ensures { result ≡ flag (elem c s.now) }
 {
+    if s.len() <= FEW_MARKS {
+        return u8::from(span(s, Not(Byte(c))) < s.len());
+    }
     u8::from(s.contains(&c))
 }
 
@@ -121,7 +128,8 @@ impl State {
         })
     }
 
-    // The state after a token.
+    // The state after a token. This and `is_sentence_break` are inlined, because a step alone would take twice the time.
+    #[inline(always)]
     pub fn kept(name: &[u8], punctuation: &[u8]) -> Self
         ensures { result ≡ kept name.now punctuation.now }
     {
@@ -152,6 +160,7 @@ impl State {
 }
 
 // Whether a sentence ends between the token that the state keeps and the next.
+#[inline(always)]
 #[tactic(auto, unfolding(crate::specs::Sentences::break_after))]
 fn is_sentence_break(state: State, whitespace: &[u8], name: &[u8]) -> bool
     ensures { result ≡ break_after (state_context state) whitespace.now name.now }
@@ -231,10 +240,8 @@ impl<'a> Entries<'a> {
                 tokens,
                 state: State::kept(last.name, last.punctuation),
             },
-            None => Entries {
-                tokens,
-                state: State::fresh(),
-            },
+            // What is left in `tokens` is whitespace, which need not be read again.
+            None => Entries::new(&[]),
         }
     }
 }

@@ -7,7 +7,7 @@ use native.Mathlib.Nat.{mod-eq_of_lt, add-mul-mod_self_left, eq_of_mul-eq-mul_le
 use native.Mathlib.Omega.{arith}
 use lib.Dec.{leb, ltb, eqb, leb-suc-suc}
 use lib.ListN.{length, get_or, get_or-eq_default}
-use borrow.Author.Tests.{lt-ltb, leb-true, eq-eqb, ne_eqb, eqb-true, eqb-false, ltb-true}
+use borrow.Author.Tests.{lt-ltb, le-leb, leb-true, leb-false, eq-eqb, ne_eqb, eqb-true, eqb-false, ltb-true}
 use Rattle.std.specs.Int.{w32, from_le_bytes}
 use Rattle.std.specs.List.{position, position_or_len}
 use Rattle.std.specs.Option.{is_some}
@@ -85,6 +85,16 @@ keyed u = leb 2 (length u) && leb (length u) 3
 pub key_same : (a u : List ℕ) → length a < 256 → length u < 256 → bytesb a ≡ true → Bytes u → eqb (key a) (key u) ≡ same a u
 unfolding key le_value
 key_same a u h g p q = digit_same 256 (length a) (length u) (le_value a) (le_value u) h g ∙ text_same a u p q
+
+-- where every text of more than 3 bytes has the key 0, any text u has the key of a text a of 1 to 3 bytes exactly if u is a
+pub key_same_any : (a u : List ℕ) → 1 ≤ length a → length a ≤ 3 → bytesb a ≡ true → Bytes u
+    → eqb (cond (leb (length a) 3) (key a) 0) (cond (leb (length u) 3) (key u) 0) ≡ same a u
+unfolding key le_value
+key_same_any a u h l p q = rw (le-leb (length a) 3 l) (go (leb (length u) 3) refl)
+  where
+    go : (t : Bool) → leb (length u) 3 ≡ t → eqb (key a) (cond t (key u) 0) ≡ same a u
+    go true e = key_same a u (omega arith) (omega (arith, leb-true _ _ e)) p q
+    go false e = ne_eqb (key a) 0 (λ z. omega arith) ∙ sym (same_long _ a u (λ z. omega (arith, leb-false _ _ e)))
 
 -- a text of 2 or 3 bytes has less than 256
 keyed_short : (u : List ℕ) → keyed u ≡ true → length u < 256

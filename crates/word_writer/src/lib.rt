@@ -56,29 +56,38 @@ impl Pair {
         [a[0], a[1], a[2], a[3], s[0], s[1], s[2], s[3]]
     }
 
-    // Stores it from index `place` on, as far as it falls within the table.
+    // Stores it from index `place` on, as far as it falls within the table. If the whole pair does, which is nearly always so, the
+    // compiler knows the length and makes one store of it; so the other case is not inlined.
     pub fn put(self, table: &mut [u8], place: usize)
         ensures { table.new ≡ sets table.old place (pair_of self.at self.size) }
     {
-        if table.len() <= place {
+        let room = table.len().saturating_sub(place);
+        if room == 0 {
             return;
         }
-        let pair = self.to_bytes();
-        // The whole pair falls within the table, and the compiler makes one store of it.
-        if PAIR_SIZE <= table.len() - place {
-            table[place..place + PAIR_SIZE].copy_from_slice(&pair);
-            return;
+        if PAIR_SIZE <= room {
+            put(table, place, &self.to_bytes());
+        } else {
+            self.put_start(table, place);
         }
-        put(table, place, &pair);
+    }
+
+    // The same, for a pair that may not fit.
+    #[cold]
+    #[inline(never)]
+    fn put_start(self, table: &mut [u8], place: usize)
+        ensures { table.new ≡ sets table.old place (pair_of self.at self.size) }
+    {
+        put(table, place, &self.to_bytes());
     }
 
     // Stores it as pair n of the table.
     fn put_nth(self, table: &mut [u8], n: usize)
         ensures { table.new ≡ sets table.old (pair_size * n) (pair_of self.at self.size) }
     {
-        // No table has so many pairs that the product is too large.
-        if let Some(place) = n.checked_mul(PAIR_SIZE) {
-            self.put(table, place);
+        // Past its end nothing is stored, and before that the product is not too large.
+        if n <= table.len() / PAIR_SIZE {
+            self.put(table, PAIR_SIZE * n);
         }
     }
 }
@@ -90,11 +99,26 @@ impl<'a, 'b> Writer<'a, 'b> {
         ensures table { result.table.ghost_name ≡ table.entry.ghost_name }
         ensures start { written result ≡ unwritten spaced store.old table.old }
     {
+        Writer::after(store, table, 0, 0, spaced)
+    }
+
+    // Goes on after the first `at` bytes of the store and the first `words` pairs of the table, which may be past their ends.
+    pub fn after(
+        store: &'a mut [u8],
+        table: &'b mut [u8],
+        at: usize,
+        words: usize,
+        spaced: bool,
+    ) -> Self
+        ensures store { result.store.ghost_name ≡ store.entry.ghost_name }
+        ensures table { result.table.ghost_name ≡ table.entry.ghost_name }
+        ensures start { written result ≡ record { store = store.old; table = table.old; at = at; words = words; spaced = spaced } }
+    {
         Writer {
             store,
             table,
-            at: 0,
-            words: 0,
+            at,
+            words,
             spaced,
         }
     }
@@ -123,12 +147,15 @@ impl<'a, 'b> Writer<'a, 'b> {
     fn advance(&mut self, size: usize)
         ensures { Puts advance size self.old self.new }
     {
-        Pair::new(self.at, size).put_nth(self.table, self.words);
-        self.at = self.at.saturating_add(size);
-        self.words = self.words.saturating_add(1);
+        // Read once: the compiler can't know that a store into the table leaves them as they are.
+        let (at, words) = (self.at, self.words);
+        Pair::new(at, size).put_nth(self.table, words);
+        self.at = at.saturating_add(size);
+        self.words = words.saturating_add(1);
     }
 
-    // Stores one word and its pair.
+    // Stores one word and its pair. Inlined, because most of it falls away for a word whose length the compiler knows.
+    #[inline(always)]
     #[tactic(auto, unfolding(crate::specs::Writer::put_word, crate::specs::Writer::put_words))]
     pub fn put_word(&mut self, w: &[u8])
         ensures { Says (w.now ∷ []) self.old self.new }

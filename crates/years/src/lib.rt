@@ -121,7 +121,7 @@ pub fn say_year(s: &[u8], out: &mut Writer)
         left -= 2 - left % 2;
     }
     // There are at most four now.
-    if let Some(digits) = FirstDigits::of(rest) {
+    if let Ok(digits) = FirstDigits::of(rest) {
         say_last(digits.digits(), out);
     }
 }

@@ -20,8 +20,8 @@ loop-left-preserved c =
           (year_at l.rest.now lead.result.now l.left l.invariant.count lead.ensures.others c.loop-left-test.true) lead.ensures.words;
     }
 
-pub returns-in-Some : goal.returns-in-Some
+pub returns-in-Ok : goal.returns-in-Ok
 unfolding year
-returns-in-Some c =
+returns-in-Ok c =
     let rest = c.loop-left.rest.now in
-    leaves_none c.loop-left.invariant.words (rw (c.digits.ensures, picked_digits rest c.in-Some.ensures) at c.say_last.ensures)
+    leaves_none c.loop-left.invariant.words (rw (c.digits.ensures, picked_digits rest c.in-Ok.ensures) at c.say_last.ensures)

@@ -1,4 +1,4 @@
-use Rattle.std.proofs.Common.{arith, sym}
+use Rattle.std.proofs.Common.{arith, refl, sym}
 use Rattle.numerals.proofs.Digits.{digit_values_not}
 use Rattle.numerals.proofs.Picking.{pick_start, pick_none, pick_digit, pick_beyond, picked_below_ten}
 use Rattle.numerals.proofs.digit_values.FirstDigits.of.Goals as goal
@@ -11,7 +11,8 @@ pub returns-then-count-eq-MAX_CARDINAL_DIGITS : goal.returns-then-count-eq-MAX_C
 returns-then-count-eq-MAX_CARDINAL_DIGITS c =
     let l = c.loop-b in
     let digit = c.if-is_ascii_digit.ensures in
-    pick_beyond c.args.s.now l.values l.count l.b-index (omega arith) l.invariant (omega arith) (omega arith) (omega arith)
+    let s = c.args.s.now in
+    pick_beyond s l.values l.count l.b-index (omega arith) l.invariant (omega arith) (omega arith) (omega arith) refl refl
 
 pub loop-b-preserved : goal.loop-b-preserved
 loop-b-preserved c =
@@ -29,5 +30,10 @@ loop-b-preserved c =
 
 pub invariant_of-result : goal.invariant_of-result
 invariant_of-result c =
+    let l = c.loop-b in
+    record { few = l.invariant.few; below_ten = picked_below_ten c.args.s.now l.values l.count l.b-index l.invariant }
+
+pub invariant_of-result-2 : goal.invariant_of-result-2
+invariant_of-result-2 c =
     let l = c.loop-b in
     record { few = l.invariant.few; below_ten = picked_below_ten c.args.s.now l.values l.count l.b-index l.invariant }
