@@ -110,7 +110,7 @@ pub fn refusal(field: &[u8]) -> Result<Option<Refusal>, LineError>
 }
 
 // A value that is there if the field is 1. The field must be 0 else.
-pub fn option<T: Copy>(field: &[u8], value: T) -> Result<Flagged<T>, LineError>
+pub fn option<T: Drop>(field: &[u8], value: T) -> Result<Flagged<T>, LineError>
     ensures { IfOk result (λ option.
         (digits_value 10 field.now ≡ (if option.is_there then 1 else 0)) × (option.value ≡ value)) }
 {

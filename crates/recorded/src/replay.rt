@@ -1,4 +1,6 @@
 // A file of recorded lines, each compared.
+ghost use Rattle.std.specs.Prelude.{◌≡◌, ◌+◌, ◌-◌, ◌^◌, min, IfOk};
+
 use crate::fields::LineError;
 use crate::tally::{Report, Tally};
 use std::alloc::{AllocError, Global};
@@ -35,12 +37,15 @@ fn load<R: Files + Print + AllocGlobal>(rt: &R, name: &str) -> io::Result<Option
     Ok(Some(bytes))
 }
 
-// Counts a text that was compared.
+// Counts a text that was compared. A malformed one counts as an answer that differs.
 pub fn add<W: Copy + Display>(
     rt: &impl Print,
     tally: &mut Tally,
     compared: Result<Report<W>, LineError>,
-) -> io::Result<()> {
+) -> io::Result<()>
+    ensures answers { IfOk compared (λ report. tally.new.answers ≡ min (tally.old.answers + report.answers) (2 ^ 64 - 1)) }
+    ensures differ { IfOk compared (λ report. tally.new.differ ≡ min (tally.old.differ + report.differ) (2 ^ 64 - 1)) }
+{
     match compared {
         Ok(report) => tally.add(rt, report),
         Err(LineError::Malformed) => tally.add(rt, Report::of("malformed", false)),

@@ -1,5 +1,5 @@
 // What was compared, and how much of it differs.
-ghost use Rattle.std.specs.Prelude.{◌≡◌, ◌+◌, ◌-◌, ◌*◌, ◌^◌, min, None, Some, if◌then◌else◌, length, not, eqb};
+ghost use Rattle.std.specs.Prelude.{◌≡◌, ◌+◌, ◌-◌, ◌^◌, min, None, Some, if◌then◌else◌, length, not, eqb};
 ghost use Rattle.std.specs.Option.{option_or};
 ghost use Rattle.std.specs.List.{count_by};
 
@@ -92,7 +92,11 @@ impl<W: Copy> Report<W> {
 impl Tally {
     // Counts the next text. If it differs, and fewer than NAMED texts did before, its line and the name of what differs first are
     // printed.
-    pub fn add<W: Copy + Display>(&mut self, rt: &impl Print, report: Report<W>) -> io::Result<()> {
+    pub fn add<W: Copy + Display>(&mut self, rt: &impl Print, report: Report<W>) -> io::Result<()>
+        ensures texts { self.new.texts ≡ min (self.old.texts + 1) (2 ^ 64 - 1) }
+        ensures answers { self.new.answers ≡ min (self.old.answers + report.answers) (2 ^ 64 - 1) }
+        ensures differ { self.new.differ ≡ min (self.old.differ + report.differ) (2 ^ 64 - 1) }
+    {
         self.texts = self.texts.saturating_add(1);
         self.answers = self.answers.saturating_add(report.answers);
         self.differ = self.differ.saturating_add(report.differ);

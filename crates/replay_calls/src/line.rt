@@ -66,7 +66,7 @@ fn put_piece(alloc: Global, piece: &[u8], lines: &mut Vec<u8>) -> Result<(), Lin
     Ok(())
 }
 
-// Lines that are written in pieces, with a comma between or after each, or a dash for no lines.
+// Lines that are written in pieces, with a comma between or after each, or a dash or nothing for no lines.
 fn lines_of(alloc: Global, field: &[u8]) -> Result<Vec<u8>, LineError> {
     let mut lines = Vec::new(alloc);
     if field.is_empty() || field == b"-".as_slice() {

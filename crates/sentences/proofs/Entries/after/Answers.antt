@@ -15,5 +15,6 @@ pub returns-in-None : goal.returns-in-None
 unfolding all
 returns-in-None c =
     let ran = c.in-None.ensures.ran in
+    let none = tokens_none [] refl in
     rw (c.new-in-None.ensures, ← c.new-tokens.ensures)
-    (after_none_given fresh c.new-tokens.result ran.1.0 ran.0 (c.args.n - 1) ran.1.1 ran.1.2.0 (tokens_none [] refl) ran.2 (omega arith) fresh)
+    (after_none_given fresh c.new-tokens.result ran.1.0 ran.0 (c.args.n - 1) ran.1.1 ran.1.2.0 none ran.2 (omega arith) fresh)
