@@ -19,7 +19,7 @@ fn split_first_char(s: &[u8]) -> (&[u8], &[u8])
     s.split_at(n.min(s.len()))
 }
 
-// Says the word of a character.
+// Says the word of a character. Inlined, so that a text costs no call for each character.
 #[inline(always)]
 pub fn say_letter(c: &[u8], out: &mut Writer)
     ensures { Says (letter_word c.now ∷ []) out.old out.new }

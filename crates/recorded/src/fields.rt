@@ -135,7 +135,8 @@ pub fn answer<T: Default + PartialEq + Drop>(
     }
 }
 
-// What fields are to stand for, `Ok(None)` if they are no answer: a call never gives that, so it differs.
+// What fields are to stand for, `Ok(None)` if they are no answer: a call never gives that, so it differs. It is for fields that
+// are read without memory, since lack of memory would pass for no answer too.
 pub fn or_none<T: Drop>(answer: Result<Answer<T>, LineError>) -> Answer<Option<T>>
     ensures { MatchResult answer
         (λ given. MatchResult given (λ x. result ≡ Ok (Some x)) (λ why. result ≡ Err why))
