@@ -71,12 +71,19 @@ says_a [] n a d = absurd (omega arith)
 says_a (b ∷ []) n a d = rw (eq-eqb (to_lower b) (code "a") a) d
 says_a (b ∷ e ∷ s) n a d = absurd (omega arith)
 
--- of any other character of one byte
-pub says_byte : (c : List ℕ) {p q : Writer} → length c ≡ 1 → (to_lower (get_or c 0 0) ≡ code "a" → ⊥)
+-- of any other character of one byte, which is lowered
+pub says_lowered : (c : List ℕ) {p q : Writer} → length c ≡ 1 → (to_lower (get_or c 0 0) ≡ code "a" → ⊥)
     → Says ((to_lower (get_or c 0 0) ∷ []) ∷ []) p q → Says (letter_word c ∷ []) p q
 unfolding letter_word
+says_lowered [] n a d = absurd (omega arith)
+says_lowered (b ∷ []) n a d = rw (ne_eqb (to_lower b) (code "a") a) d
+says_lowered (b ∷ e ∷ s) n a d = absurd (omega arith)
+
+-- of it, if what is said is the text of one byte, lowered
+pub says_byte : (c : List ℕ) {p q : Writer} → length c ≡ 1 → (to_lower (get_or c 0 0) ≡ code "a" → ⊥) → Says (map to_lower c ∷ []) p q
+    → Says (letter_word c ∷ []) p q
 says_byte [] n a d = absurd (omega arith)
-says_byte (b ∷ []) n a d = rw (ne_eqb (to_lower b) (code "a") a) d
+says_byte (b ∷ []) n a d = says_lowered (b ∷ []) n a d
 says_byte (b ∷ e ∷ s) n a d = absurd (omega arith)
 
 -- and of a character of several bytes

@@ -85,13 +85,20 @@ module _ (s d : List ℕ) (n i : ℕ) (h : i < length s) (p : PickedDigits s d n
         let whole = digit_values_append (take i s) (drop i s) in
         rw (take-append-drop i s, digit_values_at s i h, digit_values_digit (get_or s i 0) v u) at whole
 
-    -- a digit after twelve others: there are more than twelve, and those picked are the first
-    pub pick_beyond : n ≡ 12 → {f : FirstDigits} → f.values ≡ d → f.count ≡ n → HasTwelveOf s f
-    pick_beyond k x y =
+    -- a digit after twelve others: there are more than twelve
+    pub pick_beyond : n ≡ 12 → 12 < length (digit_values s)
+    pick_beyond k =
+        let ds = digit_values (take i s) in
+        let r = b ∷ digit_values (drop (i + 1) s) in
+        omega (arith, ap length with_next, length-append ds r, p.count)
+
+    -- and those picked are the first twelve
+    pub pick_twelve : n ≡ 12 → {f : FirstDigits} → f.values ≡ d → f.count ≡ n → HasTwelveOf s f
+    pick_twelve k x y =
         let ds = digit_values (take i s) in
         let r = b ∷ digit_values (drop (i + 1) s) in
         record {
-          more = omega (arith, ap length with_next, length-append ds r, p.count);
+          more = pick_beyond k;
           values = rw (x, p.values, with_next) (sym (padded_more 12 ds r (omega (arith, p.count))));
           count = y ∙ k;
         }

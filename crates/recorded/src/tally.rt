@@ -1,5 +1,5 @@
 // What was compared, and how much of it differs.
-ghost use Rattle.std.specs.Prelude.{◌≡◌, ◌+◌, ◌-◌, ◌^◌, min, None, Some, if◌then◌else◌, length, not, eqb};
+ghost use Rattle.std.specs.Prelude.{◌≡◌, ◌+◌, ◌-◌, ◌*◌, ◌^◌, min, None, Some, if◌then◌else◌, length, not, eqb};
 ghost use Rattle.std.specs.Option.{option_or};
 ghost use Rattle.std.specs.List.{count_by};
 
@@ -74,6 +74,19 @@ impl<W: Copy> Report<W> {
         }
     }
 
+    // The same report, if each answer is so many numbers, which are counted one by one.
+    pub fn counted_by(self, numbers: usize) -> Report<W>
+        ensures answers { result.answers ≡ min (self.answers * numbers) (2 ^ 64 - 1) }
+        ensures differ { result.differ ≡ self.differ }
+        ensures first { result.first ≡ self.first }
+    {
+        Report {
+            answers: self.answers.saturating_mul(numbers),
+            differ: self.differ,
+            first: self.first,
+        }
+    }
+
     // The report of an answer that is several numbers, which are counted one by one.
     pub fn of_each(what: W, agree: &[bool]) -> Report<W>
         ensures answers { result.answers ≡ length agree.now }
@@ -119,5 +132,26 @@ impl Tally {
             ..
         } = self;
         println!(rt; "{name}: {texts} texts, {answers} answers compared, {differ} differ")
+    }
+}
+
+#[cfg(test)]
+mod tests {
+    use super::*;
+
+    // An answer that differs is one that differs, however many numbers it is.
+    #[test]
+    fn counts_an_answer_by_its_numbers() -> Result<(), &'static str> {
+        for (agrees, differ, first) in [(true, 0, None), (false, 1, Some("words"))] {
+            let wanted = Report {
+                answers: 4,
+                differ,
+                first,
+            };
+            if Report::of("words", agrees).counted_by(4) != wanted {
+                return Err("an answer of four numbers is counted otherwise");
+            }
+        }
+        Ok(())
     }
 }

@@ -1,6 +1,6 @@
 use Rattle.std.proofs.Common.{arith, refl, sym}
 use Rattle.numerals.proofs.Digits.{digit_values_not}
-use Rattle.numerals.proofs.Picking.{pick_start, pick_none, pick_digit, pick_beyond, picked_below_ten}
+use Rattle.numerals.proofs.Picking.{pick_start, pick_none, pick_digit, pick_twelve, picked_below_ten}
 use Rattle.numerals.proofs.digit_values.FirstDigits.of.Goals as goal
 use Rattle.numerals.proofs.digit_values.FirstDigits.of.Goals.{then-is_ascii_digit+else-count-eq-MAX_CARDINAL_DIGITS, else-is_ascii_digit}
 
@@ -12,7 +12,7 @@ returns-then-count-eq-MAX_CARDINAL_DIGITS c =
     let l = c.loop-b in
     let digit = c.if-is_ascii_digit.ensures in
     let s = c.args.s.now in
-    pick_beyond s l.values l.count l.b-index (omega arith) l.invariant (omega arith) (omega arith) (omega arith) refl refl
+    pick_twelve s l.values l.count l.b-index (omega arith) l.invariant (omega arith) (omega arith) (omega arith) refl refl
 
 pub loop-b-preserved : goal.loop-b-preserved
 loop-b-preserved c =
