@@ -74,7 +74,8 @@ impl<W: Copy> Report<W> {
         }
     }
 
-    // The same report, if each answer is so many numbers, which are counted one by one.
+    // The same report, if each answer is so many numbers, which are counted one by one. An answer that differs still counts once
+    // as one that differs; `of_each` counts each of its numbers.
     pub fn counted_by(self, numbers: usize) -> Report<W>
         ensures answers { result.answers ≡ min (self.answers * numbers) (2 ^ 64 - 1) }
         ensures differ { result.differ ≡ self.differ }
